@@ -1,0 +1,4 @@
+pub mod Element
+pub mod Message
+pub mod Request
+pub mod Variable

@@ -1,0 +1,7 @@
+pub mod Outside
+pub mod Link
+pub mod Clock
+pub mod MemShelf
+pub mod MemSink
+pub mod MemLink
+pub mod ListClock

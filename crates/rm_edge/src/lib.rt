@@ -1,0 +1,16 @@
+//! The outside of a probe: where files are read, lines are put, datagrams come and go, and the
+//! time is told. Each of the four has a form in memory, for tests, and files and standard output
+//! have an adapter over the real thing.
+#![tactic(auto)]
+
+mod memory;
+mod outside;
+mod real;
+#[cfg(test)]
+mod tests;
+mod words;
+
+pub use memory::{ListClock, MemLink, MemShelf, MemSink};
+pub use outside::{Clock, Failed, Link, Peer, Shelf, Sink};
+pub use real::{FileShelf, StdSink};
+pub use words::Words;

@@ -1,0 +1,103 @@
+use crate::{
+    Clock, Failed, FileShelf, Link, ListClock, MemLink, MemShelf, MemSink, Peer, Shelf, Sink,
+    StdSink, Words,
+};
+use std::fs;
+use std::test::Fail;
+
+#[test]
+fn a_real_file_is_read_from_a_place_on(rt: HostRuntime) -> Result<(), Fail> {
+    fs::write(&rt, "digits", b"0123456789")?;
+    let mut shelf = FileShelf::new(rt);
+    let mut into = [0; 4];
+    assert_eq!(rt; shelf.read("digits", 3, &mut into), Ok(4));
+    assert_eq!(rt; into, *b"3456");
+    assert_eq!(rt; shelf.read("digits", 8, &mut into), Ok(2));
+    assert_eq!(rt; &into[..2], b"89".as_slice());
+    assert_eq!(rt; shelf.read("digits", 10, &mut into), Ok(0));
+    fs::remove_file(&rt, "digits")?;
+    assert_eq!(rt; shelf.read("digits", 0, &mut into), Err(Failed));
+    Ok(())
+}
+
+#[test]
+fn standard_output_takes_a_line(rt: HostRuntime) {
+    let mut sink = StdSink::new(rt);
+    assert_eq!(rt; sink.put(b"a line\n"), Ok(()));
+}
+
+#[test]
+fn a_shelf_in_memory_gives_its_files_in_pieces(rt: HostRuntime) -> Result<(), Fail> {
+    let mut shelf = MemShelf::new(rt.alloc());
+    shelf.add("digits", b"0123456789")?;
+    shelf.add("letters", b"abc")?;
+    shelf.fail(3)?;
+    shelf.pieces(4);
+    let reads = [
+        ("digits", 3, Ok(4), *b"3456.."),
+        ("letters", 1, Ok(2), *b"bc...."),
+        ("digits", 0, Err(Failed), *b"......"),
+        ("digits", 0, Ok(4), *b"0123.."),
+        ("letters", 3, Ok(0), *b"......"),
+        ("signs", 0, Err(Failed), *b"......"),
+    ];
+    for (name, at, answer, octets) in reads {
+        let mut into = *b"......";
+        assert_eq!(rt; shelf.read(name, at, &mut into), answer, "{name} at {at}");
+        assert_eq!(rt; into, octets, "{name} at {at}");
+    }
+    Ok(())
+}
+
+#[test]
+fn a_sink_in_memory_takes_what_it_has_room_for(rt: HostRuntime) -> Result<(), Fail> {
+    let mut sink = MemSink::new(rt.alloc());
+    sink.reserve(4)?;
+    sink.reserve(5)?;
+    sink.fail(2, 3)?;
+    let puts = [
+        (b"one".as_slice(), Ok(()), b"one".as_slice()),
+        (b"four", Err(Failed), b"onefou"),
+        (b"", Ok(()), b"onefou"),
+        (b"seven", Err(Failed), b"onefousev"),
+        (b"ten", Err(Failed), b"onefousev"),
+    ];
+    for (piece, answer, octets) in puts {
+        assert_eq!(rt; sink.put(piece), answer);
+        assert_eq!(rt; sink.bytes(), octets);
+    }
+    Ok(())
+}
+
+#[test]
+fn a_link_in_memory_binds_sixteen_ports(rt: HostRuntime) {
+    let mut link = MemLink::new(rt.alloc());
+    for port in 1..17 {
+        assert_eq!(rt; link.bind(port), Ok(()), "port {port}");
+    }
+    assert_eq!(rt; link.bind(17), Err(Failed));
+    let peer = Peer {
+        ip: [127, 0, 0, 1],
+        port: 161,
+    };
+    assert_eq!(rt; link.receive(&mut [0; 8]), Err(Failed));
+    assert_eq!(rt; link.send(peer, b"datagram"), Err(Failed));
+}
+
+#[test]
+fn a_clock_in_memory_tells_zero(rt: HostRuntime) {
+    let mut clock = ListClock::new(rt.alloc());
+    assert_eq!(rt; clock.now(), 0);
+    assert_eq!(rt; clock.now(), 0);
+}
+
+#[test]
+fn words_stand_in_their_order(rt: HostRuntime) -> Result<(), Fail> {
+    let mut words = Words::new(rt.alloc());
+    words.add("replay")?;
+    words.add("")?;
+    assert_eq!(rt; words.len(), 2);
+    assert_eq!(rt; words.at(0), "replay");
+    assert_eq!(rt; words.at(1), "");
+    Ok(())
+}

@@ -1,0 +1,241 @@
+-- What a run has written so far.
+use Rattle.std.proofs.Common.{◌≡◌, ℕ, ◌+◌, ◌-◌, ◌<◌, ◌≤◌, List, [], ◌∷◌, ◌++◌, length, take, drop, Option, Some, None, Result, Ok, Err, refl, sym, ap, subst, ◌∙◌, arith, inl, inr, take_while, append_assoc, min, ◌^◌}
+use Rattle.std.proofs.lemmas.List.{append-nil, take-append-le, take_all}
+use Rattle.std.proofs.Math.Seq.{take-append-add, take-length}
+use Rattle.std.proofs.lemmas.Bool.{cases_lt}
+use Rattle.std.specs.Str.Lines.{lines}
+use Rattle.rm_edge.specs.Outside.{Adds, AddsFront}
+use Rattle.rm_model.specs.Journal.{Frame, Journal, passes, after_frames}
+use Rattle.rm_probe.specs.Lines.{TimedDatagram, requests_from, AreRequests, with_first}
+use Rattle.rm_probe.specs.Capture.{AreRecords, IsCapture, beginning}
+use Rattle.rm_probe.specs.Events.{Event, Comes, Asks, is_by, frames_after, events, comings}
+use Rattle.rm_probe.specs.Text.{IsAnswer, AreLines, IsText, last_line}
+use Rattle.rm_probe.specs.Counted.{StandsFor}
+use Rattle.rm_probe.specs.Steps.{Advanced}
+use Rattle.rm_probe.specs.declared.capture.Reach.{Reach}
+use Rattle.rm_probe.specs.declared.counts.Counts.{Counts}
+use Rattle.rm_probe.proofs.RecordLemmas.{records_none}
+
+-- frames that come, and what follows them
+lines_after : (journal : Journal) (frames : List Frame) (es : List Event) (text : List ℕ) → AreLines (after_frames frames journal) es text → AreLines journal (comings frames ++ es) text
+unfolding AreLines
+lines_after journal [] es text h = h
+lines_after journal (f ∷ fs) es text h = lines_after (passes f ∷ journal) fs es text h
+
+-- Each request has an answer, so that any events have lines.
+an_answer : (journal : Journal) (number : ℕ) (request : TimedDatagram) → (line : List ℕ) × (after : Journal) × IsAnswer journal number request line after
+unfolding IsAnswer
+an_answer journal number request = (_, journal, (refl, refl))
+
+some_lines : (journal : Journal) (es : List Event) → (text : List ℕ) × AreLines journal es text
+unfolding AreLines
+some_lines journal [] = ([], refl)
+some_lines journal (Comes f ∷ es) = some_lines (passes f ∷ journal) es
+some_lines journal (Asks number request ∷ es) =
+    let a = an_answer journal number request in
+    let r = some_lines a.1 es in
+    (a.0 ++ r.0, (a.0, r.0, a.1, a.2, refl, r.1))
+
+-- The octets so far, and whatever may be written for what is left, may be written for all.
+pub record InRun (old new : Option (List ℕ)) (frames : List Frame) (requests : List TimedDatagram) (reach : Reach) (rest : List ℕ) (number last : ℕ) (lines_left : List ℕ) (counts : Counts) : Type 0 where
+  pub sofar : List ℕ
+  pub journal : Journal
+  pub left : List Frame
+  pub asked : List TimedDatagram
+  pub records_left : AreRecords reach rest left
+  pub requests_left : requests_from number last (lines lines_left) ≡ Ok asked
+  pub stands : StandsFor counts journal
+  pub added : Adds old new sofar
+  pub goes : (text : List ℕ) → AreLines journal (events number left asked) text → AreLines [] (events 1 frames requests) (sofar ++ text)
+  pub frame_count : reach.count + length left ≡ length frames
+  pub request_count : number + length asked ≡ 1 + length requests
+
+adds_then : (a b c : Option (List ℕ)) (x y : List ℕ) → Adds a b x → Adds b c y → Adds a c (x ++ y)
+adds_then None b c x y p q = tt
+adds_then (Some old) b c x y p q =
+    let e : Adds (Some (old ++ x)) c y = rw p at q in
+    e ∙ ap (λ (t : List ℕ). Some t) (append_assoc old x y)
+
+with_first_ok : (request : TimedDatagram) (o : Result (List TimedDatagram) ℕ) (asked : List TimedDatagram) → with_first request o ≡ Ok asked → (more : List TimedDatagram) × (o ≡ Ok more) × (asked ≡ request ∷ more)
+with_first_ok request (Ok more) asked e = (more, refl, cc)
+with_first_ok request (Err n) asked e = absurd cc
+
+-- a line more, before it is put
+pub record NextLine (old new : Option (List ℕ)) (frames : List Frame) (requests : List TimedDatagram) (reach : Reach) (rest : List ℕ) (number last : ℕ) (lines_left : List ℕ) (counts : Counts) (line : List ℕ) : Type 0 where
+  pub sofar : List ℕ
+  pub journal : Journal
+  pub left : List Frame
+  pub asked : List TimedDatagram
+  pub records_left : AreRecords reach rest left
+  pub requests_left : requests_from number last (lines lines_left) ≡ Ok asked
+  pub stands : StandsFor counts journal
+  pub added : Adds old new sofar
+  pub goes : (text : List ℕ) → AreLines journal (events number left asked) text → AreLines [] (events 1 frames requests) ((sofar ++ line) ++ text)
+  pub frame_count : reach.count + length left ≡ length frames
+  pub request_count : number + length asked ≡ 1 + length requests
+
+pub next_line : (old new : Option (List ℕ)) (frames : List Frame) (requests : List TimedDatagram) (reach : Reach) (rest : List ℕ) (number last : ℕ) (lines_left : List ℕ) (counts : Counts)
+    (request : TimedDatagram) (number' last' : ℕ) (lines_left' : List ℕ) (reach' : Reach) (rest' : List ℕ) (counts' counts'' : Counts) (line : List ℕ)
+    → (r : InRun old new frames requests reach rest number last lines_left counts)
+    → requests_from number last (lines lines_left) ≡ with_first request (requests_from number' last' (lines lines_left')) → number' ≡ number + 1
+    → ((left : List Frame) (journal : Journal) → AreRecords reach rest left → StandsFor counts journal → Advanced request.moment reach' rest' counts' reach.count left journal)
+    → ((journal : Journal) → StandsFor counts' journal → (after : Journal) × IsAnswer journal number request line after × StandsFor counts'' after)
+    → NextLine old new frames requests reach' rest' number' last' lines_left' counts'' line
+unfolding AreLines events
+next_line old new frames requests reach rest number last lines_left counts request number' last' lines_left' reach' rest' counts' counts'' line r takes one advances answers =
+    let w = with_first_ok request (requests_from number' last' (lines lines_left')) r.asked (sym takes ∙ r.requests_left) in
+    let a = advances r.left r.journal r.records_left r.stands in
+    let j : Journal = after_frames (take_while (is_by request.moment) r.left) r.journal in
+    let s = answers j a.stands in
+    record {
+      sofar = r.sofar;
+      journal = s.0;
+      left = frames_after request.moment r.left;
+      asked = w.0;
+      records_left = a.left;
+      requests_left = w.1;
+      stands = s.2;
+      added = r.added;
+      goes = λ text h.
+          let here : AreLines j (Asks number request ∷ events (number + 1) (frames_after request.moment r.left) w.0) (line ++ text) =
+          (line, text, s.0, s.1, refl, subst (λ (n : ℕ). AreLines s.0 (events n (frames_after request.moment r.left) w.0) text) one h) in
+          let before : AreLines r.journal (events number r.left (request ∷ w.0)) (line ++ text) =
+          lines_after r.journal (take_while (is_by request.moment) r.left) (Asks number request ∷ events (number + 1) (frames_after request.moment r.left) w.0) (line ++ text) here in
+          let all = r.goes (line ++ text) (subst (λ (rs : List TimedDatagram). AreLines r.journal (events number r.left rs) (line ++ text)) (sym w.2) before) in
+          subst (λ (t : List ℕ). AreLines [] (events 1 frames requests) t) (sym (append_assoc r.sofar line text)) all;
+      frame_count = a.count ∙ r.frame_count;
+      request_count = omega (arith, one, r.request_count, ap length w.2);
+    }
+
+-- the line is put
+pub line_put : (old new next : Option (List ℕ)) (frames : List Frame) (requests : List TimedDatagram) (reach : Reach) (rest : List ℕ) (number last : ℕ) (lines_left : List ℕ) (counts : Counts) (line : List ℕ)
+    → NextLine old new frames requests reach rest number last lines_left counts line → Adds new next line
+    → InRun old next frames requests reach rest number last lines_left counts
+line_put old new next frames requests reach rest number last lines_left counts line n put =
+    record {
+      sofar = n.sofar ++ line;
+      journal = n.journal;
+      left = n.left;
+      asked = n.asked;
+      records_left = n.records_left;
+      requests_left = n.requests_left;
+      stands = n.stands;
+      added = adds_then old new next n.sofar line n.added put;
+      goes = n.goes;
+      frame_count = n.frame_count;
+      request_count = n.request_count;
+    }
+
+front_of : (k : ℕ) (xs ys zs : List ℕ) → take (length xs + min k (length ys)) (xs ++ (ys ++ zs)) ≡ xs ++ take k ys
+front_of k xs ys zs =
+    take-append-add xs (ys ++ zs) (min k (length ys)) ∙ ap (λ (t : List ℕ). xs ++ t) (take-append-le (min k (length ys)) ys zs (omega arith) ∙ short k ys)
+  where
+    short : (k : ℕ) (ys : List ℕ) → take (min k (length ys)) ys ≡ take k ys
+    short k ys = elim (cases_lt k (length ys)) [
+      | inl lt ↦ let e : min k (length ys) ≡ k = omega arith in rw e refl
+      | inr le ↦ let e : min k (length ys) ≡ length ys = omega arith in rw (e, take_all k ys le) (take-length ys)
+    ]
+
+-- the line is put in part
+pub line_cut : (old new next : Option (List ℕ)) (frames : List Frame) (requests : List TimedDatagram) (reach : Reach) (rest : List ℕ) (number last : ℕ) (lines_left : List ℕ) (counts : Counts) (line : List ℕ)
+    → NextLine old new frames requests reach rest number last lines_left counts line → AddsFront new next line
+    → (text : List ℕ) × IsText frames requests text × AddsFront old next text
+line_cut old new next frames requests reach rest number last lines_left counts line n put =
+    let m = some_lines n.journal (events number n.left n.asked) in
+    let e = last_line (length frames) (length requests) in
+    let text : List ℕ = ((n.sofar ++ line) ++ m.0) ++ e in
+    let parts : text ≡ n.sofar ++ (line ++ (m.0 ++ e)) = simp append_assoc in (
+      text,
+      record { lines = (n.sofar ++ line) ++ m.0; are_lines = n.goes m.0 m.1; whole = refl },
+      (
+        length n.sofar + min put.0 (length line),
+        rw (parts, front_of put.0 n.sofar line (m.0 ++ e)) (adds_then old new next n.sofar (take put.0 line) n.added put.1),
+      ),
+    )
+
+no_lines : (journal : Journal) (frames : List Frame) → AreLines journal (comings frames) []
+unfolding AreLines
+no_lines journal [] = refl
+no_lines journal (f ∷ fs) = no_lines (passes f ∷ journal) fs
+
+-- the lines of all requests are put
+pub record AllPut (old new : Option (List ℕ)) (frames : List Frame) (requests : List TimedDatagram) (taken number : ℕ) : Type 0 where
+  pub lines : List ℕ
+  pub are_lines : AreLines [] (events 1 frames requests) lines
+  pub added : Adds old new lines
+  pub frame_count : taken ≡ length frames
+  pub request_count : number ≡ 1 + length requests
+
+pub all_put : (m : ℕ) (old new : Option (List ℕ)) (frames : List Frame) (requests : List TimedDatagram) (reach : Reach) (rest : List ℕ) (number last : ℕ) (lines_left : List ℕ) (counts : Counts)
+    (reach' : Reach) (rest' : List ℕ) (counts' : Counts)
+    → InRun old new frames requests reach rest number last lines_left counts
+    → requests_from number last (lines lines_left) ≡ Ok []
+    → ((left : List Frame) (journal : Journal) → AreRecords reach rest left → StandsFor counts journal → Advanced m reach' rest' counts' reach.count left journal)
+    → rest' ≡ [] → AllPut old new frames requests reach'.count number
+unfolding events
+all_put m old new frames requests reach rest number last lines_left counts reach' rest' counts' r none advances end =
+    let asked : r.asked ≡ [] = let e = sym none ∙ r.requests_left in cc in
+    let a = advances r.left r.journal r.records_left r.stands in
+    let gone : frames_after m r.left ≡ [] = records_none reach' rest' (frames_after m r.left) end a.left in
+    let here : AreLines r.journal (events number r.left r.asked) [] = rw asked (no_lines r.journal r.left) in
+    record {
+      lines = r.sofar ++ [];
+      are_lines = r.goes [] here;
+      added = rw append-nil r.added;
+      frame_count = omega (arith, a.count, r.frame_count, ap length gone);
+      request_count = omega (arith, r.request_count, ap length asked);
+    }
+
+pub text_put : (old new next : Option (List ℕ)) (frames : List Frame) (requests : List TimedDatagram) (taken number : ℕ) (line : List ℕ)
+    → AllPut old new frames requests taken number → line ≡ last_line taken (number - 1) → Adds new next line → (text : List ℕ) × IsText frames requests text × Adds old next text
+text_put old new next frames requests taken number line a is put =
+    let n : number - 1 ≡ length requests = omega (arith, a.request_count) in (
+      a.lines ++ line,
+      record { lines = a.lines; are_lines = a.are_lines; whole = ap (λ (t : List ℕ). a.lines ++ t) (is ∙ ap (λ (k : ℕ). last_line taken k) n ∙ ap (λ (k : ℕ). last_line k (length requests)) a.frame_count) },
+      adds_then old new next a.lines line a.added put,
+    )
+
+pub text_cut : (old new next : Option (List ℕ)) (frames : List Frame) (requests : List TimedDatagram) (taken number : ℕ) (line : List ℕ)
+    → AllPut old new frames requests taken number → line ≡ last_line taken (number - 1) → AddsFront new next line → (text : List ℕ) × IsText frames requests text × AddsFront old next text
+text_cut old new next frames requests taken number line a is put =
+    let n : number - 1 ≡ length requests = omega (arith, a.request_count) in
+    let parts : a.lines ++ line ≡ a.lines ++ (line ++ []) = ap (λ (t : List ℕ). a.lines ++ t) (sym (append-nil line)) in (
+      a.lines ++ line,
+      record { lines = a.lines; are_lines = a.are_lines; whole = ap (λ (t : List ℕ). a.lines ++ t) (is ∙ ap (λ (k : ℕ). last_line taken k) n ∙ ap (λ (k : ℕ). last_line k (length requests)) a.frame_count) },
+      (
+        length a.lines + min put.0 (length line),
+        rw (parts, front_of put.0 a.lines line []) (adds_then old new next a.lines (take put.0 line) a.added put.1),
+      ),
+    )
+
+pub run_begin : (old : Option (List ℕ)) (frames : List Frame) (asked : List TimedDatagram) (capture requests : List ℕ) (counts : Counts)
+    → IsCapture capture frames → AreRequests requests asked → StandsFor counts []
+    → InRun old old frames asked beginning (drop 24 capture) 1 0 requests counts
+run_begin old frames asked capture requests counts is are stands =
+    record {
+      sofar = [];
+      journal = [];
+      left = frames;
+      asked = asked;
+      records_left = is.records;
+      requests_left = are.are;
+      stands = stands;
+      added = adds_none old;
+      goes = λ text h. h;
+      frame_count = omega arith;
+      request_count = omega arith;
+    }
+  where
+    adds_none : (o : Option (List ℕ)) → Adds o o []
+    adds_none None = tt
+    adds_none (Some t) = ap (λ (x : List ℕ). Some x) (sym (append-nil t))
+
+-- how far a run is
+pub record Running {K : Type 0} (content : K → Option (List ℕ)) (faults : K → ℕ) (first now : K) (capture requests : List ℕ)
+    (reach : Reach) (rest : List ℕ) (number last : ℕ) (lines_left : List ℕ) (counts : Counts) : Type 0 where
+  pub later : faults first ≤ faults now
+  pub few_records : reach.count + length rest < 2 ^ 32
+  pub few_lines : number + length lines_left < 2 ^ 64
+  pub first_number : 1 ≤ number
+  pub run : (frames : List Frame) (asked : List TimedDatagram) → IsCapture capture frames → AreRequests requests asked
+      → InRun (content first) (content now) frames asked reach rest number last lines_left counts

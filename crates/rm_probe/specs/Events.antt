@@ -1,0 +1,27 @@
+-- What happens in a run, in order.
+use Rattle.std.specs.Prelude.{ℕ, ◌+◌, Bool, nat_le, List, [], ◌∷◌, ◌++◌, drop, map, take_while}
+use Rattle.std.specs.List.{prefix_len}
+use Rattle.rm_model.specs.Journal.{Frame}
+use Rattle.rm_probe.specs.Lines.{TimedDatagram}
+
+-- a frame comes, or a datagram of the line with that number
+pub data Event : Type 0 where
+  Comes : Frame → Event
+  Asks : ℕ → TimedDatagram → Event
+
+abbrev pub is_by : ℕ → Frame → Bool
+is_by moment frame = nat_le frame.moment moment
+
+-- the frames after those up to a moment
+abbrev pub frames_after : ℕ → List Frame → List Frame
+frames_after moment frames = drop (prefix_len (is_by moment) frames) frames
+
+abbrev pub comings : List Frame → List Event
+comings frames = map Comes frames
+
+-- The frames and the datagrams in order of their moments, each kind in its own order, and at one moment the
+-- frames first: before each datagram come the frames up to its moment. The number is that of the first datagram.
+unfoldable pub events : ℕ → List Frame → List TimedDatagram → List Event
+events number frames [] = comings frames
+events number frames (request ∷ more) =
+    comings (take_while (is_by request.moment) frames) ++ Asks number request ∷ events (number + 1) (frames_after request.moment frames) more

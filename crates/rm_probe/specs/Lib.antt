@@ -1,0 +1,12 @@
+pub mod Capture
+pub mod Records
+pub mod Lines
+pub mod Taking
+pub mod Whole
+pub mod Events
+pub mod Values
+pub mod Text
+pub mod Counted
+pub mod Steps
+pub mod Status
+pub mod Ends

@@ -1,0 +1,82 @@
+-- The lines of a request file. A line is a moment in one to ten digits, a blank, and the octets of a datagram as
+-- hexadecimal digits, at most 131070 of them. It ends with a line feed, or with a carriage return and a line
+-- feed; the last line may have no end.
+use Rattle.std.specs.Prelude.{◌≡◌, ◌≤◌, ℕ, ◌+◌, ◌-◌, ◌*◌, ◌^◌, Bool, ◌==◌, ◌&&◌, nat_le, nat_lt, if◌then◌else◌, List, [], ◌∷◌, length, take, drop, position, Option, Some, None, Result, Ok, Err}
+use Rattle.std.specs.Str.Lines.{lines}
+use Rattle.hex.specs.Hex.{decode_of}
+use Rattle.hex.specs.declared.error.FromHexError.{FromHexError}
+
+-- a datagram, and the moment in milliseconds at which it comes
+pub record TimedDatagram : Type 0 where
+  pub moment : ℕ
+  pub datagram : List ℕ
+
+abbrev pub is_digit : ℕ → Bool
+is_digit c = nat_le 48 c && nat_le c 57
+
+-- the number that n and the decimal digits after it are, if they are digits
+abbrev pub number_of : ℕ → List ℕ → Option ℕ
+number_of n [] = Some n
+number_of n (c ∷ cs) = if is_digit c then number_of (10 * n + (c - 48)) cs else None
+
+abbrev pub below : ℕ → Option ℕ → Option ℕ
+below limit None = None
+below limit (Some n) = if nat_lt n limit then Some n else None
+
+-- the moment that one to ten digits are, if it is at most 4294967295
+unfoldable pub moment_of : List ℕ → Option ℕ
+moment_of digits =
+    if nat_le 1 (length digits) && nat_le (length digits) 10 then below (2 ^ 32) (number_of 0 digits) else None
+
+abbrev pub ok_value : {A : Type 0} → Result A FromHexError → Option A
+ok_value (Ok x) = Some x
+ok_value (Err e) = None
+
+-- the octets that an even number of hexadecimal digits are, in either case, at most 131070 of them
+unfoldable pub datagram_of : List ℕ → Option (List ℕ)
+datagram_of digits = if nat_le (length digits) 131070 then ok_value (decode_of digits) else None
+
+abbrev pub both : Option ℕ → Option (List ℕ) → Option TimedDatagram
+both (Some moment) (Some datagram) = Some (record { moment = moment; datagram = datagram })
+both (Some moment) None = None
+both None datagram = None
+
+abbrev pub is_blank : ℕ → Bool
+is_blank c = c == 32
+
+-- the moment before the first blank, and the datagram after it
+abbrev pub parts_of : Option ℕ → List ℕ → Option TimedDatagram
+parts_of None line = None
+parts_of (Some blank) line = both (moment_of (take blank line)) (datagram_of (drop (blank + 1) line))
+
+-- the datagram of a line, if it is of the form
+unfoldable pub request_of : List ℕ → Option TimedDatagram
+request_of line = parts_of (position is_blank line) line
+
+abbrev pub with_first : TimedDatagram → Result (List TimedDatagram) ℕ → Result (List TimedDatagram) ℕ
+with_first request (Ok requests) = Ok (request ∷ requests)
+with_first request (Err number) = Err number
+
+-- The datagrams of lines whose moments don't fall, or the number of the first line that isn't of the form or
+-- whose moment is below the one before. The first of these lines has the number given, and the one before it
+-- that moment.
+unfoldable pub requests_from : ℕ → ℕ → List (List ℕ) → Result (List TimedDatagram) ℕ
+requests_from number last [] = Ok []
+requests_from number last (line ∷ more) = elim (request_of line) [
+  | None ↦ Err number
+  | Some request ↦ if nat_lt request.moment last then Err number
+      else with_first request (requests_from (number + 1) request.moment more)
+]
+
+-- the datagrams of a file, or the number of its first wrong line
+abbrev pub requests_of : List ℕ → Result (List TimedDatagram) ℕ
+requests_of bytes = requests_from 1 0 (lines bytes)
+
+-- a file of at most 16777216 octets with these datagrams
+pub record AreRequests (bytes : List ℕ) (requests : List TimedDatagram) : Type 0 where
+  pub short : length bytes ≤ 16777216
+  pub are : requests_of bytes ≡ Ok requests
+
+-- the octets are a request file
+abbrev pub IsRequestFile : List ℕ → Type 0
+IsRequestFile bytes = (requests : List TimedDatagram) × AreRequests bytes requests

@@ -1,0 +1,16 @@
+//! Replays a capture and answers the datagrams of a request file.
+#![tactic(auto)]
+
+mod capture;
+mod counts;
+mod entry;
+mod line;
+mod lines;
+mod replay;
+mod status;
+#[cfg(test)]
+mod tests;
+mod whole;
+
+pub use entry::run;
+pub use status::Status;

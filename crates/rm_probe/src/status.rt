@@ -1,0 +1,69 @@
+// How a run ended.
+ghost use Rattle.std.specs.Prelude.{◌≡◌, Some};
+
+use std::fmt::{self, Display, Formatter, Write};
+
+/// How a run ended.
+#[derive(Clone, Copy, Debug, PartialEq, Eq)]
+pub enum Status {
+    /// The command did all that it does.
+    Done,
+    /// The words aren't a command.
+    Usage,
+    /// The capture breaks a rule of its form first at that offset.
+    BadCapture(u64),
+    /// That line of the request file, from 1, is the first that isn't of the form or whose moment falls.
+    BadRequests(u64),
+    /// A read failed.
+    ReadFault,
+    /// A write failed.
+    WriteFault,
+    /// There was no memory.
+    NoMemory,
+    /// A call on the socket failed.
+    LinkFault,
+    /// A file has more octets than are taken.
+    TooLong,
+}
+
+impl Status {
+    ghost use Rattle.rm_probe.specs.Status.{number_of};
+
+    /// The exit status of the program that ends so.
+    pub fn number(&self) -> u8
+        ensures { result ≡ number_of self.now }
+    {
+        match self {
+            Status::Done => 0,
+            Status::Usage => 2,
+            Status::BadCapture(_) => 3,
+            Status::BadRequests(_) => 4,
+            Status::ReadFault => 5,
+            Status::WriteFault => 6,
+            Status::NoMemory => 7,
+            Status::LinkFault => 8,
+            Status::TooLong => 9,
+        }
+    }
+}
+
+/// What the program says of it on standard error.
+impl Display for Status {
+    ghost use Rattle.rm_probe.specs.Status.{text_of};
+
+    ghost output = { λ status. Some (text_of status) };
+
+    fn fmt<W: Write>(&self, f: &mut Formatter<W>) -> fmt::Result {
+        match self {
+            Status::Done => f.write_str("done"),
+            Status::Usage => f.write_str("usage"),
+            Status::BadCapture(at) => write!(f, "bad capture at {at}"),
+            Status::BadRequests(line) => write!(f, "bad requests in line {line}"),
+            Status::ReadFault => f.write_str("read fault"),
+            Status::WriteFault => f.write_str("write fault"),
+            Status::NoMemory => f.write_str("no memory"),
+            Status::LinkFault => f.write_str("link fault"),
+            Status::TooLong => f.write_str("too long"),
+        }
+    }
+}

@@ -1,0 +1,4 @@
+pub mod ErrorStatus
+pub mod Oid
+pub mod Val
+pub mod Spellable

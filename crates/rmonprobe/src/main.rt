@@ -1,0 +1,52 @@
+//! The probe: replays a capture and answers the datagrams of a request file.
+#![tactic(auto)]
+
+use rm_edge::{FileShelf, ListClock, MemLink, StdSink, Words};
+use rm_probe::{Status, run};
+use std::env;
+use std::io::ErrorKind;
+use std::process::ExitCode;
+
+// The words of the command line, without the program's own name.
+fn words(rt: &HostRuntime) -> Result<Words, Status> {
+    let mut words = Words::new(rt.alloc());
+    let all = match env::args(rt) {
+        Ok(all) => all,
+        Err(error) => return Err(unread(error.kind())),
+    };
+    for word in all.skip(1) {
+        if words.add(word.as_str()).is_err() {
+            return Err(Status::NoMemory);
+        }
+    }
+    Ok(words)
+}
+
+// Why the words couldn't be read: for want of memory, or since one isn't UTF-8.
+fn unread(kind: ErrorKind) -> Status {
+    match kind {
+        ErrorKind::OutOfMemory => Status::NoMemory,
+        _ => Status::Usage,
+    }
+}
+
+fn status(rt: HostRuntime) -> Status {
+    let words = match words(&rt) {
+        Ok(words) => words,
+        Err(status) => return status,
+    };
+    let alloc = rt.alloc();
+    let mut shelf = FileShelf::new(rt);
+    let mut out = StdSink::new(rt);
+    let mut link = MemLink::new(alloc);
+    let mut clock = ListClock::new(alloc);
+    run(alloc, &words, &mut shelf, &mut out, &mut link, &mut clock)
+}
+
+fn main(rt: HostRuntime) -> ExitCode {
+    let status = status(rt);
+    if status != Status::Done {
+        let _ = eprintln!(rt; "rmonprobe: {status}");
+    }
+    ExitCode::from(status.number())
+}
