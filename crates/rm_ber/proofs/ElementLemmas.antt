@@ -1,35 +1,16 @@
 -- The content of an INTEGER reads back.
-use Rattle.std.proofs.Common.{◌≡◌, ℕ, zero, suc, ◌-◌, ◌*◌, ◌%◌, ◌^◌, ◌<◌, ◌≤◌, ℤ, pos, negsuc, FitsSigned, List, [], ◌++◌, length, take, inl, inr, Some, sym, ap, ◌∙◌, arith}
+use Rattle.std.proofs.Common.{◌≡◌, ℕ, suc, ◌-◌, ◌%◌, ◌^◌, ◌<◌, ◌≤◌, ℤ, pos, negsuc, FitsSigned, List, [], length, inl, inr, Some, sym, ap, ◌∙◌, arith}
 use Rattle.std.proofs.lemmas.Bool.{cases_lt}
 use Rattle.std.proofs.lemmas.Bool.Decides.{nat_tests}
-use Rattle.std.proofs.lemmas.List.{append-nil, take-append-le, take_all}
+use Rattle.std.proofs.lemmas.List.{append-nil}
 use Rattle.std.proofs.lemmas.Int.{ints}
-use Rattle.std.specs.Int.{w32, w64, cast_unsigned}
-use Rattle.byteorder.specs.Endian.{big_bytes, big_number, low_bytes, twos_complement}
+use Rattle.std.specs.Int.{w32}
+use Rattle.byteorder.specs.Endian.{big_bytes, big_number, twos_complement}
 use Rattle.byteorder.specs.Numbers.{big_from-bytes, length-bytes_high_first}
 use Rattle.rm_ber.specs.Element.{number_size, integer_size, integer_octets, integer_of}
 
--- the lowest octets of a number are those of what is left of it in as many octets
-pub lowest_octets : (n x : ℕ) → 1 ≤ n → n ≤ 4 → big_bytes n (x % 2 ^ (8 * n)) ≡ big_bytes n x
-lowest_octets zero x least most = absurd (omega arith)
-lowest_octets (suc zero) x least most = grind arith
-lowest_octets (suc (suc zero)) x least most = grind arith
-lowest_octets (suc (suc (suc zero))) x least most = grind arith
-lowest_octets (suc (suc (suc (suc zero)))) x least most = grind arith
-lowest_octets (suc (suc (suc (suc (suc n))))) x least most = absurd (omega arith)
-
--- what `write_int` leaves at the front is the content of an INTEGER
-pub written_integer : (z : ℤ) (n : ℕ) (rest : List ℕ) → n ≡ integer_size z → 1 ≤ n → n ≤ 4
-    → take n (big_bytes n (low_bytes w64 n z) ++ rest) ≡ integer_octets z
-unfolding integer_octets
-written_integer z n rest size least most =
-    let octets = lowest_octets n (cast_unsigned w64 z) least most in
-    take-append-le n (big_bytes n (low_bytes w64 n z)) rest (omega (arith, length-bytes_high_first n (low_bytes w64 n z)))
-    ∙ take_all n (big_bytes n (low_bytes w64 n z)) (omega (arith, length-bytes_high_first n (low_bytes w64 n z)))
-    ∙ octets ∙ ap (λ (k : ℕ). big_bytes k (cast_unsigned w64 z)) size
-
--- the sizes of numbers below 2 ^ 31, and what they say
-data IsSized (n size : ℕ) : Type 0 where
+-- a number below 2 ^ 31 has the size of the first range that it is in
+pub data IsSized (n size : ℕ) : Type 0 where
   one : size ≡ 1 → n < 2 ^ 7 → IsSized n size
   two : size ≡ 2 → n < 2 ^ 15 → IsSized n size
   three : size ≡ 3 → n < 2 ^ 23 → IsSized n size
@@ -47,16 +28,15 @@ sized n h = elim (cases_lt n (2 ^ 7)) [
   ]
 ]
 
--- what the content gives, from its length and its number
+-- a number is what its content gives
 integer_of-parts : (content : List ℕ) (n : ℕ) (z : ℤ) → length content ≡ n → twos_complement n (big_number n content) ≡ z → 0 < n → n ≤ 8 → integer_size z ≤ 4
     → integer_of content ≡ Some z
 integer_of-parts content n z len number some most small = grind (arith, nat_tests)
 
--- the lowest octets of a number give it back, below their range
+-- the lowest octets of a number
 big_number-bytes : (n x : ℕ) → big_number n (big_bytes n x) ≡ x % 256 ^ n
 big_number-bytes n x = ap (big_number n) (sym (append-nil (big_bytes n x))) ∙ big_from-bytes n x []
 
--- two's complement gives n and -(n + 1) back
 twos_pos : (n size : ℕ) → IsSized n size → twos_complement size (n % 256 ^ size) ≡ pos n
 twos_pos n size (one e h) = rw e (grind (arith, nat_tests))
 twos_pos n size (two e h) = rw e (grind (arith, nat_tests))
@@ -75,7 +55,7 @@ size_bounds n size (two e h) = (omega arith, omega arith)
 size_bounds n size (three e h) = (omega arith, omega arith)
 size_bounds n size (four e h) = (omega arith, omega arith)
 
--- the lowest octets of the two's complement x of z read back
+-- the lowest octets x of a number read back as it
 integer_of-bytes : (z : ℤ) (n x : ℕ) → IsSized n (integer_size z) → twos_complement (integer_size z) (x % 256 ^ integer_size z) ≡ z
     → integer_of (big_bytes (integer_size z) x) ≡ Some z
 integer_of-bytes z n x sized back =
@@ -84,7 +64,7 @@ integer_of-bytes z n x sized back =
     integer_of-parts (big_bytes size x) size z (length-bytes_high_first size x) (ap (twos_complement size) (big_number-bytes size x) ∙ back)
     bounds.0 (omega arith) bounds.1
 
--- the content of a number of 32 bits reads back
+-- what is written of a number of 32 bits reads back
 pub integer_of-integer_octets : (z : ℤ) → FitsSigned w32 z → integer_of (integer_octets z) ≡ Some z
 unfolding integer_octets
 integer_of-integer_octets (pos n) fits =

@@ -1,4 +1,4 @@
+pub mod Canonical
 pub mod Element
-pub mod Message
-pub mod Request
-pub mod Variable
+pub mod Grammar
+pub mod Reading

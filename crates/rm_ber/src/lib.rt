@@ -1,12 +1,19 @@
-//! The canonical octets of SNMPv2c messages: a GetRequest for one variable, and its response.
+//! Elements of SNMPv2c messages in the Basic Encoding Rules (X.690; RFC 1906, section 8): a reader, and a writer of
+//! canonical ones.
 #![tactic(auto)]
 
-mod element;
-mod message;
+mod laws;
+mod reader;
+mod sizes;
+mod tag;
 #[cfg(test)]
 mod tests;
-mod variable;
+mod writer;
 
-pub use element::Octets;
-pub use message::{Request, read_request, response};
-pub use variable::Variable;
+pub use laws::{
+    canonical_is_shortest, element_or_none, elements_read_back, no_element_in_front, one_element,
+    one_value, value_or_none, values_are_spellable, values_read_back,
+};
+pub use reader::{Bad, Reader};
+pub use sizes::{name_size, size};
+pub use writer::{Room, Writer};

@@ -1,157 +1,271 @@
-use crate::{Octets, Request, Variable, read_request, response};
+ghost use Rattle.rm_val.specs.Val.{val_of};
+ghost use Rattle.rm_val.specs.Spellable.{HasSpelling};
+ghost use Rattle.rm_ber.specs.Canonical.{HasLength};
+
+use crate::{
+    Bad, Reader, Room, Writer, canonical_is_shortest, elements_read_back, name_size,
+    no_element_in_front, one_element, one_value, size, values_read_back,
+};
+use rm_val::{Oid, Value};
+use std::cmp::Ordering;
 use std::test::Fail;
 
-// The octets in this file are another encoder's, and their integers are openssl's.
-const UP_TIME: &[u8] =
-    b"\x30\x26\x02\x01\x01\x04\x06public\xa0\x19\x02\x01\x01\x02\x01\x00\x02\x01\x00\x30\x0e\x30\x0c\x06\x08\x2b\x06\x01\x02\x01\x01\x03\x00\x05\x00";
+// From outside: the examples of X.690, and what openssl writes of the same numbers and names.
 
-const PACKETS: &[u8] =
-    b"\x30\x29\x02\x01\x01\x04\x06public\xa0\x1c\x02\x01\x02\x02\x01\x00\x02\x01\x00\x30\x11\x30\x0f\x06\x0b\x2b\x06\x01\x02\x01\x10\x01\x01\x01\x05\x01\x05\x00";
+fn is_same(a: &Value<'_>, b: &Value<'_>) -> bool {
+    match (a, b) {
+        (Value::Int(a), Value::Int(b)) => a == b,
+        (Value::Octets(a), Value::Octets(b)) => a == b,
+        (Value::Null, Value::Null) => true,
+        (Value::Name(a), Value::Name(b)) => a.compare(b) == Ordering::Equal,
+        (Value::Ip(a), Value::Ip(b)) => a == b,
+        (Value::Counter(a), Value::Counter(b)) => a == b,
+        (Value::Gauge(a), Value::Gauge(b)) => a == b,
+        (Value::Ticks(a), Value::Ticks(b)) => a == b,
+        (Value::Opaque(a), Value::Opaque(b)) => a == b,
+        (Value::Big(a), Value::Big(b)) => a == b,
+        (Value::NoObject, Value::NoObject) => true,
+        (Value::NoInstance, Value::NoInstance) => true,
+        (Value::EndOfView, Value::EndOfView) => true,
+        _ => false,
+    }
+}
 
-const OCTETS: &[u8] =
-    b"\x30\x2a\x02\x01\x01\x04\x06public\xa0\x1d\x02\x02\x00\x80\x02\x01\x00\x02\x01\x00\x30\x11\x30\x0f\x06\x0b\x2b\x06\x01\x02\x01\x10\x01\x01\x01\x04\x01\x05\x00";
+fn is_read(octets: &[u8], value: &Value<'_>) -> bool {
+    let mut reader = Reader::new(octets);
+    match reader.value() {
+        Ok(found) => is_same(&found, value) && reader.finish().is_ok(),
+        Err(_) => false,
+    }
+}
 
-// A GetRequest for sysUpTime.0, given the length of the message, of the PDU, and the request-id.
-fn up_time(message: u8, pdu: u8, id: &[u8]) -> Octets {
-    let mut out = Octets::new();
-    let _ = out.try_extend_from_slice(&[0x30, message]);
-    let _ = out.try_extend_from_slice(&UP_TIME[2..13]);
-    let _ = out.try_extend_from_slice(&[0xa0, pdu]);
-    let _ = out.try_extend_from_slice(id);
-    let _ = out.try_extend_from_slice(&UP_TIME[18..]);
-    out
+// Whether these octets are written for the value, are as many as its size, and are read as it.
+fn is_canonical(octets: &[u8], value: &Value<'_>) -> bool
+    requires spelling { HasSpelling (val_of value.now) }
+    requires short { HasLength (val_of value.now) }
+{
+    let mut writer = Writer::new();
+    writer.put(value).is_ok()
+        && writer.bytes() == octets
+        && size(value) == octets.len()
+        && is_read(octets, value)
 }
 
 #[test]
-fn requests_are_read(rt: HostRuntime) -> Result<(), Fail> {
-    let ids: [(i32, u8, u8, &[u8]); 12] = [
-        (0, 0x26, 0x19, b"\x02\x01\x00"),
-        (1, 0x26, 0x19, b"\x02\x01\x01"),
-        (127, 0x26, 0x19, b"\x02\x01\x7f"),
-        (128, 0x27, 0x1a, b"\x02\x02\x00\x80"),
-        (-1, 0x26, 0x19, b"\x02\x01\xff"),
-        (-128, 0x26, 0x19, b"\x02\x01\x80"),
-        (-129, 0x27, 0x1a, b"\x02\x02\xff\x7f"),
-        (32_767, 0x27, 0x1a, b"\x02\x02\x7f\xff"),
-        (32_768, 0x28, 0x1b, b"\x02\x03\x00\x80\x00"),
-        (-8_388_609, 0x29, 0x1c, b"\x02\x04\xff\x7f\xff\xff"),
-        (2_147_483_647, 0x29, 0x1c, b"\x02\x04\x7f\xff\xff\xff"),
-        (-2_147_483_648, 0x29, 0x1c, b"\x02\x04\x80\x00\x00\x00"),
+fn integers(rt: HostRuntime) {
+    let rows: [(&[u8], i32); 10] = [
+        (b"\x02\x01\x00", 0),
+        (b"\x02\x01\x7f", 127),
+        (b"\x02\x02\x00\x80", 128),
+        (b"\x02\x02\x01\x00", 256),
+        (b"\x02\x03\x00\x80\x00", 32_768),
+        (b"\x02\x01\xff", -1),
+        (b"\x02\x01\x80", -128),
+        (b"\x02\x02\xff\x7f", -129),
+        (b"\x02\x04\x7f\xff\xff\xff", i32::MAX),
+        (b"\x02\x04\x80\x00\x00\x00", i32::MIN),
     ];
-    for (id, message, pdu, octets) in ids {
-        let variable = Variable::SysUpTime;
-        let found = read_request(&up_time(message, pdu, octets));
-        assert_eq!(rt; found, Some(Request { id, variable }), "at {id}");
+    for (octets, number) in rows {
+        assert!(rt; is_canonical(octets, &Value::Int(number)), "{octets:?}");
     }
-    let variable = Variable::EtherStatsPkts;
-    assert_eq!(rt; read_request(PACKETS), Some(Request { id: 2, variable }));
-    let variable = Variable::EtherStatsOctets;
-    assert_eq!(rt; read_request(OCTETS), Some(Request { id: 128, variable }));
+    // in more octets than are needed
+    let longer: [(&[u8], i32); 4] = [
+        (b"\x02\x05\xff\x80\x00\x00\x00", i32::MIN),
+        (b"\x02\x08\x00\x00\x00\x00\x00\x00\x00\x05", 5),
+        (b"\x02\x08\xff\xff\xff\xff\xff\xff\xff\xfb", -5),
+        (b"\x02\x83\x00\x00\x01\x05", 5),
+    ];
+    for (octets, number) in longer {
+        assert_eq!(rt; Reader::new(octets).int(), Ok(number), "{octets:?}");
+    }
+}
+
+#[test]
+fn unsigned_numbers(rt: HostRuntime) {
+    assert!(rt; is_canonical(b"\x41\x05\x00\xff\xff\xff\xff", &Value::Counter(u32::MAX)));
+    assert!(rt; is_canonical(b"\x42\x02\x00\x80", &Value::Gauge(128)));
+    assert!(rt; is_canonical(b"\x43\x01\x00", &Value::Ticks(0)));
+    let rows: [(&[u8], u64); 5] = [
+        (b"\x46\x01\x7f", 127),
+        (b"\x46\x07\x00\x80\x00\x00\x00\x00\x00", 1 << 47),
+        (b"\x46\x08\x7f\xff\xff\xff\xff\xff\xff\xff", u64::MAX / 2),
+        (b"\x46\x09\x00\x80\x00\x00\x00\x00\x00\x00\x00", 1 << 63),
+        (b"\x46\x09\x00\xff\xff\xff\xff\xff\xff\xff\xff", u64::MAX),
+    ];
+    for (octets, number) in rows {
+        assert!(rt; is_canonical(octets, &Value::Big(number)), "{octets:?}");
+    }
+    assert!(rt;
+        is_read(
+            b"\x43\x08\x00\x00\x00\x00\x00\x00\x00\x32",
+            &Value::Ticks(50)
+        )
+    );
+}
+
+#[test]
+fn names(rt: HostRuntime) -> Result<(), Fail> {
+    let example = Value::Name(Oid::from_slice(&[2, 999, 3])?);
+    assert!(rt; is_canonical(b"\x06\x03\x88\x37\x03", &example));
+    let rsa = Value::Name(Oid::from_slice(&[1, 2, 840, 113_549])?);
+    assert!(rt; is_canonical(b"\x06\x06\x2a\x86\x48\x86\xf7\x0d", &rsa));
+    let lowest = Value::Name(Oid::from_slice(&[0, 39, 0, 127, 128])?);
+    assert!(rt; is_canonical(b"\x06\x05\x27\x00\x7f\x81\x00", &lowest));
+
+    let greatest = Oid::from_slice(&[2, 4_294_967_215])?;
+    let mut writer = Writer::new();
+    writer.put_name(&greatest)?;
+    assert_eq!(rt; writer.bytes(), b"\x06\x05\x8f\xff\xff\xff\x7f".as_slice());
+    assert_eq!(rt; name_size(&greatest), writer.len());
+
+    // 127 groups are a name of 128 numbers, and one group more is too many.
+    let mut octets = [1; 131];
+    octets[0] = 0x06;
+    octets[1] = 0x7f;
+    assert_eq!(rt; Reader::new(&octets).name()?.len(), 128);
+    octets[1] = 0x81;
+    octets[2] = 0x80;
+    assert_eq!(rt; Reader::new(&octets).name().is_err(), true);
     Ok(())
 }
 
 #[test]
-fn other_octets_are_refused(rt: HostRuntime) -> Result<(), Fail> {
-    // Integers of more octets than they need, or of too many.
-    let ids: [(u8, u8, &[u8]); 6] = [
-        (0x25, 0x18, b"\x02\x00"),
-        (0x27, 0x1a, b"\x02\x02\x00\x01"),
-        (0x27, 0x1a, b"\x02\x02\xff\x80"),
-        (0x29, 0x1c, b"\x02\x04\x00\x7f\xff\xff"),
-        (0x2a, 0x1d, b"\x02\x05\x00\x80\x00\x00\x00"),
-        (0x2e, 0x21, b"\x02\x09\x00\x00\x00\x00\x00\x00\x00\x00\x01"),
+fn other_values(rt: HostRuntime) {
+    assert!(rt; is_canonical(b"\x04\x06public", &Value::Octets(b"public")));
+    assert!(rt; is_canonical(b"\x04\x00", &Value::Octets(b"")));
+    assert!(rt; is_canonical(b"\x05\x00", &Value::Null));
+    assert!(rt; is_canonical(b"\x40\x04\xc0\x00\x02\x01", &Value::Ip([192, 0, 2, 1])));
+    assert!(rt; is_canonical(b"\x44\x02\x9f\x78", &Value::Opaque(b"\x9f\x78")));
+    assert!(rt; is_canonical(b"\x80\x00", &Value::NoObject));
+    assert!(rt; is_canonical(b"\x81\x00", &Value::NoInstance));
+    assert!(rt; is_canonical(b"\x82\x00", &Value::EndOfView));
+}
+
+// Lengths of X.690, 8.1.3.5, and the bounds of the others.
+#[test]
+fn lengths(rt: HostRuntime) {
+    let rows: [(&[u8], usize); 10] = [
+        (b"\x30\x00", 0),
+        (b"\x30\x26", 38),
+        (b"\x30\x7f", 127),
+        (b"\x30\x81\x80", 128),
+        (b"\x30\x81\xc9", 201),
+        (b"\x30\x81\xff", 255),
+        (b"\x30\x82\x01\x00", 256),
+        (b"\x30\x83\x01\x00\x00", 65_536),
+        (b"\x30\x84\x01\x00\x00\x00", 16_777_216),
+        (b"\x30\x84\xff\xff\xff\xff", 4_294_967_295),
     ];
-    for (message, pdu, octets) in ids {
-        assert_eq!(rt;
-            read_request(&up_time(message, pdu, octets)),
-            None,
-            "{octets:?}"
-        );
+    for (octets, content) in rows {
+        let mut writer = Writer::new();
+        assert!(rt; writer.put_header(0x30, content).is_ok(), "{octets:?}");
+        assert_eq!(rt; writer.bytes(), octets, "{octets:?}");
     }
-    let others: [&[u8]; 12] = [
+    let longer: [&[u8]; 3] = [
+        b"\x04\x02hi",
+        b"\x04\x81\x02hi",
+        b"\x04\x84\x00\x00\x00\x02hi",
+    ];
+    for octets in longer {
+        assert!(rt; is_read(octets, &Value::Octets(b"hi")), "{octets:?}");
+    }
+}
+
+#[test]
+fn other_octets_are_refused(rt: HostRuntime) {
+    let rows: [&[u8]; 26] = [
+        // no octets, a tag alone, an unfinished length
         b"",
-        // the last octet left out
-        b"\x30\x26\x02\x01\x01\x04\x06public\xa0\x19\x02\x01\x01\x02\x01\x00\x02\x01\x00\x30\x0e\x30\x0c\x06\x08\x2b\x06\x01\x02\x01\x01\x03\x00\x05",
-        // one octet more, outside the message and inside
-        b"\x30\x26\x02\x01\x01\x04\x06public\xa0\x19\x02\x01\x01\x02\x01\x00\x02\x01\x00\x30\x0e\x30\x0c\x06\x08\x2b\x06\x01\x02\x01\x01\x03\x00\x05\x00\x00",
-        b"\x30\x27\x02\x01\x01\x04\x06public\xa0\x19\x02\x01\x01\x02\x01\x00\x02\x01\x00\x30\x0e\x30\x0c\x06\x08\x2b\x06\x01\x02\x01\x01\x03\x00\x05\x00\x00",
-        // a length of more octets than it needs
-        b"\x30\x81\x26\x02\x01\x01\x04\x06public\xa0\x19\x02\x01\x01\x02\x01\x00\x02\x01\x00\x30\x0e\x30\x0c\x06\x08\x2b\x06\x01\x02\x01\x01\x03\x00\x05\x00",
-        // version 0
-        b"\x30\x26\x02\x01\x00\x04\x06public\xa0\x19\x02\x01\x01\x02\x01\x00\x02\x01\x00\x30\x0e\x30\x0c\x06\x08\x2b\x06\x01\x02\x01\x01\x03\x00\x05\x00",
-        // other communities
-        b"\x30\x26\x02\x01\x01\x04\x06publik\xa0\x19\x02\x01\x01\x02\x01\x00\x02\x01\x00\x30\x0e\x30\x0c\x06\x08\x2b\x06\x01\x02\x01\x01\x03\x00\x05\x00",
-        b"\x30\x27\x02\x01\x01\x04\x07private\xa0\x19\x02\x01\x01\x02\x01\x00\x02\x01\x00\x30\x0e\x30\x0c\x06\x08\x2b\x06\x01\x02\x01\x01\x03\x00\x05\x00",
-        // a GetNextRequest
-        b"\x30\x26\x02\x01\x01\x04\x06public\xa1\x19\x02\x01\x01\x02\x01\x00\x02\x01\x00\x30\x0e\x30\x0c\x06\x08\x2b\x06\x01\x02\x01\x01\x03\x00\x05\x00",
-        // error status 1
-        b"\x30\x26\x02\x01\x01\x04\x06public\xa0\x19\x02\x01\x01\x02\x01\x01\x02\x01\x00\x30\x0e\x30\x0c\x06\x08\x2b\x06\x01\x02\x01\x01\x03\x00\x05\x00",
-        // sysDescr.0
-        b"\x30\x26\x02\x01\x01\x04\x06public\xa0\x19\x02\x01\x01\x02\x01\x00\x02\x01\x00\x30\x0e\x30\x0c\x06\x08\x2b\x06\x01\x02\x01\x01\x01\x00\x05\x00",
-        // the value noSuchObject
-        b"\x30\x26\x02\x01\x01\x04\x06public\xa0\x19\x02\x01\x01\x02\x01\x00\x02\x01\x00\x30\x0e\x30\x0c\x06\x08\x2b\x06\x01\x02\x01\x01\x03\x00\x80\x00",
+        b"\x02",
+        b"\x04\x82\x01",
+        // the indefinite form, and a length of 5 octets
+        b"\x04\x80\x61\x00\x00",
+        b"\x04\x85\x00\x00\x00\x00\x01\x61",
+        // lengths past the end
+        b"\x04\x02\x61",
+        b"\x04\x84\xff\xff\xff\xff\x61",
+        // integers of no octets, of 9, and of 33 bits
+        b"\x02\x00",
+        b"\x02\x09\x00\x00\x00\x00\x00\x00\x00\x00\x01",
+        b"\x02\x05\x00\x80\x00\x00\x00",
+        b"\x02\x05\xff\x7f\xff\xff\xff",
+        // unsigned numbers that are negative, of too many octets, of too many bits, and of no octets
+        b"\x41\x01\xff",
+        b"\x41\x09\x00\x00\x00\x00\x00\x00\x00\x00\x01",
+        b"\x41\x05\x01\x00\x00\x00\x00",
+        b"\x42\x05\x01\x00\x00\x00\x00",
+        b"\x43\x00",
+        b"\x46\x09\x01\x00\x00\x00\x00\x00\x00\x00\x00",
+        b"\x46\x0a\x00\x00\x00\x00\x00\x00\x00\x00\x00\x01",
+        // names of no group, with a group that begins with 0x80, that has no end, and that is above 32 bits
+        b"\x06\x00",
+        b"\x06\x03\x2b\x80\x01",
+        b"\x06\x02\x2b\x81",
+        b"\x06\x06\x2b\x90\x80\x80\x80\x00",
+        // an address of 3 octets, NULL with content, and an exception with content
+        b"\x40\x03\x0a\x00\x00",
+        b"\x05\x01\x00",
+        b"\x82\x01\x00",
+        // a SEQUENCE
+        b"\x30\x00",
     ];
-    for octets in others {
-        assert_eq!(rt; read_request(octets), None, "{octets:?}");
+    for octets in rows {
+        let mut reader = Reader::new(octets);
+        assert!(rt; reader.value().is_err(), "{octets:?}");
+        assert_eq!(rt; reader.offset(), 0, "{octets:?}");
+        assert_eq!(rt; reader.peek(), octets.first().copied(), "{octets:?}");
     }
+}
+
+#[test]
+fn offsets_are_those_of_the_tags(rt: HostRuntime) -> Result<(), Fail> {
+    // 1, the text `hi`, and then a NULL that ends past its SEQUENCE
+    let bytes = b"\x30\x81\x09\x02\x01\x01\x04\x02\x68\x69\x05\x01\x00";
+    let mut whole = Reader::new(bytes);
+    assert_eq!(rt; whole.enter(0xa0).is_err(), true);
+    let mut inner = whole.enter(0x30)?;
+    assert_eq!(rt; whole.peek(), Some(0));
+    assert_eq!(rt; whole.finish(), Err(Bad { at: 12 }));
+    assert_eq!(rt; inner.offset(), 3);
+    assert_eq!(rt; inner.octets().is_err(), true);
+    assert_eq!(rt; inner.int(), Ok(1));
+    assert_eq!(rt; inner.octets()?, b"hi".as_slice());
+    assert_eq!(rt; inner.int(), Err(Bad { at: 10 }));
+    assert_eq!(rt; inner.peek(), Some(5));
+    assert_eq!(rt; inner.finish(), Err(Bad { at: 10 }));
     Ok(())
 }
 
 #[test]
-fn responses_have_the_number(rt: HostRuntime) -> Result<(), Fail> {
-    let rows: [(i32, Variable, u32, &[u8]); 8] = [
-        (
-            1,
-            Variable::SysUpTime,
-            50,
-            b"\x30\x27\x02\x01\x01\x04\x06public\xa2\x1a\x02\x01\x01\x02\x01\x00\x02\x01\x00\x30\x0f\x30\x0d\x06\x08\x2b\x06\x01\x02\x01\x01\x03\x00\x43\x01\x32",
-        ),
-        (
-            1,
-            Variable::SysUpTime,
-            128,
-            b"\x30\x28\x02\x01\x01\x04\x06public\xa2\x1b\x02\x01\x01\x02\x01\x00\x02\x01\x00\x30\x10\x30\x0e\x06\x08\x2b\x06\x01\x02\x01\x01\x03\x00\x43\x02\x00\x80",
-        ),
-        (
-            1,
-            Variable::SysUpTime,
-            32_768,
-            b"\x30\x29\x02\x01\x01\x04\x06public\xa2\x1c\x02\x01\x01\x02\x01\x00\x02\x01\x00\x30\x11\x30\x0f\x06\x08\x2b\x06\x01\x02\x01\x01\x03\x00\x43\x03\x00\x80\x00",
-        ),
-        (
-            1,
-            Variable::SysUpTime,
-            2_147_483_647,
-            b"\x30\x2a\x02\x01\x01\x04\x06public\xa2\x1d\x02\x01\x01\x02\x01\x00\x02\x01\x00\x30\x12\x30\x10\x06\x08\x2b\x06\x01\x02\x01\x01\x03\x00\x43\x04\x7f\xff\xff\xff",
-        ),
-        (
-            -2_147_483_648,
-            Variable::SysUpTime,
-            4_294_967_295,
-            b"\x30\x2e\x02\x01\x01\x04\x06public\xa2\x21\x02\x04\x80\x00\x00\x00\x02\x01\x00\x02\x01\x00\x30\x13\x30\x11\x06\x08\x2b\x06\x01\x02\x01\x01\x03\x00\x43\x05\x00\xff\xff\xff\xff",
-        ),
-        (
-            2,
-            Variable::EtherStatsPkts,
-            2,
-            b"\x30\x2a\x02\x01\x01\x04\x06public\xa2\x1d\x02\x01\x02\x02\x01\x00\x02\x01\x00\x30\x12\x30\x10\x06\x0b\x2b\x06\x01\x02\x01\x10\x01\x01\x01\x05\x01\x41\x01\x02",
-        ),
-        (
-            -129,
-            Variable::EtherStatsPkts,
-            4_294_967_295,
-            b"\x30\x2f\x02\x01\x01\x04\x06public\xa2\x22\x02\x02\xff\x7f\x02\x01\x00\x02\x01\x00\x30\x16\x30\x14\x06\x0b\x2b\x06\x01\x02\x01\x10\x01\x01\x01\x05\x01\x41\x05\x00\xff\xff\xff\xff",
-        ),
-        (
-            -129,
-            Variable::EtherStatsOctets,
-            256,
-            b"\x30\x2c\x02\x01\x01\x04\x06public\xa2\x1f\x02\x02\xff\x7f\x02\x01\x00\x02\x01\x00\x30\x13\x30\x11\x06\x0b\x2b\x06\x01\x02\x01\x10\x01\x01\x01\x04\x01\x41\x02\x01\x00",
-        ),
-    ];
-    for (id, variable, number, octets) in rows {
-        let found = response(Request { id, variable }, number);
-        assert_eq!(rt; found.as_slice(), octets, "{variable:?} {number}");
+fn what_does_not_fit_is_left_out(rt: HostRuntime) -> Result<(), Fail> {
+    let octets = [7; 1500];
+    let mut writer = Writer::new();
+    writer.put(&Value::Null)?;
+    for count in [1500, 1469, 1467] {
+        assert_eq!(rt;
+            writer.put(&Value::Octets(&octets[..count])),
+            Err(Room),
+            "at {count}"
+        );
+        assert_eq!(rt; writer.bytes(), b"\x05\x00".as_slice(), "at {count}");
     }
+    writer.put(&Value::Octets(&octets[..1466]))?;
+    assert_eq!(rt; writer.len(), 1472);
+    assert_eq!(rt;
+        &writer.bytes()[..6],
+        b"\x05\x00\x04\x82\x05\xba".as_slice()
+    );
+    assert_eq!(rt; writer.put_header(0x30, 0), Err(Room));
+    assert_eq!(rt; writer.len(), 1472);
     Ok(())
+}
+
+#[test]
+fn laws_are_called() {
+    one_element();
+    one_value();
+    no_element_in_front();
+    elements_read_back();
+    values_read_back();
+    canonical_is_shortest();
 }

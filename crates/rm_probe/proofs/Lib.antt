@@ -5,3 +5,4 @@ pub mod FrameLemmas
 pub mod RunLemmas
 pub mod WholeLemmas
 pub mod EndLemmas
+pub mod ReplyLemmas

@@ -1,11 +1,12 @@
 -- What a run has written so far.
-use Rattle.std.proofs.Common.{◌≡◌, ℕ, ◌+◌, ◌-◌, ◌<◌, ◌≤◌, List, [], ◌∷◌, ◌++◌, length, take, drop, Option, Some, None, Result, Ok, Err, refl, sym, ap, subst, ◌∙◌, arith, inl, inr, take_while, append_assoc, min, ◌^◌}
+use Rattle.std.proofs.Common.{◌≡◌, Bool, true, ℕ, ◌+◌, ◌-◌, ◌<◌, ◌≤◌, List, [], ◌∷◌, ◌++◌, length, take, drop, Option, Some, None, Result, Ok, Err, refl, sym, ap, subst, ◌∙◌, arith, inl, inr, take_while, append_assoc, min, ◌^◌}
 use Rattle.std.proofs.lemmas.List.{append-nil, take-append-le, take_all}
 use Rattle.std.proofs.Math.Seq.{take-append-add, take-length}
 use Rattle.std.proofs.lemmas.Bool.{cases_lt}
 use Rattle.std.specs.Str.Lines.{lines}
 use Rattle.rm_edge.specs.Outside.{Adds, AddsFront}
 use Rattle.rm_model.specs.Journal.{Frame, Journal, passes, after_frames}
+use Rattle.rm_pdu.specs.Verdict.{Verdict, IsVerdict}
 use Rattle.rm_probe.specs.Lines.{TimedDatagram, requests_from, AreRequests, with_first}
 use Rattle.rm_probe.specs.Capture.{AreRecords, IsCapture, beginning}
 use Rattle.rm_probe.specs.Events.{Event, Comes, Asks, is_by, frames_after, events, comings}
@@ -22,18 +23,21 @@ unfolding AreLines
 lines_after journal [] es text h = h
 lines_after journal (f ∷ fs) es text h = lines_after (passes f ∷ journal) fs es text h
 
--- Each request has an answer, so that any events have lines.
-an_answer : (journal : Journal) (number : ℕ) (request : TimedDatagram) → (line : List ℕ) × (after : Journal) × IsAnswer journal number request line after
-unfolding IsAnswer
-an_answer journal number request = (_, journal, (refl, refl))
+-- Each datagram has an answer, so that any events have lines.
+abbrev pub EveryVerdict : Type 0
+EveryVerdict = (requests : Bool) (bytes : List ℕ) → (v : Verdict) × IsVerdict requests bytes v
 
-some_lines : (journal : Journal) (es : List Event) → (text : List ℕ) × AreLines journal es text
+an_answer : EveryVerdict → (journal : Journal) (number : ℕ) (request : TimedDatagram) → (line : List ℕ) × (after : Journal) × IsAnswer journal number request line after
+unfolding IsAnswer
+an_answer every journal number request = let v = every true request.datagram in (_, journal, (v.0, v.1, refl, refl))
+
+some_lines : EveryVerdict → (journal : Journal) (es : List Event) → (text : List ℕ) × AreLines journal es text
 unfolding AreLines
-some_lines journal [] = ([], refl)
-some_lines journal (Comes f ∷ es) = some_lines (passes f ∷ journal) es
-some_lines journal (Asks number request ∷ es) =
-    let a = an_answer journal number request in
-    let r = some_lines a.1 es in
+some_lines every journal [] = ([], refl)
+some_lines every journal (Comes f ∷ es) = some_lines every (passes f ∷ journal) es
+some_lines every journal (Asks number request ∷ es) =
+    let a = an_answer every journal number request in
+    let r = some_lines every a.1 es in
     (a.0 ++ r.0, (a.0, r.0, a.1, a.2, refl, r.1))
 
 -- The octets so far, and whatever may be written for what is left, may be written for all.
@@ -137,11 +141,11 @@ front_of k xs ys zs =
     ]
 
 -- the line is put in part
-pub line_cut : (old new next : Option (List ℕ)) (frames : List Frame) (requests : List TimedDatagram) (reach : Reach) (rest : List ℕ) (number last : ℕ) (lines_left : List ℕ) (counts : Counts) (line : List ℕ)
+pub line_cut : EveryVerdict → (old new next : Option (List ℕ)) (frames : List Frame) (requests : List TimedDatagram) (reach : Reach) (rest : List ℕ) (number last : ℕ) (lines_left : List ℕ) (counts : Counts) (line : List ℕ)
     → NextLine old new frames requests reach rest number last lines_left counts line → AddsFront new next line
     → (text : List ℕ) × IsText frames requests text × AddsFront old next text
-line_cut old new next frames requests reach rest number last lines_left counts line n put =
-    let m = some_lines n.journal (events number n.left n.asked) in
+line_cut every old new next frames requests reach rest number last lines_left counts line n put =
+    let m = some_lines every n.journal (events number n.left n.asked) in
     let e = last_line (length frames) (length requests) in
     let text : List ℕ = ((n.sofar ++ line) ++ m.0) ++ e in
     let parts : text ≡ n.sofar ++ (line ++ (m.0 ++ e)) = simp append_assoc in (

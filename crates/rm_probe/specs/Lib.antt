@@ -5,8 +5,10 @@ pub mod Taking
 pub mod Whole
 pub mod Events
 pub mod Values
+pub mod Replies
 pub mod Text
 pub mod Counted
+pub mod Answers
 pub mod Steps
 pub mod Status
 pub mod Ends

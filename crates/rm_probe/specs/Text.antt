@@ -1,23 +1,34 @@
 -- What a run writes: one line for each datagram, in the order of events, and a last line.
-use Rattle.std.specs.Prelude.{◌≡◌, ℕ, List, [], ◌∷◌, ◌++◌, length, decimal, codes, Option, Some, None}
+use Rattle.std.specs.Prelude.{◌≡◌, ℕ, true, if◌then◌else◌, List, [], ◌∷◌, ◌++◌, length, decimal, codes}
 use Rattle.hex.specs.Hex.{encode_lower}
-use Rattle.rm_ber.specs.declared.message.Request.{Request}
-use Rattle.rm_ber.specs.Request.{asked, response_octets}
 use Rattle.rm_model.specs.Journal.{Frame, Journal, passes}
+use Rattle.rm_pdu.specs.declared.kind.Kind.{Kind}
+use Rattle.rm_pdu.specs.declared.kind.Kind.TheVariants.{Get}
+use Rattle.rm_pdu.specs.Message.{Message, message_octets}
+use Rattle.rm_pdu.specs.Verdict.{Verdict, too_long, malformed, other_version, not_request, message, IsVerdict}
 use Rattle.rm_probe.specs.Lines.{TimedDatagram}
 use Rattle.rm_probe.specs.Events.{Event, Comes, Asks, events}
-use Rattle.rm_probe.specs.Values.{value_of}
+use Rattle.rm_probe.specs.Replies.{is_known, get_reply}
 
--- what is said of a datagram: the response to the request that it spells, or that it isn't answered yet
-abbrev pub said : Journal → ℕ → Option Request → List ℕ
-said journal moment None = codes "drop unbuilt"
-said journal moment (Some request) =
-    codes "reply " ++ encode_lower (response_octets request.id request.variable (value_of request.variable journal moment))
+-- what is said of a request of a known community
+abbrev pub said_of_kind : Journal → ℕ → Message → Kind → List ℕ
+said_of_kind journal moment request Get = codes "reply " ++ encode_lower (message_octets (get_reply journal moment request))
+said_of_kind journal moment request kind = codes "drop unbuilt"
+
+-- What is said of a datagram, by what it is: the reply, or why there is none. A request is judged whole before its
+-- community is.
+abbrev pub said : Journal → ℕ → Verdict → List ℕ
+said journal moment too_long = codes "drop too-long"
+said journal moment (malformed at) = codes "drop malformed " ++ decimal at
+said journal moment (other_version z) = codes "drop version"
+said journal moment (not_request tag) = codes "drop not-request"
+said journal moment (message request) =
+    if is_known request.community then said_of_kind journal moment request request.kind else codes "drop community"
 
 -- The line may be written for the datagram, and the journal is then the one after.
 unfoldable pub IsAnswer : Journal → ℕ → TimedDatagram → List ℕ → Journal → Type 0
-IsAnswer journal number request line after =
-    (line ≡ decimal request.moment ++ codes " " ++ decimal number ++ codes " " ++ said journal request.moment (asked request.datagram) ++ codes "\n")
+IsAnswer journal number request line after = (v : Verdict) × IsVerdict true request.datagram v
+    × (line ≡ decimal request.moment ++ codes " " ++ decimal number ++ codes " " ++ said journal request.moment v ++ codes "\n")
     × (after ≡ journal)
 
 -- The lines may be written for the events, from a journal on.

@@ -1,8 +1,13 @@
 // The counters of the frames so far.
-ghost use Rattle.std.specs.Prelude.{◌≡◌, [], ◌∷◌};
+ghost use Rattle.std.specs.Prelude.{◌≡◌, [], ◌∷◌, None, IfSome};
+ghost use Rattle.std.specs.Option.{option_map};
+ghost use Rattle.rm_val.specs.Val.{val_of};
+ghost use Rattle.rm_val.specs.Spellable.{HasSpelling};
+ghost use Rattle.rm_probe.specs.Values.{answer_for};
 
 use crate::capture::Frame;
-use rm_ber::Variable;
+use crate::names::{self, ETHER_STATS_OCTETS_1, ETHER_STATS_PKTS_1, SYS_UP_TIME_0};
+use rm_val::{Oid, Value};
 
 /// The least length of a frame without its check sequence; a shorter one was padded to it on the wire.
 const LEAST_LENGTH: u32 = 60;
@@ -18,10 +23,9 @@ pub struct Counts {
 }
 
 impl Counts {
-    ghost use Rattle.rm_ber.specs.Variable.{value_for};
     ghost use Rattle.rm_model.specs.Journal.{Journal, passes};
     ghost use Rattle.rm_probe.specs.Records.{passed_of};
-    ghost use Rattle.rm_probe.specs.Values.{value_of};
+    ghost use Rattle.rm_probe.specs.Values.{cell, value_at};
     ghost use Rattle.rm_probe.specs.Counted.{StandsFor};
 
     /// Before the first frame.
@@ -45,14 +49,43 @@ impl Counts {
             .wrapping_add(CHECK_SEQUENCE);
     }
 
-    /// The value of a variable at a moment in milliseconds.
-    pub fn value(&self, variable: Variable, moment: u32) -> u32
-        ensures { (journal : Journal) → StandsFor self.now journal → value_for variable result ≡ value_of variable journal moment }
+    /// What is answered for a name, at a moment in milliseconds: the variable's value, else noSuchInstance under an
+    /// object that is answered, else noSuchObject.
+    pub fn value(&self, name: &Oid, moment: u32) -> Value<'static>
+        ensures value { (journal : Journal) → StandsFor self.now journal → val_of result ≡ value_at journal moment name.now }
+        ensures spelling { HasSpelling (val_of result) }
     {
-        match variable {
-            Variable::SysUpTime => moment / 10,
-            Variable::EtherStatsPkts => self.packets,
-            Variable::EtherStatsOctets => self.octets,
+        match self.cell(name, moment) {
+            Some(value) => value,
+            None => missing(name),
         }
+    }
+
+    fn cell(&self, name: &Oid, moment: u32) -> Option<Value<'static>>
+        ensures value { (journal : Journal) → StandsFor self.now journal → option_map val_of result ≡ cell journal moment name.now }
+        ensures spelling { IfSome result (λ value. HasSpelling (val_of value)) }
+    {
+        if names::is(name, &SYS_UP_TIME_0) {
+            return Some(Value::Ticks(moment / 10));
+        }
+        if names::is(name, &ETHER_STATS_PKTS_1) {
+            return Some(Value::Counter(self.packets));
+        }
+        if names::is(name, &ETHER_STATS_OCTETS_1) {
+            return Some(Value::Counter(self.octets));
+        }
+        None
+    }
+}
+
+// What is answered for a name that has no value.
+fn missing(name: &Oid) -> Value<'static>
+    ensures value { val_of result ≡ answer_for None name.now }
+    ensures spelling { HasSpelling (val_of result) }
+{
+    if names::is_of_object(name) {
+        Value::NoInstance
+    } else {
+        Value::NoObject
     }
 }

@@ -1,28 +1,27 @@
 // The lines that are written.
 ghost use Rattle.std.specs.Prelude.{◌≡◌, ◌+◌, ◌≤◌, ◌++◌, [], codes, decimal, length};
 ghost use Rattle.hex.specs.Hex.{encode_lower};
-ghost use Rattle.rm_ber.specs.Request.{asked};
-ghost use Rattle.rm_model.specs.Journal.{Journal};
-ghost use Rattle.rm_probe.specs.Counted.{StandsFor};
-ghost use Rattle.rm_probe.specs.Text.{last_line, said};
+ghost use Rattle.rm_probe.specs.Answers.{reason_text, answer_text, IsShort};
+ghost use Rattle.rm_probe.specs.Text.{last_line};
 ghost use Rattle.rm_probe.specs.Steps.{Answers};
 
+use crate::answer::{self, Answer, MOST_REPLY, Reason};
 use crate::counts::Counts;
 use arrayvec::ArrayVec;
 use itoa::Buffer;
 
 /// The octets of a line, its line feed included.
-pub type Line = ArrayVec<u8, 512>;
+pub type Line = ArrayVec<u8, 3072>;
 
 fn push(line: &mut Line, bytes: &[u8])
-    requires { length line.old.items + length bytes.now ≤ 512 }
+    requires { length line.old.items + length bytes.now ≤ 3072 }
     ensures { line.new.items ≡ line.old.items ++ bytes.now }
 {
     let _ = line.try_extend_from_slice(bytes);
 }
 
 fn push_number(line: &mut Line, number: u64)
-    requires { length line.old.items + 40 ≤ 512 }
+    requires { length line.old.items + 40 ≤ 3072 }
     ensures text { line.new.items ≡ line.old.items ++ decimal number }
     ensures short { length (decimal number) ≤ 40 }
 {
@@ -31,37 +30,53 @@ fn push_number(line: &mut Line, number: u64)
 }
 
 fn push_hex(line: &mut Line, bytes: &[u8])
-    requires room { length line.old.items + 256 ≤ 512 }
-    requires short { length bytes.now ≤ 128 }
+    requires room { length line.old.items + 2944 ≤ 3072 }
+    requires short { length bytes.now ≤ 1472 }
     ensures text { line.new.items ≡ line.old.items ++ encode_lower bytes.now }
-    ensures short { length line.new.items ≤ length line.old.items + 256 }
+    ensures short { length line.new.items ≤ length line.old.items + 2944 }
 {
-    let mut text = [0; 256];
+    let mut text = [0; 2 * MOST_REPLY];
     let digits = &mut text[..2 * bytes.len()];
     let _ = hex::encode_to_slice(bytes, digits);
     push(line, digits);
 }
 
-fn push_said(line: &mut Line, counts: &Counts, moment: u32, datagram: &[u8])
+fn push_reason(line: &mut Line, reason: Reason)
     requires { length line.old.items ≤ 100 }
-    ensures text { (journal : Journal) → StandsFor counts.now journal
-        → line.new.items ≡ line.old.items ++ said journal moment (asked datagram.now) }
-    ensures short { length line.new.items ≤ 500 }
+    ensures text { line.new.items ≡ line.old.items ++ reason_text reason }
+    ensures short { length line.new.items ≤ 200 }
 {
-    match rm_ber::read_request(datagram) {
-        None => push(line, b"drop unbuilt"),
-        Some(request) => {
-            push(line, b"reply ");
-            let value = counts.value(request.variable, moment);
-            let response = rm_ber::response(request, value);
-            push_hex(line, response.as_slice());
+    match reason {
+        Reason::TooLong => push(line, b"drop too-long"),
+        Reason::Malformed(at) => {
+            push(line, b"drop malformed ");
+            push_number(line, at as u64);
         }
+        Reason::Version => push(line, b"drop version"),
+        Reason::NotRequest => push(line, b"drop not-request"),
+        Reason::Community => push(line, b"drop community"),
+        Reason::Unbuilt => push(line, b"drop unbuilt"),
+    }
+}
+
+fn push_answer(line: &mut Line, answer: Answer, out: &[u8; MOST_REPLY])
+    requires front { length line.old.items ≤ 100 }
+    requires short { IsShort answer }
+    ensures text { line.new.items ≡ line.old.items ++ answer_text answer out.now }
+    ensures short { length line.new.items ≤ 3060 }
+{
+    match answer {
+        Answer::Reply(count) => {
+            push(line, b"reply ");
+            push_hex(line, &out[..count]);
+        }
+        Answer::Drop(reason) => push_reason(line, reason),
     }
 }
 
 /// Writes the line of a datagram into an empty line.
 #[tactic(auto, unfolding(crate::specs::Text::IsAnswer))]
-pub fn answer(counts: &Counts, number: u64, moment: u32, datagram: &[u8], line: &mut Line)
+pub fn push_line(line: &mut Line, counts: &Counts, number: u64, moment: u32, datagram: &[u8])
     requires { line.old.items ≡ [] }
     ensures { Answers counts.now counts.now number (record { moment = moment; datagram = datagram.now }) line.new.items }
 {
@@ -69,7 +84,9 @@ pub fn answer(counts: &Counts, number: u64, moment: u32, datagram: &[u8], line: 
     push(line, b" ");
     push_number(line, number);
     push(line, b" ");
-    push_said(line, counts, moment, datagram);
+    let mut out = [0; MOST_REPLY];
+    let answer = answer::answer_datagram(counts, moment, datagram, &mut out);
+    push_answer(line, answer, &out);
     push(line, b"\n");
 }
 

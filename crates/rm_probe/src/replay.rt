@@ -13,6 +13,7 @@ use crate::line::{self, Line};
 use crate::lines;
 use crate::status::Status;
 use rm_edge::Sink;
+use rm_pdu::every_verdict;
 
 /// Counts the frames up to a moment.
 fn advance<'a>(
@@ -50,6 +51,7 @@ pub fn write_run<K: Sink>(capture: &[u8], requests: &[u8], buffer: &mut [u8], ou
     ensures later { K.faults out.old ≤ K.faults out.new }
     ensures fault { result ≡ WriteFault → Rose (K.faults out.old) (K.faults out.new) }
 {
+    every_verdict();
     let mut records = capture::first_record(capture);
     let mut cursor = lines::first_request(requests);
     let mut counts = Counts::new();
@@ -65,12 +67,12 @@ pub fn write_run<K: Sink>(capture: &[u8], requests: &[u8], buffer: &mut [u8], ou
             Err(_) => return Status::BadCapture(0),
         };
         line.clear();
-        line::answer(
+        line::push_line(
+            &mut line,
             &counts,
             cursor.number,
             taken.moment,
             &buffer[..taken.count],
-            &mut line,
         );
         match out.put(line.as_slice()) {
             Ok(()) => cursor = taken.next,

@@ -7,36 +7,42 @@ use std::fmt::Write;
 use std::process::Abort;
 use std::test::Fail;
 
+mod datagrams;
+
 // The header of a capture of Ethernet frames, the lowest octet of a number first.
 const HEADER: [u8; 24] = [
     0xd4, 0xc3, 0xb2, 0xa1, 2, 0, 4, 0, 0, 0, 0, 0, 0, 0, 0, 0, 0, 0, 4, 0, 1, 0, 0, 0,
 ];
 
-// A GetRequest for sysUpTime.0 with request-id 1, and its reply but for the value's one octet.
+// A GetRequest for sysUpTime.0 with request-id 1.
 const UP_TIME: &str =
     "302602010104067075626c6963a019020101020100020100300e300c06082b060102010103000500";
 
-const UP_TIME_REPLY: &str =
-    "302702010104067075626c6963a21a020101020100020100300f300d06082b060102010103004301";
-
-// The same for etherStatsPkts.1 with request-id 2.
+// The same for etherStatsPkts.1 with request-id 2, and its reply but for the value's one octet.
 const PACKETS: &str =
     "302902010104067075626c6963a01c0201020201000201003011300f060b2b060102011001010105010500";
 
 const PACKETS_REPLY: &str =
     "302a02010104067075626c6963a21d02010202010002010030123010060b2b060102011001010105014101";
 
-// The same for etherStatsOctets.1 with request-id 2, and but for the value's two octets.
+// The same for etherStatsOctets.1, and its reply but for the value's two octets.
 const OCTETS: &str =
     "302902010104067075626c6963a01c0201020201000201003011300f060b2b060102011001010104010500";
 
 const OCTETS_REPLY: &str =
     "302b02010104067075626c6963a21e02010202010002010030133011060b2b060102011001010104014102";
 
+// The two in one datagram, and its reply after two frames, of 60 and of 1514 octets.
+const BOTH: &str =
+    "303a02010104067075626c6963a02d0201020201000201003022300f060b2b060102011001010105010500300f060b2b060102011001010104010500";
+
+const BOTH_REPLY: &str =
+    "303d02010104067075626c6963a23002010202010002010030253010060b2b060102011001010105014101023011060b2b060102011001010104014102062e";
+
 // Two requests of no octets, and the three lines that are written for them without a frame.
 const TWO_REQUESTS: &str = "500 \n600 \n";
 
-const THREE_LINES: &str = "500 1 drop unbuilt\n600 2 drop unbuilt\nend 0 2\n";
+const THREE_LINES: &str = "500 1 drop malformed 0\n600 2 drop malformed 0\nend 0 2\n";
 
 // Seconds, microseconds, included length and original length.
 type Record = [u32; 4];
@@ -105,7 +111,7 @@ fn check(
     let mut out = sink_of(alloc, 4096)?;
     let ended = replay(alloc, &mut shelf, &mut out)?;
     assert_eq!(rt; ended, status, "{what}");
-    assert_eq!(rt; out.bytes(), text.as_bytes(), "{what}");
+    assert_eq!(rt; str::from_utf8(out.bytes())?, text, "{what}");
     Ok(())
 }
 
@@ -126,13 +132,38 @@ fn statuses_have_numbers(rt: HostRuntime) {
     }
 }
 
+// Moments, and the value that sysUpTime.0 has then, of one octet, of two and of four.
 #[test]
 fn up_time_is_answered(rt: HostRuntime) -> Result<(), Fail> {
     let alloc = rt.alloc();
-    let requests = format!(in alloc; "500 {UP_TIME}\n")?;
-    let text = format!(in alloc; "500 1 reply {UP_TIME_REPLY}32\nend 0 1\n")?;
-    let files = (HEADER.as_slice(), requests.as_bytes());
-    check(&rt, alloc, files, (Status::Done, &text), "up time")
+    for (moment, reply) in [
+        (
+            "0",
+            "302702010104067075626c6963a21a020101020100020100300f300d06082b06010201010300430100",
+        ),
+        (
+            "500",
+            "302702010104067075626c6963a21a020101020100020100300f300d06082b06010201010300430132",
+        ),
+        (
+            "1279",
+            "302702010104067075626c6963a21a020101020100020100300f300d06082b0601020101030043017f",
+        ),
+        (
+            "1280",
+            "302802010104067075626c6963a21b0201010201000201003010300e06082b0601020101030043020080",
+        ),
+        (
+            "4294967295",
+            "302a02010104067075626c6963a21d0201010201000201003012301006082b06010201010300430419999999",
+        ),
+    ] {
+        let requests = format!(in alloc; "{moment} {UP_TIME}\n")?;
+        let text = format!(in alloc; "{moment} 1 reply {reply}\nend 0 1\n")?;
+        let files = (HEADER.as_slice(), requests.as_bytes());
+        check(&rt, alloc, files, (Status::Done, &text), moment)?;
+    }
+    Ok(())
 }
 
 #[test]
@@ -148,7 +179,11 @@ fn frames_are_counted(rt: HostRuntime) -> Result<(), Fail> {
         "2000 1 reply {PACKETS_REPLY}02\n2000 2 reply {OCTETS_REPLY}062e\nend 2 2\n"
     )?;
     let files = (capture.as_slice(), requests.as_bytes());
-    check(&rt, alloc, files, (Status::Done, &text), "both")
+    check(&rt, alloc, files, (Status::Done, &text), "two lines")?;
+    let requests = format!(in alloc; "2000 {BOTH}\n")?;
+    let text = format!(in alloc; "2000 1 reply {BOTH_REPLY}\nend 2 1\n")?;
+    let files = (capture.as_slice(), requests.as_bytes());
+    check(&rt, alloc, files, (Status::Done, &text), "one line")
 }
 
 // A frame of 60 octets counts 64. The octets are those of that one and one of the lengths given.
@@ -328,14 +363,17 @@ fn cut_captures_are_refused(rt: HostRuntime) -> Result<(), Fail> {
 fn request_lines_are_read(rt: HostRuntime) -> Result<(), Fail> {
     for (requests, text) in [
         ("", "end 0 0\n"),
-        ("7 \n", "7 1 drop unbuilt\nend 0 1\n"),
+        ("7 \n", "7 1 drop malformed 0\nend 0 1\n"),
         (
             "7 \r\n8 aB\r\n",
-            "7 1 drop unbuilt\n8 2 drop unbuilt\nend 0 2\n",
+            "7 1 drop malformed 0\n8 2 drop malformed 0\nend 0 2\n",
         ),
-        ("7 \n7 00", "7 1 drop unbuilt\n7 2 drop unbuilt\nend 0 2\n"),
-        ("0000000007 \n", "7 1 drop unbuilt\nend 0 1\n"),
-        ("4294967295 \n", "4294967295 1 drop unbuilt\nend 0 1\n"),
+        (
+            "7 \n7 3000",
+            "7 1 drop malformed 0\n7 2 drop malformed 2\nend 0 2\n",
+        ),
+        ("0000000007 \n", "7 1 drop malformed 0\nend 0 1\n"),
+        ("4294967295 \n", "4294967295 1 drop malformed 0\nend 0 1\n"),
     ] {
         let files = (HEADER.as_slice(), requests.as_bytes());
         check(&rt, rt.alloc(), files, (Status::Done, text), requests)?;
@@ -384,105 +422,13 @@ fn other_lines_are_refused(rt: HostRuntime) -> Result<(), Fail> {
 fn datagrams_have_65535_octets_at_most(rt: HostRuntime) -> Result<(), Fail> {
     let alloc = rt.alloc();
     for (digits, expected) in [
-        (131_070, (Status::Done, "7 1 drop unbuilt\nend 0 1\n")),
+        (131_070, (Status::Done, "7 1 drop too-long\nend 0 1\n")),
         (131_072, (Status::BadRequests(1), "")),
     ] {
         let mut requests = Vec::from_slice(alloc, b"7 ")?;
         let zeros = vec![in alloc; b'0'; digits]?;
         requests.extend_from_slice(&zeros)?;
         check(&rt, alloc, (&HEADER, &requests), expected, expected.1)?;
-    }
-    Ok(())
-}
-
-// Lines with one datagram each, and the lines that answer.
-const DATAGRAMS: [(&str, &str); 18] = [
-    // Values of one, two and four octets.
-    (
-        "0 302602010104067075626c6963a019020101020100020100300e300c06082b060102010103000500",
-        "0 1 reply 302702010104067075626c6963a21a020101020100020100300f300d06082b06010201010300430100",
-    ),
-    (
-        "1279 302602010104067075626c6963a019020101020100020100300e300c06082b060102010103000500",
-        "1279 1 reply 302702010104067075626c6963a21a020101020100020100300f300d06082b0601020101030043017f",
-    ),
-    (
-        "1280 302602010104067075626c6963a019020101020100020100300e300c06082b060102010103000500",
-        "1280 1 reply 302802010104067075626c6963a21b0201010201000201003010300e06082b0601020101030043020080",
-    ),
-    (
-        "4294967295 302602010104067075626c6963a019020101020100020100300e300c06082b060102010103000500",
-        "4294967295 1 reply 302a02010104067075626c6963a21d0201010201000201003012301006082b06010201010300430419999999",
-    ),
-    // Request-ids of two and four octets, negative ones too, and digits in upper case.
-    (
-        "500 302702010104067075626c6963a01a02020080020100020100300e300c06082b060102010103000500",
-        "500 1 reply 302802010104067075626c6963a21b02020080020100020100300f300d06082b06010201010300430132",
-    ),
-    (
-        "500 302902010104067075626c6963a01c02047fffffff020100020100300e300c06082b060102010103000500",
-        "500 1 reply 302a02010104067075626c6963a21d02047fffffff020100020100300f300d06082b06010201010300430132",
-    ),
-    (
-        "500 302902010104067075626c6963a01c020480000000020100020100300e300c06082b060102010103000500",
-        "500 1 reply 302a02010104067075626c6963a21d020480000000020100020100300f300d06082b06010201010300430132",
-    ),
-    (
-        "500 302602010104067075626C6963A0190201FE020100020100300E300C06082B060102010103000500",
-        "500 1 reply 302702010104067075626c6963a21a0201fe020100020100300f300d06082b06010201010300430132",
-    ),
-    // A length in two octets, a request-id of more octets than it needs, and an octet after the end.
-    (
-        "500 30812602010104067075626c6963a019020101020100020100300e300c06082b060102010103000500",
-        "500 1 drop unbuilt",
-    ),
-    (
-        "500 302702010104067075626c6963a01a02020001020100020100300e300c06082b060102010103000500",
-        "500 1 drop unbuilt",
-    ),
-    (
-        "500 302602010104067075626c6963a019020101020100020100300e300c06082b06010201010300050000",
-        "500 1 drop unbuilt",
-    ),
-    // Version 0, another community, another PDU, an error-status, and another name.
-    (
-        "500 302602010004067075626c6963a019020101020100020100300e300c06082b060102010103000500",
-        "500 1 drop unbuilt",
-    ),
-    (
-        "500 302602010104067075626c696ba019020101020100020100300e300c06082b060102010103000500",
-        "500 1 drop unbuilt",
-    ),
-    (
-        "500 302602010104067075626c6963a119020101020100020100300e300c06082b060102010103000500",
-        "500 1 drop unbuilt",
-    ),
-    (
-        "500 302602010104067075626c6963a019020101020101020100300e300c06082b060102010103000500",
-        "500 1 drop unbuilt",
-    ),
-    (
-        "500 302602010104067075626c6963a019020101020100020100300e300c06082b060102010103010500",
-        "500 1 drop unbuilt",
-    ),
-    // Two bindings, and none.
-    (
-        "500 303702010104067075626c6963a02a020101020100020100301f300c06082b060102010103000500300f060b2b060102011001010105010500",
-        "500 1 drop unbuilt",
-    ),
-    (
-        "500 301802010104067075626c6963a00b0201010201000201003000",
-        "500 1 drop unbuilt",
-    ),
-];
-
-#[test]
-fn datagrams_are_answered(rt: HostRuntime) -> Result<(), Fail> {
-    for (request, answer) in DATAGRAMS {
-        let alloc = rt.alloc();
-        let text = format!(in alloc; "{answer}\nend 0 1\n")?;
-        let files = (HEADER.as_slice(), request.as_bytes());
-        check(&rt, alloc, files, (Status::Done, &text), request)?;
     }
     Ok(())
 }
@@ -603,10 +549,14 @@ fn failed_puts_leave_a_front(rt: HostRuntime) -> Result<(), Fail> {
     for (call, keep, text) in [
         (1, 0, ""),
         (1, 3, "500"),
-        (1, 100, "500 1 drop unbuilt\n"),
-        (2, 4, "500 1 drop unbuilt\n600 "),
-        (3, 0, "500 1 drop unbuilt\n600 2 drop unbuilt\n"),
-        (3, 5, "500 1 drop unbuilt\n600 2 drop unbuilt\nend 0"),
+        (1, 100, "500 1 drop malformed 0\n"),
+        (2, 4, "500 1 drop malformed 0\n600 "),
+        (3, 0, "500 1 drop malformed 0\n600 2 drop malformed 0\n"),
+        (
+            3,
+            5,
+            "500 1 drop malformed 0\n600 2 drop malformed 0\nend 0",
+        ),
     ] {
         let mut out = sink_of(alloc, 4096)?;
         out.fail(call, keep)?;
@@ -621,9 +571,9 @@ fn failed_puts_leave_a_front(rt: HostRuntime) -> Result<(), Fail> {
 fn a_full_sink_has_a_front(rt: HostRuntime) -> Result<(), Fail> {
     let alloc = rt.alloc();
     let mut shelf = shelf_of(alloc, &HEADER, TWO_REQUESTS.as_bytes())?;
-    let mut out = sink_of(alloc, 23)?;
+    let mut out = sink_of(alloc, 27)?;
     let status = replay(alloc, &mut shelf, &mut out)?;
     assert_eq!(rt; status, Status::WriteFault);
-    assert_eq!(rt; out.bytes(), b"500 1 drop unbuilt\n600 ".as_slice());
+    assert_eq!(rt; out.bytes(), b"500 1 drop malformed 0\n600 ".as_slice());
     Ok(())
 }

@@ -34,10 +34,10 @@ returns-in-Err-put-clause-text g c = λ frames asked is are.
     let request : TimedDatagram = record { moment = c.in-Ok-Some.taken.moment; datagram = take c.in-Ok-Some.taken.count c.next_request.new.into } in
     let n = next_line (g.K.Sink.content c.args.out.now) (g.K.Sink.content c.loop-taken.out) frames asked c.loop-taken.records.reach c.loop-taken.records.rest.now
     c.loop-taken.cursor.number c.loop-taken.cursor.last c.loop-taken.cursor.rest.now c.loop-taken.counts request
-    c.in-Ok-Some.taken.next.number c.in-Ok-Some.taken.next.last c.in-Ok-Some.taken.next.rest.now c.in-Ok.after.reach c.in-Ok.after.rest.now c.advance.new.counts c.advance.new.counts c.answer.new.line.items
-    r t.0 t.4 c.in-Ok.ensures.passed c.answer.ensures in
-    line_cut (g.K.Sink.content c.args.out.now) (g.K.Sink.content c.loop-taken.out) (g.K.Sink.content c.put.new.self) frames asked c.in-Ok.after.reach c.in-Ok.after.rest.now
-    c.in-Ok-Some.taken.next.number c.in-Ok-Some.taken.next.last c.in-Ok-Some.taken.next.rest.now c.advance.new.counts c.answer.new.line.items n (rw c.as_slice.ensures.value at c.in-Err-put.ensures.octets)
+    c.in-Ok-Some.taken.next.number c.in-Ok-Some.taken.next.last c.in-Ok-Some.taken.next.rest.now c.in-Ok.after.reach c.in-Ok.after.rest.now c.advance.new.counts c.advance.new.counts c.push_line.new.line.items
+    r t.0 t.4 c.in-Ok.ensures.passed c.push_line.ensures in
+    line_cut c.every_verdict.ensures (g.K.Sink.content c.args.out.now) (g.K.Sink.content c.loop-taken.out) (g.K.Sink.content c.put.new.self) frames asked c.in-Ok.after.reach c.in-Ok.after.rest.now
+    c.in-Ok-Some.taken.next.number c.in-Ok-Some.taken.next.last c.in-Ok-Some.taken.next.rest.now c.advance.new.counts c.push_line.new.line.items n (rw c.as_slice.ensures.value at c.in-Err-put.ensures.octets)
 
 pub loop-taken-preserved : goal.loop-taken-preserved
 loop-taken-preserved g c =
@@ -52,10 +52,10 @@ loop-taken-preserved g c =
           let request : TimedDatagram = record { moment = c.in-Ok-Some.taken.moment; datagram = take c.in-Ok-Some.taken.count c.next_request.new.into } in
           let n = next_line (g.K.Sink.content c.args.out.now) (g.K.Sink.content c.loop-taken.out) frames asked c.loop-taken.records.reach c.loop-taken.records.rest.now
           c.loop-taken.cursor.number c.loop-taken.cursor.last c.loop-taken.cursor.rest.now c.loop-taken.counts request
-          c.in-Ok-Some.taken.next.number c.in-Ok-Some.taken.next.last c.in-Ok-Some.taken.next.rest.now c.in-Ok.after.reach c.in-Ok.after.rest.now c.advance.new.counts c.advance.new.counts c.answer.new.line.items
-          r t.0 t.4 c.in-Ok.ensures.passed c.answer.ensures in
+          c.in-Ok-Some.taken.next.number c.in-Ok-Some.taken.next.last c.in-Ok-Some.taken.next.rest.now c.in-Ok.after.reach c.in-Ok.after.rest.now c.advance.new.counts c.advance.new.counts c.push_line.new.line.items
+          r t.0 t.4 c.in-Ok.ensures.passed c.push_line.ensures in
           line_put (g.K.Sink.content c.args.out.now) (g.K.Sink.content c.loop-taken.out) (g.K.Sink.content c.put.new.self) frames asked c.in-Ok.after.reach c.in-Ok.after.rest.now
-          c.in-Ok-Some.taken.next.number c.in-Ok-Some.taken.next.last c.in-Ok-Some.taken.next.rest.now c.advance.new.counts c.answer.new.line.items n (rw c.as_slice.ensures.value at c.in-Ok-put.ensures.octets);
+          c.in-Ok-Some.taken.next.number c.in-Ok-Some.taken.next.last c.in-Ok-Some.taken.next.rest.now c.advance.new.counts c.push_line.new.line.items n (rw c.as_slice.ensures.value at c.in-Ok-put.ensures.octets);
     }
 
 pub returns-in-Err-advance-2-clause-text : goal.returns-in-Err-advance-2-clause-text

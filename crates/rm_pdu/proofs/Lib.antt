@@ -1,0 +1,11 @@
+pub mod FirstThings
+pub mod Places
+pub mod Once
+pub mod Every
+pub mod Steps
+pub mod Octets
+pub mod PlacedLemmas
+pub mod ListLemmas
+pub mod DraftSizes
+pub mod DraftSpells
+pub mod Lengths

@@ -1,0 +1,8 @@
+pub mod Message
+pub mod Spells
+pub mod Verdict
+pub mod Placed
+pub mod Reading
+pub mod Answers
+pub mod Draft
+pub mod DraftParts

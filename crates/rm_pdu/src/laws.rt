@@ -1,0 +1,45 @@
+// Laws of messages and of what octets are. The bodies cite the laws of elements, and do nothing else.
+ghost use Rattle.std.specs.Prelude.{◌≡◌, ◌≤◌, ◌<◌, ◌++◌, ℕ, Bool, List, length, take};
+ghost use Rattle.rm_pdu.specs.Message.{Binding, Message, message_octets};
+ghost use Rattle.rm_pdu.specs.Spells.{Spells};
+ghost use Rattle.rm_pdu.specs.Verdict.{Verdict, IsVerdict};
+
+use rm_ber::{element_or_none, no_element_in_front, one_element, one_value, value_or_none};
+
+/// A law: octets spell one message at most.
+pub fn one_message()
+    ensures { (bytes : List ℕ) (m n : Message) → Spells bytes m → Spells bytes n → m ≡ n }
+{
+    one_element();
+    one_value();
+}
+
+/// A law: octets that spell a message have no shorter front that spells one.
+pub fn no_message_in_front()
+    ensures { (bytes : List ℕ) (m n : Message) (count : ℕ) → Spells bytes m → count < length bytes → Spells (take count bytes) n → ⊥ }
+{
+    no_element_in_front();
+}
+
+/// A law: octets are one thing at most, read as requests or as any message.
+pub fn one_verdict()
+    ensures { (requests : Bool) (bytes : List ℕ) (v w : Verdict) → IsVerdict requests bytes v → IsVerdict requests bytes w → v ≡ w }
+{
+    one_element();
+    one_value();
+}
+
+/// A law: octets are one thing at least, read as requests or as any message.
+pub fn every_verdict()
+    ensures { (requests : Bool) (bytes : List ℕ) → (v : Verdict) × IsVerdict requests bytes v }
+{
+    one_element();
+    one_value();
+    element_or_none();
+    value_or_none();
+}
+
+/// A law: more bindings make the canonical octets of a message more.
+pub fn bindings_lengthen()
+    ensures { (m : Message) (more : List Binding) → length (message_octets m) ≤ length (message_octets (record m { bindings = m.bindings ++ more })) }
+{}

@@ -1,0 +1,16 @@
+//! Messages of SNMPv2c (RFC 1901; RFC 1905, section 3): a reader that answers the message or the first fault with its
+//! place, and a writer of canonical messages.
+#![tactic(auto)]
+
+mod bindings;
+mod draft;
+mod kind;
+mod laws;
+mod layout;
+mod message;
+
+pub use bindings::{Bindings, Offsets};
+pub use draft::{Draft, reads_back};
+pub use kind::Kind;
+pub use laws::{bindings_lengthen, every_verdict, no_message_in_front, one_message, one_verdict};
+pub use message::{Fault, Message, read_any, read_message};
