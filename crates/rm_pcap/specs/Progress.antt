@@ -42,10 +42,13 @@ abbrev pub moment_found : Found → Option ℕ
 moment_found (Whole frame after) = Some frame.moment
 moment_found (Stops stop) = None
 
+-- the frame that the code lends, as a journal holds it
+abbrev pub frame_of : Frame → Passed
+frame_of frame = record { interface = 1; moment = frame.moment; number = frame.number; octets = frame.bytes.now; original = frame.original }
+
 -- the step shows what was found
 abbrev pub Shows : Step → Found → Type 0
-Shows (Next frame) (Whole passed after) =
-    (frame.bytes.now ≡ passed.octets) × (frame.original ≡ passed.original) × (frame.moment ≡ passed.moment) × (frame.number ≡ passed.number)
+Shows (Next frame) (Whole passed after) = passed ≡ frame_of frame
 Shows End (Stops Ended) = ⊤
 Shows (Cut at) (Stops (CutAt place)) = at ≡ place
 Shows step found = ⊥
