@@ -1,11 +1,18 @@
 //! Captures in the classic pcap format, read record by record through a shelf.
 #![tactic(auto)]
 
+mod capture;
 mod fault;
+mod fields;
+mod filling;
 mod form;
 mod frame;
+mod header;
+mod place;
 mod reach;
+mod record;
 
+pub use capture::Capture;
 pub use fault::PcapFault;
 pub use form::{Form, Order, Unit};
 pub use frame::{Frame, Step};

@@ -1,0 +1,4 @@
+pub mod FillingLemmas
+pub mod FrontLemmas
+pub mod FoundLemmas
+pub mod CaptureLemmas
