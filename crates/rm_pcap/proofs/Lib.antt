@@ -2,3 +2,4 @@ pub mod FillingLemmas
 pub mod FrontLemmas
 pub mod FoundLemmas
 pub mod CaptureLemmas
+pub mod RecordLaws
