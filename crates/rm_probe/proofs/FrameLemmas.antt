@@ -1,16 +1,26 @@
 -- Frames that pass up to a moment.
-use Rattle.std.proofs.Common.{◌≡◌, ℕ, suc, ◌+◌, ◌<◌, ◌≤◌, true, false, List, [], ◌∷◌, ◌++◌, length, take, drop, Some, refl, sym, ap, subst, ◌∙◌, arith, take_while, append_assoc}
+use Rattle.std.proofs.Common.{◌≡◌, ℕ, suc, ◌+◌, ◌<◌, ◌≤◌, true, false, List, [], ◌∷◌, ◌++◌, length, take, drop, Option, Some, None, Result, Err, inl, inr, ◌⊎◌, refl, sym, ap, subst, ◌∙◌, arith, take_while, append_assoc}
+use Rattle.std.specs.Prelude.{⊤}
 use Rattle.std.specs.List.{prefix_len}
 use Rattle.std.proofs.lemmas.List.{append-nil}
 use Rattle.std.proofs.lemmas.Bool.Decides.{nat_tests}
+use Rattle.rm_edge.specs.Outside.{Held, File}
 use Rattle.rm_model.specs.Journal.{Frame, Journal, passes, after_frames}
-use Rattle.rm_probe.specs.Capture.{record_at, Recorded, AreRecords}
+use Rattle.rm_pcap.specs.Records.{Stop, Broken, Found, Whole, Stops as StopsAt}
+use Rattle.rm_pcap.specs.Progress.{Progress, looking_at, passing, next_in, moment_found, Shows, frame_of}
+use Rattle.rm_pcap.specs.Calls.{Looks, LooksAt, Passes, Fails, IsBroken, Breaks}
+use Rattle.rm_pcap.specs.declared.frame.Frame.{Frame as Lent}
+use Rattle.rm_pcap.specs.declared.frame.Step.{Step}
+use Rattle.rm_pcap.specs.declared.frame.Step.TheVariants.{Next, End, Cut}
+use Rattle.rm_pcap.specs.declared.fault.PcapFault.{PcapFault}
+use Rattle.rm_pcap.specs.declared.fault.PcapFault.TheVariants.{Magic, Version, LinkType, Included, Original, Late, TooMany, Read, NoMemory}
+use Rattle.rm_pcap.specs.declared.reach.Reach.{Reach}
 use Rattle.rm_probe.specs.Events.{is_by, frames_after}
 use Rattle.rm_probe.specs.Counted.{StandsFor}
-use Rattle.rm_probe.specs.Steps.{Advanced}
-use Rattle.rm_probe.specs.declared.capture.Reach.{Reach}
+use Rattle.rm_probe.specs.Steps.{Advanced, Advances, Finishes, Leaves}
+use Rattle.rm_probe.specs.Text.{last_line}
 use Rattle.rm_probe.specs.declared.counts.Counts.{Counts}
-use Rattle.rm_probe.proofs.RecordLemmas.{records_more}
+use Rattle.rm_probe.proofs.RecordLemmas.{leaves_looking, leaves_passing, leaves_first, leaves_none}
 
 -- frames that pass, and then others
 pub after_frames-append : (some others : List Frame) (journal : Journal) → after_frames (some ++ others) journal ≡ after_frames others (after_frames some journal)
@@ -18,19 +28,19 @@ after_frames-append [] others journal = refl
 after_frames-append (frame ∷ more) others journal = after_frames-append more others (passes frame ∷ journal)
 
 -- of the frames left, so many have passed
-pub record Passed (moment : ℕ) (reach : Reach) (rest : List ℕ) (counts : Counts) (before : ℕ) (frames : List Frame) (journal : Journal) : Type 0 where
+pub record Passed (moment : ℕ) (bytes : List ℕ) (progress : Progress) (counts : Counts) (before : ℕ) (frames : List Frame) (stop : Stop) (journal : Journal) : Type 0 where
   pub passed : List Frame
   pub left : List Frame
-  pub records_left : AreRecords reach rest left
+  pub leaves : Leaves progress bytes left stop
   pub stands : StandsFor counts (after_frames passed journal)
   pub taken : take_while (is_by moment) frames ≡ passed ++ take_while (is_by moment) left
   pub after : frames_after moment frames ≡ frames_after moment left
-  pub count : reach.count + length left ≡ before + length frames
+  pub count : progress.reach.count + length left ≡ before + length frames
 
-pub passed_none : (moment : ℕ) (reach : Reach) (rest : List ℕ) (counts : Counts) (frames : List Frame) (journal : Journal)
-    → AreRecords reach rest frames → StandsFor counts journal → Passed moment reach rest counts reach.count frames journal
-passed_none moment reach rest counts frames journal left stands =
-    record { passed = []; left = frames; records_left = left; stands = stands; taken = refl; after = refl; count = refl }
+pub passed_none : (moment : ℕ) (bytes : List ℕ) (progress : Progress) (counts : Counts) (frames : List Frame) (stop : Stop) (journal : Journal)
+    → Leaves progress bytes frames stop → StandsFor counts journal → Passed moment bytes progress counts progress.reach.count frames stop journal
+passed_none moment bytes progress counts frames stop journal left stands =
+    record { passed = []; left = frames; leaves = left; stands = stands; taken = refl; after = refl; count = refl }
 
 one_longer : (m : ℕ) (f : Frame) (fs : List Frame) → is_by m f ≡ true → prefix_len (is_by m) (f ∷ fs) ≡ suc (prefix_len (is_by m) fs)
 one_longer m f fs early = rw early (omega arith)
@@ -47,42 +57,188 @@ after_one m f fs early = ap (λ (k : ℕ). drop k (f ∷ fs)) (one_longer m f fs
 after_no : (m : ℕ) (f : Frame) (fs : List Frame) → is_by m f ≡ false → frames_after m (f ∷ fs) ≡ f ∷ fs
 after_no m f fs late = rw late refl
 
+-- the next one was looked at
+pub passed_looking : (m : ℕ) (held : Held) (bytes : List ℕ) (old new : Progress) (counts : Counts) (before : ℕ) (frames : List Frame) (stop : Stop) (journal : Journal) (found : Found)
+    → held ≡ File bytes → Looks held old new found
+    → Passed m bytes old counts before frames stop journal → Passed m bytes new counts before frames stop journal
+passed_looking m held bytes old new counts before frames stop journal found is looks p = record {
+  passed = p.passed;
+  left = p.left;
+  leaves = leaves_looking held old new bytes p.left stop found is looks p.leaves;
+  stands = p.stands;
+  taken = p.taken;
+  after = p.after;
+  count = ap (λ (q : Progress). q.reach.count + length p.left) looks.place ∙ p.count;
+}
+
 -- one more frame passes
-pub passed_one : (m : ℕ) (reach : Reach) (rest : List ℕ) (counts next : Counts) (before : ℕ) (frames : List Frame) (journal : Journal) (at : Recorded)
-    → record_at reach rest ≡ Some at → length at.rest < length rest → at.reach.count ≡ reach.count + 1 → at.frame.moment ≤ m
-    → ((j : Journal) → StandsFor counts j → StandsFor next (passes at.frame ∷ j))
-    → Passed m reach rest counts before frames journal → Passed m at.reach at.rest next before frames journal
-passed_one m reach rest counts next before frames journal at is shorter one le counted p =
-    let o = records_more reach rest at p.left is (omega arith) p.records_left in
-    let f = at.frame in
-    let early : is_by m f ≡ true = grind (arith, nat_tests) in
+passed_one : (m : ℕ) (held : Held) (bytes : List ℕ) (old new : Progress) (counts next : Counts) (before : ℕ) (frames : List Frame) (stop : Stop) (journal : Journal) (frame : Frame) (after : Reach)
+    → held ≡ File bytes → Passes held old new (Whole frame after) → frame.moment ≤ m
+    → ((j : Journal) → StandsFor counts j → StandsFor next (passes frame ∷ j))
+    → Passed m bytes old counts before frames stop journal → Passed m bytes new next before frames stop journal
+passed_one m held bytes old new counts next before frames stop journal frame after is found le counted p =
+    let o = leaves_passing held old new bytes p.left stop frame after is found p.leaves in
+    let early : is_by m frame ≡ true = grind (arith, nat_tests) in
+    let one : new.reach.count ≡ old.reach.count + 1 = ap (λ (q : Progress). q.reach.count) found.place ∙ found.finds.lawful.count ∙ found.finds.lawful.number in
     record {
-      passed = p.passed ++ f ∷ [];
+      passed = p.passed ++ frame ∷ [];
       left = o.more;
-      records_left = o.are;
-      stands = subst (λ (j : Journal). StandsFor next j) (sym (after_frames-append p.passed (f ∷ []) journal)) (counted (after_frames p.passed journal) p.stands);
-      taken = p.taken ∙ ap (λ (xs : List Frame). p.passed ++ take_while (is_by m) xs) o.is ∙ ap (λ (xs : List Frame). p.passed ++ xs) (take_one m f o.more early) ∙ sym (append_assoc p.passed (f ∷ []) (take_while (is_by m) o.more));
-      after = p.after ∙ ap (frames_after m) o.is ∙ after_one m f o.more early;
+      leaves = o.left;
+      stands = subst (λ (j : Journal). StandsFor next j) (sym (after_frames-append p.passed (frame ∷ []) journal)) (counted (after_frames p.passed journal) p.stands);
+      taken = p.taken ∙ ap (λ (xs : List Frame). p.passed ++ take_while (is_by m) xs) o.is ∙ ap (λ (xs : List Frame). p.passed ++ xs) (take_one m frame o.more early) ∙ sym (append_assoc p.passed (frame ∷ []) (take_while (is_by m) o.more));
+      after = p.after ∙ ap (frames_after m) o.is ∙ after_one m frame o.more early;
       count = omega (arith, p.count, one, ap length o.is);
     }
 
 -- no frame is left that passes
-pub record Stops (m : ℕ) (left : List Frame) : Type 0 where
+record Halts (m : ℕ) (left : List Frame) : Type 0 where
   pub taken : take_while (is_by m) left ≡ []
   pub after : frames_after m left ≡ left
 
-pub stops_none : (m : ℕ) (left : List Frame) → left ≡ [] → Stops m left
-stops_none m left e = rw e (record { taken = refl; after = refl })
+halts_none : (m : ℕ) (left : List Frame) → left ≡ [] → Halts m left
+halts_none m left e = rw e (record { taken = refl; after = refl })
 
-pub stops_later : (m : ℕ) (f : Frame) (fs left : List Frame) → left ≡ f ∷ fs → m < f.moment → Stops m left
-stops_later m f fs left e later =
+halts_later : (m : ℕ) (f : Frame) (fs left : List Frame) → left ≡ f ∷ fs → m < f.moment → Halts m left
+halts_later m f fs left e later =
     let late : is_by m f ≡ false = grind (arith, nat_tests) in
     rw e (record { taken = take_no m f fs late; after = after_no m f fs late })
 
+-- what was found is no frame up to the moment
+abbrev pub IsLater : ℕ → Found → Type 0
+IsLater m (Whole frame after) = m < frame.moment
+IsLater m (StopsAt at) = ⊤
+
+halts_found : (m : ℕ) (bytes : List ℕ) (progress : Progress) (left : List Frame) (stop : Stop) (found : Found) → found ≡ next_in progress bytes → IsLater m found
+    → Leaves progress bytes left stop → Halts m left
+halts_found m bytes progress left stop (Whole frame after) is later leaves =
+    let f = leaves_first progress bytes left stop frame after is leaves in halts_later m frame f.0 left f.1 later
+halts_found m bytes progress left stop (StopsAt at) is later leaves =
+    halts_none m left (leaves_none progress bytes left stop at is leaves).none
+
 -- the frames up to the moment have passed
-pub stop : (m : ℕ) (reach : Reach) (rest : List ℕ) (counts : Counts) (before : ℕ) (frames : List Frame) (journal : Journal)
-    → (p : Passed m reach rest counts before frames journal) → Stops m p.left → Advanced m reach rest counts before frames journal
-stop m reach rest counts before frames journal p s =
+pub halt : (m : ℕ) (held : Held) (bytes : List ℕ) (old new : Progress) (counts : Counts) (before : ℕ) (frames : List Frame) (stop : Stop) (journal : Journal) (found : Found)
+    → held ≡ File bytes → Looks held old new found → IsLater m found
+    → Passed m bytes old counts before frames stop journal → Advanced m bytes new counts before frames stop journal
+halt m held bytes old new counts before frames stop journal found is looks later p =
+    let s = halts_found m bytes old p.left stop found (looks.finds.stands bytes is p.leaves.agrees) later p.leaves in
+    let q = passed_looking m held bytes old new counts before frames stop journal found is looks p in
     let after : frames_after m frames ≡ p.left = p.after ∙ s.after in
     let taken : take_while (is_by m) frames ≡ p.passed = p.taken ∙ ap (λ (xs : List Frame). p.passed ++ xs) s.taken ∙ append-nil p.passed in
-    record { left = rw after p.records_left; stands = rw taken p.stands; count = rw after p.count }
+    record {
+      left = rw after (leaves_looking held old new bytes p.left stop found is looks p.leaves);
+      stands = rw taken p.stands;
+      count = rw after (ap (λ (q : Progress). q.reach.count + length p.left) looks.place ∙ p.count);
+    }
+
+-- a moment that a look answered is later
+pub later_moment : (m next : ℕ) (found : Found) → Some next ≡ moment_found found → m < next → IsLater m found
+later_moment m next (Whole frame after) is later = let e : next ≡ frame.moment = cc in omega (arith, e, later)
+later_moment m next (StopsAt at) is later = tt
+
+-- a look answered no moment
+pub no_moment : (m : ℕ) (found : Found) → None ≡ moment_found found → IsLater m found × (stop : Stop) × (found ≡ StopsAt stop)
+no_moment m (Whole frame after) is = absurd cc
+no_moment m (StopsAt at) is = (tt, at, refl)
+
+-- a frame is looked at, and passes
+pub passed_found : (m : ℕ) (held held' : Held) (bytes : List ℕ) (old looked new : Progress) (counts counts' : Counts) (before : ℕ) (frames : List Frame) (stop : Stop) (journal : Journal)
+    (found found' : Found) (next : ℕ) (frame : Lent)
+    → held ≡ File bytes → held' ≡ held → Looks held old looked found → Some next ≡ moment_found found → next ≤ m
+    → Passes held' looked new found' → Shows (Next frame) found' → ((j : Journal) → StandsFor counts j → StandsFor counts' (passes (frame_of frame) ∷ j))
+    → Passed m bytes old counts before frames stop journal → Passed m bytes new counts' before frames stop journal
+passed_found m held held' bytes old looked new counts counts' before frames stop journal found (StopsAt at) next frame is same looks next_is early found_so shows counted p =
+    absurd shows
+passed_found m held held' bytes old looked new counts counts' before frames stop journal found (Whole passed after) next frame is same looks next_is early found_so shows counted p =
+    let again : Whole passed after ≡ found = found_so.finds.again found (ap (λ (q : Progress). q.ahead) looks.place) in
+    let moment : next ≡ passed.moment = let e : Some next ≡ Some passed.moment = next_is ∙ ap moment_found (sym again) in cc in
+    let q = passed_looking m held bytes old looked counts before frames stop journal found is looks p in
+    passed_one m held' bytes looked new counts counts' before frames stop journal passed after (same ∙ is) found_so (omega (arith, moment, early))
+    (subst (λ (f : Frame). (j : Journal) → StandsFor counts j → StandsFor counts' (passes f ∷ j)) (sym shows) counted) q
+
+-- one record more was passed
+pub one_more : (held held' : Held) (old looked new : Progress) (found found' : Found) (next : ℕ) → Looks held old looked found → Some next ≡ moment_found found → Passes held' looked new found'
+    → (new.reach.count ≡ old.reach.count + 1) × (new.reach.count ≤ 100000000)
+one_more held held' old looked new found (StopsAt at) next looks next_is found_so =
+    let again : StopsAt at ≡ found = found_so.finds.again found (ap (λ (q : Progress). q.ahead) looks.place) in
+    absurd (let e : Some next ≡ None = next_is ∙ ap moment_found (sym again) in cc)
+one_more held held' old looked new found (Whole passed after) next looks next_is found_so =
+    let one : new.reach.count ≡ looked.reach.count + 1 = ap (λ (q : Progress). q.reach.count) found_so.place ∙ found_so.finds.lawful.count ∙ found_so.finds.lawful.number in
+    let few : new.reach.count ≤ 100000000 = omega (arith, ap (λ (q : Progress). q.reach.count) found_so.place, found_so.finds.lawful.count, found_so.finds.lawful.few) in
+    (one ∙ ap (λ (q : Progress). q.reach.count + 1) looks.place, few)
+
+-- what a look found to be a frame is passed as one
+pub passed_so : (held held' : Held) (old looked new : Progress) (found found' : Found) (next : ℕ) (step : Step) → Looks held old looked found → Some next ≡ moment_found found
+    → Passes held' looked new found' → Shows step found' → (lent : Lent) × (step ≡ Next lent)
+passed_so held held' old looked new found (StopsAt at) next step looks next_is found_so shows =
+    let again : StopsAt at ≡ found = found_so.finds.again found (ap (λ (q : Progress). q.ahead) looks.place) in
+    absurd (let e : Some next ≡ None = next_is ∙ ap moment_found (sym again) in cc)
+passed_so held held' old looked new found (Whole passed after) next (Next frame) looks next_is found_so shows = (frame, refl)
+passed_so held held' old looked new found (Whole passed after) next End looks next_is found_so shows = absurd shows
+passed_so held held' old looked new found (Whole passed after) next (Cut at) looks next_is found_so shows = absurd shows
+
+-- a fault other than of a read is how the records stop
+pub broken : (held : Held) (bytes : List ℕ) (progress : Progress) (left : List Frame) (stop : Stop) (fault : PcapFault) → (fault ≡ Read → ⊥) → held ≡ File bytes
+    → IsBroken held progress.form progress.lead progress.reach fault → Leaves progress bytes left stop → stop ≡ Broken fault
+broken held bytes progress left stop fault other is (inl e) leaves = absurd (other e)
+broken held bytes progress left stop fault other is (inr breaks) leaves =
+    (leaves_none progress bytes left stop (Broken fault) (sym (breaks.stands bytes is)) leaves).stop_is
+
+-- the capture has a fault where it is now
+pub advances_fault : (m : ℕ) (held : Held) (bytes : List ℕ) (old now new : Progress) (counts counts' counts'' : Counts) (fault : PcapFault) → held ≡ File bytes → Fails held now fault
+    → ((frames : List Frame) (stop : Stop) (journal : Journal) → Leaves old bytes frames stop → StandsFor counts journal → Passed m bytes now counts' old.reach.count frames stop journal)
+    → Advances {T = Unit {0}} m bytes old new counts counts'' (Err fault)
+advances_fault m held bytes old now new counts counts' counts'' Read is fails p = tt
+advances_fault m held bytes old now new counts counts' counts'' Magic is fails p = λ frames stop journal left stands. let q = p frames stop journal left stands in broken held bytes now q.left stop Magic (λ e. cc) is fails.cause q.leaves
+advances_fault m held bytes old now new counts counts' counts'' Version is fails p = λ frames stop journal left stands. let q = p frames stop journal left stands in broken held bytes now q.left stop Version (λ e. cc) is fails.cause q.leaves
+advances_fault m held bytes old now new counts counts' counts'' LinkType is fails p = λ frames stop journal left stands. let q = p frames stop journal left stands in broken held bytes now q.left stop LinkType (λ e. cc) is fails.cause q.leaves
+advances_fault m held bytes old now new counts counts' counts'' (Included at) is fails p = λ frames stop journal left stands. let q = p frames stop journal left stands in broken held bytes now q.left stop (Included at) (λ e. cc) is fails.cause q.leaves
+advances_fault m held bytes old now new counts counts' counts'' (Original at) is fails p = λ frames stop journal left stands. let q = p frames stop journal left stands in broken held bytes now q.left stop (Original at) (λ e. cc) is fails.cause q.leaves
+advances_fault m held bytes old now new counts counts' counts'' (Late at) is fails p = λ frames stop journal left stands. let q = p frames stop journal left stands in broken held bytes now q.left stop (Late at) (λ e. cc) is fails.cause q.leaves
+advances_fault m held bytes old now new counts counts' counts'' TooMany is fails p = λ frames stop journal left stands. let q = p frames stop journal left stands in broken held bytes now q.left stop TooMany (λ e. cc) is fails.cause q.leaves
+advances_fault m held bytes old now new counts counts' counts'' NoMemory is fails p = λ frames stop journal left stands. let q = p frames stop journal left stands in broken held bytes now q.left stop NoMemory (λ e. cc) is fails.cause q.leaves
+
+-- a capture whose frames pass up to a moment
+pub record Advancing {F : Type 0} (held : F → List ℕ → Held) (faults : F → List ℕ → ℕ) (first now : F) (name : List ℕ) (moment : ℕ) (old progress : Progress) (counts counts' : Counts) : Type 0 where
+  pub same : (each : List ℕ) → held now each ≡ held first each
+  pub later : (each : List ℕ) → faults first each ≤ faults now each
+  pub passed : (bytes : List ℕ) → held first name ≡ File bytes → (frames : List Frame) (stop : Stop) (journal : Journal) → Leaves old bytes frames stop → StandsFor counts journal
+      → Passed moment bytes progress counts' old.reach.count frames stop journal
+
+-- a fault other than of a read, by what advancing answered
+pub advanced_so : (m : ℕ) (bytes : List ℕ) (old new : Progress) (counts counts' : Counts) (fault : PcapFault) → Advances {T = Unit {0}} m bytes old new counts counts' (Err fault) → (fault ≡ Read → ⊥)
+    → (frames : List Frame) (stop : Stop) (journal : Journal) → Leaves old bytes frames stop → StandsFor counts journal → stop ≡ Broken fault
+advanced_so m bytes old new counts counts' Read h other = absurd (other refl)
+advanced_so m bytes old new counts counts' Magic h other = h
+advanced_so m bytes old new counts counts' Version h other = h
+advanced_so m bytes old new counts counts' LinkType h other = h
+advanced_so m bytes old new counts counts' (Included at) h other = h
+advanced_so m bytes old new counts counts' (Original at) h other = h
+advanced_so m bytes old new counts counts' (Late at) h other = h
+advanced_so m bytes old new counts counts' TooMany h other = h
+advanced_so m bytes old new counts counts' NoMemory h other = h
+
+-- the same, by what finishing answered
+pub finished_so : (bytes : List ℕ) (progress : Progress) (counts : Counts) (requests : ℕ) (line : List ℕ) (fault : PcapFault) → Finishes {T = Unit {0}} bytes progress counts requests line (Err fault) → (fault ≡ Read → ⊥)
+    → (frames : List Frame) (stop : Stop) (journal : Journal) → Leaves progress bytes frames stop → StandsFor counts journal → stop ≡ Broken fault
+finished_so bytes progress counts requests line Read h other = absurd (other refl)
+finished_so bytes progress counts requests line Magic h other = h
+finished_so bytes progress counts requests line Version h other = h
+finished_so bytes progress counts requests line LinkType h other = h
+finished_so bytes progress counts requests line (Included at) h other = h
+finished_so bytes progress counts requests line (Original at) h other = h
+finished_so bytes progress counts requests line (Late at) h other = h
+finished_so bytes progress counts requests line TooMany h other = h
+finished_so bytes progress counts requests line NoMemory h other = h
+
+-- all frames have passed, and the step says how the records stop
+pub finish_last : (held' : Held) (bytes : List ℕ) (old looked new : Progress) (counts counts' : Counts) (requests taken : ℕ) (line : List ℕ) (step : Step) (found : Found) (at : Stop)
+    → ((frames : List Frame) (stop : Stop) (journal : Journal) → Leaves old bytes frames stop → StandsFor counts journal → Advanced 4294967295 bytes looked counts' old.reach.count frames stop journal)
+    → looked.ahead ≡ Some (StopsAt at) → Passes held' looked new found → Shows step found → taken ≡ looked.reach.count
+    → ((stop : Stop) → Shows step (StopsAt stop) → line ≡ last_line stop taken requests)
+    → (frames : List Frame) (stop : Stop) (journal : Journal) → Leaves old bytes frames stop → StandsFor counts journal → line ≡ last_line stop (old.reach.count + length frames) requests
+finish_last held' bytes old looked new counts counts' requests taken line step found at advances ahead found_so shows count last frames stop journal left stands =
+    let a = advances frames stop journal left stands in
+    let same : StopsAt at ≡ found = sym (found_so.finds.again (StopsAt at) ahead) in
+    let none = leaves_none looked bytes (frames_after 4294967295 frames) stop at (a.left.agrees (StopsAt at) ahead) a.left in
+    let all : taken ≡ old.reach.count + length frames = omega (arith, count, a.count, ap length none.none) in
+    last at (subst (λ (f : Found). Shows step f) (sym same) shows) ∙ ap (λ (k : ℕ). last_line at k requests) all ∙ ap (λ (s : Stop). last_line s (old.reach.count + length frames) requests) (sym none.stop_is)

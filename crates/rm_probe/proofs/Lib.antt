@@ -2,7 +2,7 @@ pub mod RecordLemmas
 pub mod LineLemmas
 pub mod JudgeLemmas
 pub mod FrameLemmas
-pub mod RunLemmas
 pub mod WholeLemmas
-pub mod EndLemmas
 pub mod ReplyLemmas
+pub mod RunLemmas
+pub mod EndLemmas

@@ -4,18 +4,18 @@ use Rattle.std.proofs.lemmas.List.{append-nil, take-append-le, take_all}
 use Rattle.std.proofs.Math.Seq.{take-append-add, take-length}
 use Rattle.std.proofs.lemmas.Bool.{cases_lt}
 use Rattle.std.specs.Str.Lines.{lines}
-use Rattle.rm_edge.specs.Outside.{Adds, AddsFront}
+use Rattle.rm_edge.specs.Outside.{Adds, AddsFront, Held, File}
 use Rattle.rm_model.specs.Journal.{Frame, Journal, passes, after_frames}
 use Rattle.rm_pdu.specs.Verdict.{Verdict, IsVerdict}
-use Rattle.rm_probe.specs.Lines.{TimedDatagram, requests_from, AreRequests, with_first}
-use Rattle.rm_probe.specs.Capture.{AreRecords, IsCapture, beginning}
+use Rattle.rm_probe.specs.Lines.{TimedDatagram, requests_from, requests_of, AreRequests, with_first}
+use Rattle.rm_pcap.specs.Records.{Stop}
+use Rattle.rm_pcap.specs.Progress.{Progress}
 use Rattle.rm_probe.specs.Events.{Event, Comes, Asks, is_by, frames_after, events, comings}
 use Rattle.rm_probe.specs.Text.{IsAnswer, AreLines, IsText, last_line}
 use Rattle.rm_probe.specs.Counted.{StandsFor}
-use Rattle.rm_probe.specs.Steps.{Advanced}
-use Rattle.rm_probe.specs.declared.capture.Reach.{Reach}
+use Rattle.rm_probe.specs.Steps.{Advanced, Leaves}
 use Rattle.rm_probe.specs.declared.counts.Counts.{Counts}
-use Rattle.rm_probe.proofs.RecordLemmas.{records_none}
+use Rattle.rm_probe.proofs.JudgeLemmas.{SameJudged}
 
 -- frames that come, and what follows them
 lines_after : (journal : Journal) (frames : List Frame) (es : List Event) (text : List ℕ) → AreLines (after_frames frames journal) es text → AreLines journal (comings frames ++ es) text
@@ -41,17 +41,17 @@ some_lines every journal (Asks number request ∷ es) =
     (a.0 ++ r.0, (a.0, r.0, a.1, a.2, refl, r.1))
 
 -- The octets so far, and whatever may be written for what is left, may be written for all.
-pub record InRun (old new : Option (List ℕ)) (frames : List Frame) (requests : List TimedDatagram) (reach : Reach) (rest : List ℕ) (number last : ℕ) (lines_left : List ℕ) (counts : Counts) : Type 0 where
+pub record InRun (old new : Option (List ℕ)) (bytes : List ℕ) (frames : List Frame) (stop : Stop) (requests : List TimedDatagram) (progress : Progress) (number last : ℕ) (lines_left : List ℕ) (counts : Counts) : Type 0 where
   pub sofar : List ℕ
   pub journal : Journal
   pub left : List Frame
   pub asked : List TimedDatagram
-  pub records_left : AreRecords reach rest left
+  pub records_left : Leaves progress bytes left stop
   pub requests_left : requests_from number last (lines lines_left) ≡ Ok asked
   pub stands : StandsFor counts journal
   pub added : Adds old new sofar
   pub goes : (text : List ℕ) → AreLines journal (events number left asked) text → AreLines [] (events 1 frames requests) (sofar ++ text)
-  pub frame_count : reach.count + length left ≡ length frames
+  pub frame_count : progress.reach.count + length left ≡ length frames
   pub request_count : number + length asked ≡ 1 + length requests
 
 adds_then : (a b c : Option (List ℕ)) (x y : List ℕ) → Adds a b x → Adds b c y → Adds a c (x ++ y)
@@ -65,28 +65,28 @@ with_first_ok request (Ok more) asked e = (more, refl, cc)
 with_first_ok request (Err n) asked e = absurd cc
 
 -- a line more, before it is put
-pub record NextLine (old new : Option (List ℕ)) (frames : List Frame) (requests : List TimedDatagram) (reach : Reach) (rest : List ℕ) (number last : ℕ) (lines_left : List ℕ) (counts : Counts) (line : List ℕ) : Type 0 where
+pub record NextLine (old new : Option (List ℕ)) (bytes : List ℕ) (frames : List Frame) (stop : Stop) (requests : List TimedDatagram) (progress : Progress) (number last : ℕ) (lines_left : List ℕ) (counts : Counts) (line : List ℕ) : Type 0 where
   pub sofar : List ℕ
   pub journal : Journal
   pub left : List Frame
   pub asked : List TimedDatagram
-  pub records_left : AreRecords reach rest left
+  pub records_left : Leaves progress bytes left stop
   pub requests_left : requests_from number last (lines lines_left) ≡ Ok asked
   pub stands : StandsFor counts journal
   pub added : Adds old new sofar
   pub goes : (text : List ℕ) → AreLines journal (events number left asked) text → AreLines [] (events 1 frames requests) ((sofar ++ line) ++ text)
-  pub frame_count : reach.count + length left ≡ length frames
+  pub frame_count : progress.reach.count + length left ≡ length frames
   pub request_count : number + length asked ≡ 1 + length requests
 
-pub next_line : (old new : Option (List ℕ)) (frames : List Frame) (requests : List TimedDatagram) (reach : Reach) (rest : List ℕ) (number last : ℕ) (lines_left : List ℕ) (counts : Counts)
-    (request : TimedDatagram) (number' last' : ℕ) (lines_left' : List ℕ) (reach' : Reach) (rest' : List ℕ) (counts' counts'' : Counts) (line : List ℕ)
-    → (r : InRun old new frames requests reach rest number last lines_left counts)
+pub next_line : (old new : Option (List ℕ)) (bytes : List ℕ) (frames : List Frame) (stop : Stop) (requests : List TimedDatagram) (progress : Progress) (number last : ℕ) (lines_left : List ℕ) (counts : Counts)
+    (request : TimedDatagram) (number' last' : ℕ) (lines_left' : List ℕ) (progress' : Progress) (counts' counts'' : Counts) (line : List ℕ)
+    → (r : InRun old new bytes frames stop requests progress number last lines_left counts)
     → requests_from number last (lines lines_left) ≡ with_first request (requests_from number' last' (lines lines_left')) → number' ≡ number + 1
-    → ((left : List Frame) (journal : Journal) → AreRecords reach rest left → StandsFor counts journal → Advanced request.moment reach' rest' counts' reach.count left journal)
+    → ((left : List Frame) (journal : Journal) → Leaves progress bytes left stop → StandsFor counts journal → Advanced request.moment bytes progress' counts' progress.reach.count left stop journal)
     → ((journal : Journal) → StandsFor counts' journal → (after : Journal) × IsAnswer journal number request line after × StandsFor counts'' after)
-    → NextLine old new frames requests reach' rest' number' last' lines_left' counts'' line
+    → NextLine old new bytes frames stop requests progress' number' last' lines_left' counts'' line
 unfolding AreLines events
-next_line old new frames requests reach rest number last lines_left counts request number' last' lines_left' reach' rest' counts' counts'' line r takes one advances answers =
+next_line old new bytes frames stop requests progress number last lines_left counts request number' last' lines_left' progress' counts' counts'' line r takes one advances answers =
     let w = with_first_ok request (requests_from number' last' (lines lines_left')) r.asked (sym takes ∙ r.requests_left) in
     let a = advances r.left r.journal r.records_left r.stands in
     let j : Journal = after_frames (take_while (is_by request.moment) r.left) r.journal in
@@ -112,10 +112,10 @@ next_line old new frames requests reach rest number last lines_left counts reque
     }
 
 -- the line is put
-pub line_put : (old new next : Option (List ℕ)) (frames : List Frame) (requests : List TimedDatagram) (reach : Reach) (rest : List ℕ) (number last : ℕ) (lines_left : List ℕ) (counts : Counts) (line : List ℕ)
-    → NextLine old new frames requests reach rest number last lines_left counts line → Adds new next line
-    → InRun old next frames requests reach rest number last lines_left counts
-line_put old new next frames requests reach rest number last lines_left counts line n put =
+pub line_put : (old new next : Option (List ℕ)) (bytes : List ℕ) (frames : List Frame) (stop : Stop) (requests : List TimedDatagram) (progress : Progress) (number last : ℕ) (lines_left : List ℕ) (counts : Counts) (line : List ℕ)
+    → NextLine old new bytes frames stop requests progress number last lines_left counts line → Adds new next line
+    → InRun old next bytes frames stop requests progress number last lines_left counts
+line_put old new next bytes frames stop requests progress number last lines_left counts line n put =
     record {
       sofar = n.sofar ++ line;
       journal = n.journal;
@@ -141,12 +141,12 @@ front_of k xs ys zs =
     ]
 
 -- the line is put in part
-pub line_cut : EveryVerdict → (old new next : Option (List ℕ)) (frames : List Frame) (requests : List TimedDatagram) (reach : Reach) (rest : List ℕ) (number last : ℕ) (lines_left : List ℕ) (counts : Counts) (line : List ℕ)
-    → NextLine old new frames requests reach rest number last lines_left counts line → AddsFront new next line
-    → (text : List ℕ) × IsText frames requests text × AddsFront old next text
-line_cut every old new next frames requests reach rest number last lines_left counts line n put =
+pub line_cut : EveryVerdict → (old new next : Option (List ℕ)) (bytes : List ℕ) (frames : List Frame) (stop : Stop) (requests : List TimedDatagram) (progress : Progress) (number last : ℕ) (lines_left : List ℕ) (counts : Counts) (line : List ℕ)
+    → NextLine old new bytes frames stop requests progress number last lines_left counts line → AddsFront new next line
+    → (text : List ℕ) × IsText frames stop requests text × AddsFront old next text
+line_cut every old new next bytes frames stop requests progress number last lines_left counts line n put =
     let m = some_lines every n.journal (events number n.left n.asked) in
-    let e = last_line (length frames) (length requests) in
+    let e = last_line stop (length frames) (length requests) in
     let text : List ℕ = ((n.sofar ++ line) ++ m.0) ++ e in
     let parts : text ≡ n.sofar ++ (line ++ (m.0 ++ e)) = simp append_assoc in (
       text,
@@ -163,83 +163,100 @@ no_lines journal [] = refl
 no_lines journal (f ∷ fs) = no_lines (passes f ∷ journal) fs
 
 -- the lines of all requests are put
-pub record AllPut (old new : Option (List ℕ)) (frames : List Frame) (requests : List TimedDatagram) (taken number : ℕ) : Type 0 where
+pub record AllPut (old new : Option (List ℕ)) (frames : List Frame) (requests : List TimedDatagram) (number : ℕ) : Type 0 where
   pub lines : List ℕ
   pub are_lines : AreLines [] (events 1 frames requests) lines
   pub added : Adds old new lines
-  pub frame_count : taken ≡ length frames
   pub request_count : number ≡ 1 + length requests
 
-pub all_put : (m : ℕ) (old new : Option (List ℕ)) (frames : List Frame) (requests : List TimedDatagram) (reach : Reach) (rest : List ℕ) (number last : ℕ) (lines_left : List ℕ) (counts : Counts)
-    (reach' : Reach) (rest' : List ℕ) (counts' : Counts)
-    → InRun old new frames requests reach rest number last lines_left counts
-    → requests_from number last (lines lines_left) ≡ Ok []
-    → ((left : List Frame) (journal : Journal) → AreRecords reach rest left → StandsFor counts journal → Advanced m reach' rest' counts' reach.count left journal)
-    → rest' ≡ [] → AllPut old new frames requests reach'.count number
+pub all_put : (old new : Option (List ℕ)) (bytes : List ℕ) (frames : List Frame) (stop : Stop) (requests : List TimedDatagram) (progress : Progress) (number last : ℕ) (lines_left : List ℕ) (counts : Counts)
+    → InRun old new bytes frames stop requests progress number last lines_left counts
+    → requests_from number last (lines lines_left) ≡ Ok [] → AllPut old new frames requests number
 unfolding events
-all_put m old new frames requests reach rest number last lines_left counts reach' rest' counts' r none advances end =
+all_put old new bytes frames stop requests progress number last lines_left counts r none =
     let asked : r.asked ≡ [] = let e = sym none ∙ r.requests_left in cc in
-    let a = advances r.left r.journal r.records_left r.stands in
-    let gone : frames_after m r.left ≡ [] = records_none reach' rest' (frames_after m r.left) end a.left in
     let here : AreLines r.journal (events number r.left r.asked) [] = rw asked (no_lines r.journal r.left) in
     record {
       lines = r.sofar ++ [];
       are_lines = r.goes [] here;
       added = rw append-nil r.added;
-      frame_count = omega (arith, a.count, r.frame_count, ap length gone);
       request_count = omega (arith, r.request_count, ap length asked);
     }
 
-pub text_put : (old new next : Option (List ℕ)) (frames : List Frame) (requests : List TimedDatagram) (taken number : ℕ) (line : List ℕ)
-    → AllPut old new frames requests taken number → line ≡ last_line taken (number - 1) → Adds new next line → (text : List ℕ) × IsText frames requests text × Adds old next text
-text_put old new next frames requests taken number line a is put =
+-- the last line is put
+pub text_put : (old new next : Option (List ℕ)) (frames : List Frame) (stop : Stop) (requests : List TimedDatagram) (taken number : ℕ) (line : List ℕ)
+    → AllPut old new frames requests number → taken ≡ length frames → line ≡ last_line stop taken (number - 1) → Adds new next line
+    → (text : List ℕ) × IsText frames stop requests text × Adds old next text
+text_put old new next frames stop requests taken number line a all is put =
     let n : number - 1 ≡ length requests = omega (arith, a.request_count) in (
       a.lines ++ line,
-      record { lines = a.lines; are_lines = a.are_lines; whole = ap (λ (t : List ℕ). a.lines ++ t) (is ∙ ap (λ (k : ℕ). last_line taken k) n ∙ ap (λ (k : ℕ). last_line k (length requests)) a.frame_count) },
+      record { lines = a.lines; are_lines = a.are_lines; whole = ap (λ (t : List ℕ). a.lines ++ t) (is ∙ ap (λ (k : ℕ). last_line stop taken k) n ∙ ap (λ (k : ℕ). last_line stop k (length requests)) all) },
       adds_then old new next a.lines line a.added put,
     )
 
-pub text_cut : (old new next : Option (List ℕ)) (frames : List Frame) (requests : List TimedDatagram) (taken number : ℕ) (line : List ℕ)
-    → AllPut old new frames requests taken number → line ≡ last_line taken (number - 1) → AddsFront new next line → (text : List ℕ) × IsText frames requests text × AddsFront old next text
-text_cut old new next frames requests taken number line a is put =
+-- the last line is put in part
+pub text_cut : (old new next : Option (List ℕ)) (frames : List Frame) (stop : Stop) (requests : List TimedDatagram) (taken number : ℕ) (line : List ℕ)
+    → AllPut old new frames requests number → taken ≡ length frames → line ≡ last_line stop taken (number - 1) → AddsFront new next line
+    → (text : List ℕ) × IsText frames stop requests text × AddsFront old next text
+text_cut old new next frames stop requests taken number line a all is put =
     let n : number - 1 ≡ length requests = omega (arith, a.request_count) in
     let parts : a.lines ++ line ≡ a.lines ++ (line ++ []) = ap (λ (t : List ℕ). a.lines ++ t) (sym (append-nil line)) in (
       a.lines ++ line,
-      record { lines = a.lines; are_lines = a.are_lines; whole = ap (λ (t : List ℕ). a.lines ++ t) (is ∙ ap (λ (k : ℕ). last_line taken k) n ∙ ap (λ (k : ℕ). last_line k (length requests)) a.frame_count) },
+      record { lines = a.lines; are_lines = a.are_lines; whole = ap (λ (t : List ℕ). a.lines ++ t) (is ∙ ap (λ (k : ℕ). last_line stop taken k) n ∙ ap (λ (k : ℕ). last_line stop k (length requests)) all) },
       (
         length a.lines + min put.0 (length line),
         rw (parts, front_of put.0 a.lines line []) (adds_then old new next a.lines (take put.0 line) a.added put.1),
       ),
     )
 
-pub run_begin : (old : Option (List ℕ)) (frames : List Frame) (asked : List TimedDatagram) (capture requests : List ℕ) (counts : Counts)
-    → IsCapture capture frames → AreRequests requests asked → StandsFor counts []
-    → InRun old old frames asked beginning (drop 24 capture) 1 0 requests counts
-run_begin old frames asked capture requests counts is are stands =
+-- a run that stops after so many lines has written a front
+pub text_stopped : EveryVerdict → (old new : Option (List ℕ)) (bytes : List ℕ) (frames : List Frame) (stop : Stop) (requests : List TimedDatagram) (progress : Progress) (number last : ℕ) (lines_left : List ℕ) (counts : Counts)
+    → InRun old new bytes frames stop requests progress number last lines_left counts
+    → (text : List ℕ) × IsText frames stop requests text × AddsFront old new text
+text_stopped every old new bytes frames stop requests progress number last lines_left counts r =
+    let m = some_lines every r.journal (events number r.left r.asked) in
+    let e = last_line stop (length frames) (length requests) in (
+      (r.sofar ++ m.0) ++ e,
+      record { lines = r.sofar ++ m.0; are_lines = r.goes m.0 m.1; whole = refl },
+      (length r.sofar, rw (append_assoc r.sofar m.0 e, take-append-le (length r.sofar) r.sofar (m.0 ++ e) (omega arith), take-length r.sofar) r.added),
+    )
+
+adds_none : (o : Option (List ℕ)) → Adds o o []
+adds_none None = tt
+adds_none (Some t) = ap (λ (x : List ℕ). Some x) (sym (append-nil t))
+
+-- a run that has written nothing has written a front
+pub text_none : EveryVerdict → (old : Option (List ℕ)) (frames : List Frame) (stop : Stop) (requests : List TimedDatagram) → (text : List ℕ) × IsText frames stop requests text × AddsFront old old text
+text_none every old frames stop requests =
+    let m = some_lines every [] (events 1 frames requests) in
+    (m.0 ++ last_line stop (length frames) (length requests), record { lines = m.0; are_lines = m.1; whole = refl }, (0, adds_none old))
+
+pub run_begin : (old : Option (List ℕ)) (bytes : List ℕ) (frames : List Frame) (stop : Stop) (asked : List TimedDatagram) (progress : Progress) (requests : List ℕ) (counts : Counts)
+    → Leaves progress bytes frames stop → progress.reach.count ≡ 0 → AreRequests requests asked → StandsFor counts []
+    → InRun old old bytes frames stop asked progress 1 0 requests counts
+run_begin old bytes frames stop asked progress requests counts left none are stands =
     record {
       sofar = [];
       journal = [];
       left = frames;
       asked = asked;
-      records_left = is.records;
+      records_left = left;
       requests_left = are.are;
       stands = stands;
       added = adds_none old;
       goes = λ text h. h;
-      frame_count = omega arith;
+      frame_count = omega (arith, none);
       request_count = omega arith;
     }
-  where
-    adds_none : (o : Option (List ℕ)) → Adds o o []
-    adds_none None = tt
-    adds_none (Some t) = ap (λ (x : List ℕ). Some x) (sym (append-nil t))
 
 -- how far a run is
-pub record Running {K : Type 0} (content : K → Option (List ℕ)) (faults : K → ℕ) (first now : K) (capture requests : List ℕ)
-    (reach : Reach) (rest : List ℕ) (number last : ℕ) (lines_left : List ℕ) (counts : Counts) : Type 0 where
-  pub later : faults first ≤ faults now
-  pub few_records : reach.count + length rest < 2 ^ 32
+pub record Running {F K : Type 0} (held : F → List ℕ → Held) (reads : F → List ℕ → ℕ) (shelf shelf' : F) (name : List ℕ) (content : K → Option (List ℕ)) (writes : K → ℕ) (first now : K)
+    (requests : List ℕ) (begun progress : Progress) (number last : ℕ) (lines_left : List ℕ) (counts : Counts) : Type 0 where
+  pub same : (each : List ℕ) → held shelf' each ≡ held shelf each
+  pub reads_later : (each : List ℕ) → reads shelf each ≤ reads shelf' each
+  pub later : writes first ≤ writes now
   pub few_lines : number + length lines_left < 2 ^ 64
   pub first_number : 1 ≤ number
-  pub run : (frames : List Frame) (asked : List TimedDatagram) → IsCapture capture frames → AreRequests requests asked
-      → InRun (content first) (content now) frames asked reach rest number last lines_left counts
+  pub judged : SameJudged (requests_from number last (lines lines_left)) (requests_of requests)
+  pub run : (bytes : List ℕ) (frames : List Frame) (stop : Stop) (asked : List TimedDatagram) → held shelf name ≡ File bytes → Leaves begun bytes frames stop → begun.reach.count ≡ 0
+      → AreRequests requests asked → InRun (content first) (content now) bytes frames stop asked progress number last lines_left counts

@@ -1,5 +1,4 @@
 pub mod Capture
-pub mod Records
 pub mod Lines
 pub mod Taking
 pub mod Whole

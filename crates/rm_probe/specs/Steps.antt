@@ -1,40 +1,77 @@
 -- What the steps of a run do.
-use Rattle.std.specs.Prelude.{◌≡◌, ℕ, ◌+◌, List, length, take_while, Option, Result, Ok, Err}
-use Rattle.rm_edge.specs.Outside.{Adds, AddsFront}
+use Rattle.std.specs.Prelude.{◌≡◌, ℕ, ◌+◌, List, length, take_while, Option, Result, Ok, Err, ⊤}
+use Rattle.rm_edge.specs.Outside.{Adds, AddsFront, Held, File, OfFile, Rose}
 use Rattle.rm_model.specs.Journal.{Frame, Journal, after_frames}
-use Rattle.rm_probe.specs.Capture.{AreRecords}
+use Rattle.rm_pcap.specs.Records.{Stop, Broken, AreRecords}
+use Rattle.rm_pcap.specs.Progress.{Progress, Agrees}
+use Rattle.rm_pcap.specs.declared.fault.PcapFault.{PcapFault}
+use Rattle.rm_pcap.specs.declared.fault.PcapFault.TheVariants.{Included, Original, Late, TooMany, Read}
+use Rattle.rm_probe.specs.Capture.{IsCaptureFile, CallsFor}
 use Rattle.rm_probe.specs.Lines.{TimedDatagram}
 use Rattle.rm_probe.specs.Events.{is_by, frames_after}
-use Rattle.rm_probe.specs.Text.{IsAnswer, IsText}
+use Rattle.rm_probe.specs.Text.{IsAnswer, IsText, last_line}
 use Rattle.rm_probe.specs.Counted.{StandsFor}
-use Rattle.rm_probe.specs.declared.capture.Reach.{Reach}
-use Rattle.rm_probe.specs.declared.capture.Records.{Records}
-use Rattle.rm_probe.specs.declared.capture.Broken.{Broken}
 use Rattle.rm_probe.specs.declared.counts.Counts.{Counts}
 use Rattle.rm_probe.specs.declared.status.Status.{Status}
-use Rattle.rm_probe.specs.declared.status.Status.TheVariants.{Done, WriteFault}
+use Rattle.rm_probe.specs.declared.status.Status.TheVariants.{Done, BadCapture, ReadFault, WriteFault, NoMemory, TooLong}
+
+-- the faults of a record, and of a read
+abbrev pub IsOfRecord : PcapFault → Type 0
+IsOfRecord (Included at) = ⊤
+IsOfRecord (Original at) = ⊤
+IsOfRecord (Late at) = ⊤
+IsOfRecord TooMany = ⊤
+IsOfRecord Read = ⊤
+IsOfRecord fault = ⊥
+
+-- what judging a capture answers
+abbrev pub JudgesCapture : {T : Type 0} → Held → ℕ → ℕ → Result T Status → Type 0
+JudgesCapture held before now (Ok done) = OfFile held IsCaptureFile
+JudgesCapture held before now (Err ReadFault) = Rose before now
+JudgesCapture held before now (Err NoMemory) = ⊤
+JudgesCapture held before now (Err (BadCapture at)) = OfFile held (CallsFor (BadCapture at))
+JudgesCapture held before now (Err TooLong) = OfFile held (CallsFor TooLong)
+JudgesCapture held before now (Err other) = ⊥
+
+-- of a file of these octets, the records that aren't passed yet have these frames, and stop so
+pub record Leaves (progress : Progress) (bytes : List ℕ) (frames : List Frame) (stop : Stop) : Type 0 where
+  pub agrees : Agrees progress bytes
+  pub records : AreRecords progress.form progress.lead progress.reach bytes frames stop
 
 -- what the frames up to a moment leave, and what they have made of the counters and the journal
-pub record Advanced (moment : ℕ) (reach : Reach) (rest : List ℕ) (counts : Counts) (before : ℕ) (frames : List Frame) (journal : Journal) : Type 0 where
-  pub left : AreRecords reach rest (frames_after moment frames)
+pub record Advanced (moment : ℕ) (bytes : List ℕ) (progress : Progress) (counts : Counts) (before : ℕ) (frames : List Frame) (stop : Stop) (journal : Journal) : Type 0 where
+  pub left : Leaves progress bytes (frames_after moment frames) stop
   pub stands : StandsFor counts (after_frames (take_while (is_by moment) frames) journal)
-  pub count : reach.count + length (frames_after moment frames) ≡ before + length frames
+  pub count : progress.reach.count + length (frames_after moment frames) ≡ before + length frames
 
--- Whatever the frames left and the journal are, those up to the moment go from the one to the other.
-abbrev pub Advances : ℕ → Reach → List ℕ → Counts → Counts → Result Records Broken → Type 0
-Advances moment reach rest old new (Ok after) =
-    (frames : List Frame) (journal : Journal) → AreRecords reach rest frames → StandsFor old journal
-    → Advanced moment after.reach after.rest.now new reach.count frames journal
-Advances moment reach rest old new (Err e) =
-    (frames : List Frame) (journal : Journal) → AreRecords reach rest frames → StandsFor old journal → ⊥
+-- Whatever the frames left and the journal are, those up to the moment go from the one to the other. A fault is that of a
+-- read, or of the records left.
+abbrev pub Advances : {T : Type 0} → ℕ → List ℕ → Progress → Progress → Counts → Counts → Result T PcapFault → Type 0
+Advances moment bytes old new counts counts' (Ok done) =
+    (frames : List Frame) (stop : Stop) (journal : Journal) → Leaves old bytes frames stop → StandsFor counts journal
+    → Advanced moment bytes new counts' old.reach.count frames stop journal
+Advances moment bytes old new counts counts' (Err Read) = ⊤
+Advances moment bytes old new counts counts' (Err fault) =
+    (frames : List Frame) (stop : Stop) (journal : Journal) → Leaves old bytes frames stop → StandsFor counts journal → stop ≡ Broken fault
 
 -- Whatever the journal is, the line is an answer, and the counters stand for the journal after it.
 abbrev pub Answers : Counts → Counts → ℕ → TimedDatagram → List ℕ → Type 0
 Answers old new number request line =
     (journal : Journal) → StandsFor old journal → (after : Journal) × IsAnswer journal number request line after × StandsFor new after
 
--- what a run writes: its text, or a front of it where a put failed
-abbrev pub Writes : List Frame → List TimedDatagram → Option (List ℕ) → Option (List ℕ) → Status → Type 0
-Writes frames requests old new Done = (text : List ℕ) × IsText frames requests text × Adds old new text
-Writes frames requests old new WriteFault = (text : List ℕ) × IsText frames requests text × AddsFront old new text
-Writes frames requests old new other = ⊥
+-- what a run writes: its text, or a front of it where a read or a put failed, or nothing for want of memory
+abbrev pub Writes : List Frame → Stop → List TimedDatagram → Option (List ℕ) → Option (List ℕ) → Status → Type 0
+Writes frames stop requests old new Done = (text : List ℕ) × IsText frames stop requests text × Adds old new text
+Writes frames stop requests old new WriteFault = (text : List ℕ) × IsText frames stop requests text × AddsFront old new text
+Writes frames stop requests old new ReadFault = (text : List ℕ) × IsText frames stop requests text × AddsFront old new text
+Writes frames stop requests old new NoMemory = new ≡ old
+Writes frames stop requests old new other = ⊥
+
+-- What the last line says: of all the frames that were passed and are left. A fault is that of a read, or of the records left.
+abbrev pub Finishes : {T : Type 0} → List ℕ → Progress → Counts → ℕ → List ℕ → Result T PcapFault → Type 0
+Finishes bytes progress counts requests line (Ok done) =
+    (frames : List Frame) (stop : Stop) (journal : Journal) → Leaves progress bytes frames stop → StandsFor counts journal
+    → line ≡ last_line stop (progress.reach.count + length frames) requests
+Finishes bytes progress counts requests line (Err Read) = ⊤
+Finishes bytes progress counts requests line (Err fault) =
+    (frames : List Frame) (stop : Stop) (journal : Journal) → Leaves progress bytes frames stop → StandsFor counts journal → stop ≡ Broken fault

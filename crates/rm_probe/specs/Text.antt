@@ -2,6 +2,7 @@
 use Rattle.std.specs.Prelude.{◌≡◌, ℕ, true, if◌then◌else◌, List, [], ◌∷◌, ◌++◌, length, decimal, codes}
 use Rattle.hex.specs.Hex.{encode_lower}
 use Rattle.rm_model.specs.Journal.{Frame, Journal, passes}
+use Rattle.rm_pcap.specs.Records.{Stop, CutAt}
 use Rattle.rm_pdu.specs.declared.kind.Kind.{Kind}
 use Rattle.rm_pdu.specs.declared.kind.Kind.TheVariants.{Get}
 use Rattle.rm_pdu.specs.Message.{Message, message_octets}
@@ -38,12 +39,17 @@ AreLines journal (Comes frame ∷ events) text = AreLines (passes frame ∷ jour
 AreLines journal (Asks number request ∷ events) text =
     (line rest : List ℕ) × (after : Journal) × IsAnswer journal number request line after × (text ≡ line ++ rest) × AreLines after events rest
 
--- the last line: how many frames and how many datagrams there were
-unfoldable pub last_line : ℕ → ℕ → List ℕ
-last_line frames requests = codes "end " ++ decimal frames ++ codes " " ++ decimal requests ++ codes "\n"
+-- what the last line begins with: whether the capture was cut short
+abbrev pub last_word : Stop → List ℕ
+last_word (CutAt at) = codes "cut"
+last_word stop = codes "end"
 
--- The text may be written for these frames and datagrams, of which nothing is left.
-pub record IsText (frames : List Frame) (requests : List TimedDatagram) (text : List ℕ) : Type 0 where
+-- the last line: how many frames and how many datagrams there were
+unfoldable pub last_line : Stop → ℕ → ℕ → List ℕ
+last_line stop frames requests = last_word stop ++ codes " " ++ decimal frames ++ codes " " ++ decimal requests ++ codes "\n"
+
+-- The text may be written for these frames and datagrams, of which nothing is left, where the capture's records stop so.
+pub record IsText (frames : List Frame) (stop : Stop) (requests : List TimedDatagram) (text : List ℕ) : Type 0 where
   pub lines : List ℕ
   pub are_lines : AreLines [] (events 1 frames requests) lines
-  pub whole : text ≡ lines ++ last_line (length frames) (length requests)
+  pub whole : text ≡ lines ++ last_line stop (length frames) (length requests)

@@ -5,8 +5,8 @@ ghost use Rattle.rm_val.specs.Val.{val_of};
 ghost use Rattle.rm_val.specs.Spellable.{HasSpelling};
 ghost use Rattle.rm_probe.specs.Values.{answer_for};
 
-use crate::capture::Frame;
 use crate::names::{self, ETHER_STATS_OCTETS_1, ETHER_STATS_PKTS_1, SYS_UP_TIME_0};
+use rm_pcap::Frame;
 use rm_val::{Oid, Value};
 
 /// The least length of a frame without its check sequence; a shorter one was padded to it on the wire.
@@ -24,7 +24,7 @@ pub struct Counts {
 
 impl Counts {
     ghost use Rattle.rm_model.specs.Journal.{Journal, passes};
-    ghost use Rattle.rm_probe.specs.Records.{passed_of};
+    ghost use Rattle.rm_pcap.specs.Progress.{frame_of};
     ghost use Rattle.rm_probe.specs.Values.{cell, value_at};
     ghost use Rattle.rm_probe.specs.Counted.{StandsFor};
 
@@ -40,7 +40,7 @@ impl Counts {
 
     /// Counts a frame.
     pub fn frame(&mut self, frame: Frame<'_>)
-        ensures { (journal : Journal) → StandsFor self.old journal → StandsFor self.new (passes (passed_of frame.entry) ∷ journal) }
+        ensures { (journal : Journal) → StandsFor self.old journal → StandsFor self.new (passes (frame_of frame.entry) ∷ journal) }
     {
         self.packets = self.packets.wrapping_add(1);
         self.octets = self

@@ -1,8 +1,8 @@
 // The top call.
 ghost use Rattle.std.specs.Prelude.{◌≡◌, ◌+◌, ◌≤◌, ◌↔◌, ◌∷◌, ℕ, List, length, Some, None, MatchOption};
 ghost use Rattle.rm_edge.specs.Outside.{Held};
-ghost use Rattle.rm_probe.specs.Ends.{Ends, IsComplete, IsExact, OfReplay, replay_of, is_operand};
-ghost use Rattle.rm_probe.specs.declared.status.Status.TheVariants.{Done, Usage, WriteFault};
+ghost use Rattle.rm_probe.specs.Ends.{Ends, IsComplete, IsExact, IsSilent, JudgesFiles, OfReplay, replay_of, is_operand};
+ghost use Rattle.rm_probe.specs.declared.status.Status.TheVariants.{Usage};
 
 use crate::capture;
 use crate::lines::{self, MOST_DATAGRAM};
@@ -10,6 +10,7 @@ use crate::replay::write_run;
 use crate::status::Status;
 use crate::whole::read_whole;
 use rm_edge::{Clock, Link, Shelf, Sink, Words};
+use rm_pcap::one_reading;
 use std::alloc::Global;
 
 /// Runs the words of a command line.
@@ -41,7 +42,7 @@ pub fn run<F: Shelf, K: Sink, L: Link, T: Clock>(
         IsComplete (F.held shelf.old capture) (F.held shelf.old requests)
         (F.faults shelf.old capture + F.faults shelf.old requests) (F.faults shelf.new capture + F.faults shelf.new requests)
         (K.faults out.old) (K.faults out.new) result) }
-    ensures silent { (result ≡ Done → ⊥) → (result ≡ WriteFault → ⊥) → K.content out.new ≡ K.content out.old }
+    ensures silent { IsSilent result → K.content out.new ≡ K.content out.old }
 
     // The link and the clock keep what they hold.
     ensures bound { L.bound link.new ≡ L.bound link.old }
@@ -49,6 +50,7 @@ pub fn run<F: Shelf, K: Sink, L: Link, T: Clock>(
     ensures sent { L.sent link.new ≡ L.sent link.old }
     ensures told { T.told clock.new ≡ T.told clock.old }
 {
+    one_reading();
     match replay_words(words) {
         None => Status::Usage,
         Some((capture, requests)) => replay(alloc, capture, requests, shelf, out),
@@ -81,6 +83,39 @@ fn replay_words(words: &Words) -> Option<(&str, &str)>
     }
 }
 
+/// A request file that was judged, with room for one of its datagrams.
+#[derive(Drop)]
+struct Judged {
+    requests: Vec<u8>,
+    datagram: Vec<u8>,
+}
+
+// Judges both files, the capture first.
+fn judge<F: Shelf>(
+    alloc: Global,
+    capture: &str,
+    requests: &str,
+    shelf: &mut F,
+) -> Result<Judged, Status>
+    ensures constant { (each : List ℕ) → F.held shelf.new each ≡ F.held shelf.old each }
+    ensures later { (each : List ℕ) → F.faults shelf.old each ≤ F.faults shelf.new each }
+    ensures judged { JudgesFiles (F.held shelf.old capture.now) (F.held shelf.old requests.now)
+        (F.faults shelf.old capture.now + F.faults shelf.old requests.now) (F.faults shelf.new capture.now + F.faults shelf.new requests.now) result }
+{
+    match capture::judge(alloc, shelf, capture) {
+        Ok(()) => (),
+        Err(status) => return Err(status),
+    }
+    let requests = read_whole(alloc, shelf, requests)?;
+    let Ok(mut datagram) = vec![in alloc; 0u8; MOST_DATAGRAM] else {
+        return Err(Status::NoMemory);
+    };
+    match lines::judge(&requests, &mut datagram) {
+        Ok(()) => Ok(Judged { requests, datagram }),
+        Err(line) => Err(Status::BadRequests(line)),
+    }
+}
+
 fn replay<F: Shelf, K: Sink>(
     alloc: Global,
     capture: &str,
@@ -88,26 +123,13 @@ fn replay<F: Shelf, K: Sink>(
     shelf: &mut F,
     out: &mut K,
 ) -> Status
-    ensures { Ends (F.held shelf.old capture.now) (F.held shelf.old requests.now)
+    ensures ends { Ends (F.held shelf.old capture.now) (F.held shelf.old requests.now)
         (F.faults shelf.old capture.now + F.faults shelf.old requests.now) (F.faults shelf.new capture.now + F.faults shelf.new requests.now)
         (K.faults out.old) (K.faults out.new) (K.content out.old) (K.content out.new) result }
+    ensures silent { IsSilent result → K.content out.new ≡ K.content out.old }
 {
-    let capture = match read_whole(alloc, shelf, capture) {
-        Ok(bytes) => bytes,
-        Err(status) => return status,
-    };
-    if !capture::is_capture(&capture) {
-        return Status::BadCapture(0);
-    }
-    let requests = match read_whole(alloc, shelf, requests) {
-        Ok(bytes) => bytes,
-        Err(status) => return status,
-    };
-    let Ok(mut buffer) = vec![in alloc; 0u8; MOST_DATAGRAM] else {
-        return Status::NoMemory;
-    };
-    match lines::judge(&requests, &mut buffer) {
-        Ok(()) => write_run(&capture, &requests, &mut buffer, out),
-        Err(line) => Status::BadRequests(line),
+    match judge(alloc, capture, requests, shelf) {
+        Ok(mut judged) => write_run(alloc, shelf, capture, &judged.requests, &mut judged.datagram, out),
+        Err(status) => status,
     }
 }

@@ -4,11 +4,14 @@ ghost use Rattle.hex.specs.Hex.{encode_lower};
 ghost use Rattle.rm_probe.specs.Answers.{reason_text, answer_text, IsShort};
 ghost use Rattle.rm_probe.specs.Text.{last_line};
 ghost use Rattle.rm_probe.specs.Steps.{Answers};
+ghost use Rattle.rm_pcap.specs.Records.{Stop, Stops};
+ghost use Rattle.rm_pcap.specs.Progress.{Shows};
 
 use crate::answer::{self, Answer, MOST_REPLY, Reason};
 use crate::counts::Counts;
 use arrayvec::ArrayVec;
 use itoa::Buffer;
+use rm_pcap::Step;
 
 /// The octets of a line, its line feed included.
 pub type Line = ArrayVec<u8, 3072>;
@@ -90,13 +93,17 @@ pub fn push_line(line: &mut Line, counts: &Counts, number: u64, moment: u32, dat
     push(line, b"\n");
 }
 
-/// Writes the last line into an empty line.
+/// Writes the last line into an empty line. The step tells whether the capture was cut short.
 #[tactic(auto, unfolding(crate::specs::Text::last_line))]
-pub fn last_line(frames: u64, requests: u64, line: &mut Line)
+pub fn last_line(step: Step<'_>, frames: u64, requests: u64, line: &mut Line)
     requires { line.old.items ≡ [] }
-    ensures { line.new.items ≡ last_line frames requests }
+    ensures { (stop : Stop) → Shows step.entry (Stops stop) → line.new.items ≡ last_line stop frames requests }
 {
-    push(line, b"end ");
+    match step {
+        Step::Cut(_) => push(line, b"cut"),
+        _ => push(line, b"end"),
+    }
+    push(line, b" ");
     push_number(line, frames);
     push(line, b" ");
     push_number(line, requests);

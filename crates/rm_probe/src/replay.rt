@@ -1,58 +1,112 @@
-// Replays a capture against the datagrams of a request file, both of the form and held whole.
-ghost use Rattle.std.specs.Prelude.{◌≡◌, ◌+◌, ◌≤◌, ◌<◌, ◌^◌, ℕ, List, length, Some, Ok, OnErr, IfOk, []};
-ghost use Rattle.rm_edge.specs.Outside.{Rose};
+// Replays a capture against the datagrams of a request file, which were judged before.
+ghost use Rattle.std.specs.Prelude.{◌≡◌, ◌+◌, ◌≤◌, ◌<◌, ◌^◌, ℕ, List, length, Some, Ok, Err, OnOk, IsOk, IfErr, []};
+ghost use Rattle.rm_edge.specs.Outside.{Rose, File};
 ghost use Rattle.rm_model.specs.Journal.{Frame};
-ghost use Rattle.rm_probe.specs.Capture.{IsCapture};
-ghost use Rattle.rm_probe.specs.Lines.{TimedDatagram, AreRequests};
-ghost use Rattle.rm_probe.specs.Steps.{Advances, Writes};
-ghost use Rattle.rm_probe.specs.declared.status.Status.TheVariants.{WriteFault};
+ghost use Rattle.rm_pcap.specs.View.{progress_of};
+ghost use Rattle.rm_pcap.specs.Records.{Stop, Stops};
+ghost use Rattle.rm_pcap.specs.declared.fault.PcapFault.TheVariants.{Read};
+ghost use Rattle.rm_probe.specs.Capture.{IsCapture, IsFaultless};
+ghost use Rattle.rm_probe.specs.Lines.{TimedDatagram, AreRequests, requests_of};
+ghost use Rattle.rm_probe.specs.Steps.{Advances, Finishes, IsOfRecord, Leaves, Writes};
+ghost use Rattle.rm_probe.specs.Ends.{IsSilent};
+ghost use Rattle.rm_probe.specs.declared.status.Status.TheVariants.{BadRequests, ReadFault, WriteFault, NoMemory};
 
-use crate::capture::{self, Broken, Records};
+use crate::capture::LEAD;
 use crate::counts::Counts;
 use crate::line::{self, Line};
 use crate::lines;
 use crate::status::Status;
-use rm_edge::Sink;
+use rm_edge::{Shelf, Sink};
+use rm_pcap::{Capture, PcapFault, Step};
 use rm_pdu::every_verdict;
+use std::alloc::Global;
 
 /// Counts the frames up to a moment.
-fn advance<'a>(
-    records: Records<'a>,
+fn advance<F: Shelf>(
+    capture: &mut Capture,
+    shelf: &mut F,
+    name: &str,
     counts: &mut Counts,
     moment: u32,
-) -> Result<Records<'a>, Broken>
-    requires { records.reach.count + length records.rest.now < 2 ^ 32 }
-    ensures passed { Advances moment records.entry.reach records.entry.rest.now counts.old counts.new result }
-    ensures all { moment ≡ 4294967295 → IfOk result (λ after. after.rest.now ≡ []) }
-    ensures few { IfOk result (λ after. after.reach.count + length after.rest.now < 2 ^ 32) }
+) -> Result<(), PcapFault>
+    ensures constant { (each : List ℕ) → F.held shelf.new each ≡ F.held shelf.old each }
+    ensures later { (each : List ℕ) → F.faults shelf.old each ≤ F.faults shelf.new each }
+    ensures cause { result ≡ Err Read → Rose (F.faults shelf.old name.now) (F.faults shelf.new name.now) }
+    ensures kinds { IfErr result IsOfRecord }
+    ensures passed { (bytes : List ℕ) → F.held shelf.old name.now ≡ File bytes
+        → Advances moment bytes (progress_of capture.old) (progress_of capture.new) counts.old counts.new result }
+    ensures all { moment ≡ 4294967295 → OnOk result ((stop : Stop) × ((progress_of capture.new).ahead ≡ Some (Stops stop))) }
 {
-    let mut records = records;
     loop {
-        let found = match capture::next_record(records) {
-            Ok(Some(found)) => found,
-            Ok(None) => return Ok(records),
-            Err(broken) => return Err(broken),
+        let next = match capture.peek(shelf, name) {
+            Ok(Some(next)) => next,
+            Ok(None) => return Ok(()),
+            Err(fault) => return Err(fault),
         };
-        if found.frame.moment > moment {
-            return Ok(records);
+        if next > moment {
+            return Ok(());
         }
-        counts.frame(found.frame);
-        records = found.next;
+        match capture.next(shelf, name) {
+            Ok(Step::Next(frame)) => counts.frame(frame),
+            Ok(_) => return Ok(()),
+            Err(fault) => return Err(fault),
+        }
     }
 }
 
-/// Writes the text of a capture and of the datagrams of a request file. Each datagram is read into `buffer`.
-pub fn write_run<K: Sink>(capture: &[u8], requests: &[u8], buffer: &mut [u8], out: &mut K) -> Status
+/// Counts the frames that are left, and writes the last line into an empty line, after so many datagrams.
+fn finish<F: Shelf>(
+    capture: &mut Capture,
+    shelf: &mut F,
+    name: &str,
+    counts: &mut Counts,
+    requests: u64,
+    line: &mut Line,
+) -> Result<(), PcapFault>
+    requires { line.old.items ≡ [] }
+    ensures constant { (each : List ℕ) → F.held shelf.new each ≡ F.held shelf.old each }
+    ensures later { (each : List ℕ) → F.faults shelf.old each ≤ F.faults shelf.new each }
+    ensures cause { result ≡ Err Read → Rose (F.faults shelf.old name.now) (F.faults shelf.new name.now) }
+    ensures kinds { IfErr result IsOfRecord }
+    ensures last { (bytes : List ℕ) → F.held shelf.old name.now ≡ File bytes
+        → Finishes bytes (progress_of capture.old) counts.old requests line.new.items result }
+{
+    match advance(capture, shelf, name, counts, u32::MAX) {
+        Ok(()) => (),
+        Err(fault) => return Err(fault),
+    }
+    let frames = u64::from(capture.count());
+    match capture.next(shelf, name) {
+        Ok(step) => {
+            line::last_line(step, frames, requests, line);
+            Ok(())
+        }
+        Err(fault) => Err(fault),
+    }
+}
+
+/// Writes the lines of the datagrams of a request file, and the last one. Each datagram is read into `buffer`.
+fn write_lines<F: Shelf, K: Sink>(
+    capture: &mut Capture,
+    shelf: &mut F,
+    name: &str,
+    requests: &[u8],
+    buffer: &mut [u8],
+    out: &mut K,
+) -> Status
     requires room { 65535 ≤ length buffer.old }
-    requires few { length capture.now + length requests.now < 2 ^ 32 }
-    requires header { 24 ≤ length capture.now }
-    ensures text { (frames : List Frame) (asked : List TimedDatagram) → IsCapture capture.now frames → AreRequests requests.now asked
-        → Writes frames asked (K.content out.old) (K.content out.new) result }
+    requires few { length requests.now < 2 ^ 32 }
+    requires judged { IsOk (requests_of requests.now) }
+    ensures text { (bytes : List ℕ) (frames : List Frame) (stop : Stop) (asked : List TimedDatagram) → F.held shelf.old name.now ≡ File bytes
+        → Leaves (progress_of capture.old) bytes frames stop → (progress_of capture.old).reach.count ≡ 0 → IsFaultless stop → AreRequests requests.now asked
+        → Writes frames stop asked (K.content out.old) (K.content out.new) result }
     ensures later { K.faults out.old ≤ K.faults out.new }
-    ensures fault { result ≡ WriteFault → Rose (K.faults out.old) (K.faults out.new) }
+    ensures reads { result ≡ ReadFault → Rose (F.faults shelf.old name.now) (F.faults shelf.new name.now) }
+    ensures writes { result ≡ WriteFault → Rose (K.faults out.old) (K.faults out.new) }
+    ensures read_later { (each : List ℕ) → F.faults shelf.old each ≤ F.faults shelf.new each }
+    ensures loud { IsSilent result → ⊥ }
 {
     every_verdict();
-    let mut records = capture::first_record(capture);
     let mut cursor = lines::first_request(requests);
     let mut counts = Counts::new();
     let mut line = Line::new();
@@ -62,31 +116,53 @@ pub fn write_run<K: Sink>(capture: &[u8], requests: &[u8], buffer: &mut [u8], ou
             Ok(None) => break,
             Err(number) => return Status::BadRequests(number),
         };
-        records = match advance(records, &mut counts, taken.moment) {
-            Ok(after) => after,
-            Err(_) => return Status::BadCapture(0),
-        };
+        match advance(capture, shelf, name, &mut counts, taken.moment) {
+            Ok(()) => (),
+            Err(fault) => return Status::from(fault),
+        }
         line.clear();
-        line::push_line(
-            &mut line,
-            &counts,
-            cursor.number,
-            taken.moment,
-            &buffer[..taken.count],
-        );
+        line::push_line(&mut line, &counts, cursor.number, taken.moment, &buffer[..taken.count]);
         match out.put(line.as_slice()) {
             Ok(()) => cursor = taken.next,
             Err(_) => return Status::WriteFault,
         }
     }
-    records = match advance(records, &mut counts, u32::MAX) {
-        Ok(after) => after,
-        Err(_) => return Status::BadCapture(0),
-    };
     line.clear();
-    line::last_line(u64::from(records.reach.count), cursor.number - 1, &mut line);
+    match finish(capture, shelf, name, &mut counts, cursor.number - 1, &mut line) {
+        Ok(()) => (),
+        Err(fault) => return Status::from(fault),
+    }
     match out.put(line.as_slice()) {
         Ok(()) => Status::Done,
         Err(_) => Status::WriteFault,
+    }
+}
+
+/// Reads the capture again, and writes the text of it and of the datagrams of a request file.
+pub fn write_run<F: Shelf, K: Sink>(
+    alloc: Global,
+    shelf: &mut F,
+    name: &str,
+    requests: &[u8],
+    buffer: &mut [u8],
+    out: &mut K,
+) -> Status
+    requires room { 65535 ≤ length buffer.old }
+    requires few { length requests.now < 2 ^ 32 }
+    requires judged { IsOk (requests_of requests.now) }
+    ensures text { (bytes : List ℕ) (frames : List Frame) (stop : Stop) (asked : List TimedDatagram) → F.held shelf.old name.now ≡ File bytes
+        → IsCapture bytes frames stop → AreRequests requests.now asked
+        → Writes frames stop asked (K.content out.old) (K.content out.new) result }
+    ensures reads { result ≡ ReadFault → Rose (F.faults shelf.old name.now) (F.faults shelf.new name.now) }
+    ensures writes { result ≡ WriteFault → Rose (K.faults out.old) (K.faults out.new) }
+    ensures silent { IsSilent result → K.content out.new ≡ K.content out.old }
+    ensures later { K.faults out.old ≤ K.faults out.new }
+    ensures read_later { (each : List ℕ) → F.faults shelf.old each ≤ F.faults shelf.new each }
+    ensures kinds { IsSilent result → result ≡ NoMemory }
+{
+    every_verdict();
+    match Capture::begin(alloc, shelf, name, LEAD) {
+        Ok(mut capture) => write_lines(&mut capture, shelf, name, requests, buffer, out),
+        Err(fault) => Status::from(fault),
     }
 }

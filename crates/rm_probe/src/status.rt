@@ -1,6 +1,7 @@
 // How a run ended.
 ghost use Rattle.std.specs.Prelude.{◌≡◌, Some};
 
+use rm_pcap::PcapFault;
 use std::fmt::{self, Display, Formatter, Write};
 
 /// How a run ended.
@@ -22,7 +23,7 @@ pub enum Status {
     NoMemory,
     /// A call on the socket failed.
     LinkFault,
-    /// A file has more octets than are taken.
+    /// The capture has too many records, or the request file too many octets.
     TooLong,
 }
 
@@ -43,6 +44,28 @@ impl Status {
             Status::NoMemory => 7,
             Status::LinkFault => 8,
             Status::TooLong => 9,
+        }
+    }
+}
+
+/// How a run ends by a fault of its capture.
+impl From<PcapFault> for Status {
+    ghost use Rattle.std.specs.Prelude.{◌≡◌};
+    ghost use Rattle.rm_probe.specs.Capture.{status_of};
+
+    ghost from_gives = { λ fault status. status ≡ status_of fault };
+
+    fn from(fault: PcapFault) -> Status {
+        match fault {
+            PcapFault::Magic => Status::BadCapture(0),
+            PcapFault::Version => Status::BadCapture(4),
+            PcapFault::LinkType => Status::BadCapture(20),
+            PcapFault::Included(at) | PcapFault::Original(at) | PcapFault::Late(at) => {
+                Status::BadCapture(at)
+            }
+            PcapFault::TooMany => Status::TooLong,
+            PcapFault::Read => Status::ReadFault,
+            PcapFault::NoMemory => Status::NoMemory,
         }
     }
 }

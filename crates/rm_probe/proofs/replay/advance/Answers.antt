@@ -1,45 +1,57 @@
-use Rattle.std.proofs.Common.{arith}
-use Rattle.rm_probe.specs.Capture.{Recorded}
-use Rattle.rm_probe.specs.Records.{passed_of}
-use Rattle.rm_probe.proofs.RecordLemmas.{records_none, records_more, records_broken}
-use Rattle.rm_probe.proofs.FrameLemmas.{passed_none, passed_one, stops_none, stops_later, stop}
+use Rattle.std.proofs.Common.{◌≡◌, Some, Ok, refl, sym, ap, ◌∙◌, arith}
+use Rattle.rm_pcap.specs.View.{progress_of}
+use Rattle.rm_pcap.specs.Calls.{Steps}
+use Rattle.rm_pcap.specs.Progress.{Progress}
+use Rattle.rm_pcap.specs.Records.{Found}
+use Rattle.rm_pcap.specs.declared.frame.Step.TheVariants.{Next}
+use Rattle.rm_probe.proofs.FrameLemmas.{passed_none, passed_found, halt, later_moment, no_moment, advances_fault}
 use Rattle.rm_probe.proofs.replay.advance.Goals as goal
 
-pub loop-found-init : goal.loop-found-init
-loop-found-init c = (
-  c.requires,
-  λ frames journal left stands. passed_none c.args.moment c.args.records.reach c.args.records.rest.now c.args.counts.now frames journal left stands,
-)
-
-pub returns-in-Err-clause-passed : goal.returns-in-Err-clause-passed
-returns-in-Err-clause-passed c = λ frames journal left stands.
-    let p = c.loop-found.invariant.1 frames journal left stands in
-    let broken = c.in-Err.ensures in
-    records_broken c.loop-found.records.reach c.loop-found.records.rest.now p.left broken.0 broken.1 p.records_left
+pub loop-next-init : goal.loop-next-init
+loop-next-init g c = record {
+  same = λ each. refl;
+  later = λ each. omega arith;
+  passed = λ bytes is frames stop journal left stands. passed_none c.args.moment bytes (progress_of c.args.capture.now) c.args.counts.now frames stop journal left stands;
+}
 
 pub returns-in-Ok-None-clause-passed : goal.returns-in-Ok-None-clause-passed
-returns-in-Ok-None-clause-passed c = λ frames journal left stands.
-    let p = c.loop-found.invariant.1 frames journal left stands in
-    let none = rw c.in-Ok-None.field-0-is at c.in-Ok-None.ensures in
-    stop c.args.moment c.loop-found.records.reach c.loop-found.records.rest.now c.loop-found.counts c.args.records.reach.count frames journal p
-    (stops_none c.args.moment p.left (records_none c.loop-found.records.reach c.loop-found.records.rest.now p.left none p.records_left))
+returns-in-Ok-None-clause-passed g c = λ bytes is frames stop journal left stands.
+    let i = c.loop-next.invariant in
+    let (found, looks, moment_is) = c.in-Ok-None.ensures.looks in
+    halt c.args.moment (g.F.Shelf.held c.loop-next.shelf c.args.name.now) bytes (progress_of c.loop-next.capture) (progress_of c.peek.new.self) c.loop-next.counts (progress_of c.args.capture.now).reach.count frames stop journal
+    found (i.same c.args.name.now ∙ is) looks (no_moment c.args.moment found (sym c.in-Ok-None.field-0-is ∙ moment_is)).0 (i.passed bytes is frames stop journal left stands)
 
-pub returns-then-found-moment-clause-passed : goal.returns-then-found-moment-clause-passed
-returns-then-found-moment-clause-passed c = λ frames journal left stands.
-    let p = c.loop-found.invariant.1 frames journal left stands in
-    let taken = rw c.in-Ok-Some.field-0-is at c.in-Ok-Some.ensures in
-    let at : Recorded = record { frame = passed_of c.in-Ok-Some.found.frame; reach = c.in-Ok-Some.found.next.reach; rest = c.in-Ok-Some.found.next.rest.now } in
-    let o = records_more c.loop-found.records.reach c.loop-found.records.rest.now at p.left taken.0 (omega (arith, taken.4)) p.records_left in
-    stop c.args.moment c.loop-found.records.reach c.loop-found.records.rest.now c.loop-found.counts c.args.records.reach.count frames journal p
-    (stops_later c.args.moment at.frame o.more p.left o.is c.if-found-moment.true)
+pub returns-in-Ok-None-clause-all : goal.returns-in-Ok-None-clause-all
+returns-in-Ok-None-clause-all g c = λ e.
+    let (found, looks, moment_is) = c.in-Ok-None.ensures.looks in
+    let (later, stop, stops) = no_moment c.args.moment found (sym c.in-Ok-None.field-0-is ∙ moment_is) in
+    (stop, ap (λ (p : Progress). p.ahead) looks.place ∙ ap (λ (f : Found). Some f) stops)
 
-pub loop-found-preserved : goal.loop-found-preserved
-loop-found-preserved c =
-    let taken = rw c.in-Ok-Some.field-0-is at c.in-Ok-Some.ensures in
-    let at : Recorded = record { frame = passed_of c.in-Ok-Some.found.frame; reach = c.in-Ok-Some.found.next.reach; rest = c.in-Ok-Some.found.next.rest.now } in (
-      omega (arith, c.loop-found.invariant.0, taken.3, taken.4),
-      λ frames journal left stands.
-          let p = c.loop-found.invariant.1 frames journal left stands in
-          passed_one c.args.moment c.loop-found.records.reach c.loop-found.records.rest.now c.loop-found.counts c.frame.new.self c.args.records.reach.count frames journal at
-          taken.0 taken.4 taken.3 c.if-found-moment.false c.frame.ensures p,
-    )
+pub returns-in-Err-clause-passed : goal.returns-in-Err-clause-passed
+returns-in-Err-clause-passed g c = λ bytes is.
+    let i = c.loop-next.invariant in
+    advances_fault c.args.moment (g.F.Shelf.held c.loop-next.shelf c.args.name.now) bytes (progress_of c.args.capture.now) (progress_of c.loop-next.capture) (progress_of c.peek.new.self) c.args.counts.now c.loop-next.counts c.loop-next.counts
+    c.in-Err.fault (i.same c.args.name.now ∙ is) c.in-Err.ensures.faults (i.passed bytes is)
+
+pub returns-then-next-moment-clause-passed : goal.returns-then-next-moment-clause-passed
+returns-then-next-moment-clause-passed g c = λ bytes is frames stop journal left stands.
+    let i = c.loop-next.invariant in
+    let (found, looks, moment_is) = c.in-Ok-Some.ensures.looks in
+    halt c.args.moment (g.F.Shelf.held c.loop-next.shelf c.args.name.now) bytes (progress_of c.loop-next.capture) (progress_of c.peek.new.self) c.loop-next.counts (progress_of c.args.capture.now).reach.count frames stop journal
+    found (i.same c.args.name.now ∙ is) looks (later_moment c.args.moment c.in-Ok-Some.next found (sym c.in-Ok-Some.field-0-is ∙ moment_is) c.if-next-moment.true) (i.passed bytes is frames stop journal left stands)
+
+pub loop-next-preserved : goal.loop-next-preserved
+loop-next-preserved g c =
+    let i = c.loop-next.invariant in
+    let (found, looks, moment_is) = c.in-Ok-Some.ensures.looks in
+    let steps : Steps (g.F.Shelf.held c.peek.new.shelf c.args.name.now) (progress_of c.peek.new.self) (progress_of c.next.follows.lender-at-none) c.next.result = c.next.follows.holds-at-none in
+    let step : c.next.result ≡ Ok (Next c.in-Ok-Next.frame) = c.in-Ok-Next.is ∙ ap Ok c.in-Ok-Next.field-0-is in
+    let (found', passes, shows) = rw step at steps in
+    record {
+      same = λ each. c.in-Ok-Next.ensures.constant each ∙ c.in-Ok-Some.ensures.constant each ∙ i.same each;
+      later = λ each. omega (arith, i.later each, c.in-Ok-Some.ensures.later each, c.in-Ok-Next.ensures.later each);
+      passed = λ bytes is frames stop journal left stands.
+          passed_found c.args.moment (g.F.Shelf.held c.loop-next.shelf c.args.name.now) (g.F.Shelf.held c.peek.new.shelf c.args.name.now) bytes (progress_of c.loop-next.capture) (progress_of c.peek.new.self) (progress_of c.next.follows.lender-at-none)
+          c.loop-next.counts c.frame.new.self (progress_of c.args.capture.now).reach.count frames stop journal found found' c.in-Ok-Some.next c.in-Ok-Next.frame (i.same c.args.name.now ∙ is) (c.in-Ok-Some.ensures.constant c.args.name.now) looks
+          (sym c.in-Ok-Some.field-0-is ∙ moment_is) c.if-next-moment.false passes shows c.frame.ensures (i.passed bytes is frames stop journal left stands);
+    }

@@ -1,14 +1,10 @@
-use Rattle.std.proofs.Common.{◌+◌, ◌<◌, ◌^◌, List, length}
-use Rattle.rm_model.specs.Journal.{Frame, Journal}
-use Rattle.rm_probe.specs.Capture.{AreRecords}
-use Rattle.rm_probe.specs.Counted.{StandsFor}
-use Rattle.rm_probe.proofs.FrameLemmas.{Passed}
+use Rattle.std.proofs.Common.{◌-◌}
+use Rattle.rm_pcap.specs.View.{progress_of}
+use Rattle.rm_probe.proofs.FrameLemmas.{Advancing}
 use Rattle.rm_probe.proofs.replay.advance.Given as goal
 
-abbrev pub invariant-loop-found : goal.invariant-loop-found
-invariant-loop-found l = (l.records.reach.count + length l.records.rest.now < 2 ^ 32)
-    × ((frames : List Frame) (journal : Journal) → AreRecords l.initial.records.reach l.initial.records.rest.now frames → StandsFor l.initial.counts journal
-    → Passed l.moment l.records.reach l.records.rest.now l.counts l.initial.records.reach.count frames journal)
+abbrev pub invariant-loop-next : goal.invariant-loop-next
+invariant-loop-next g l = Advancing g.F.Shelf.held g.F.Shelf.faults l.initial.shelf l.shelf l.name l.moment (progress_of l.initial.capture) (progress_of l.capture) l.initial.counts l.counts
 
-abbrev pub decreases-loop-found : goal.decreases-loop-found
-decreases-loop-found l = length l.records.rest.now
+abbrev pub decreases-loop-next : goal.decreases-loop-next
+decreases-loop-next g l = 100000001 - (progress_of l.capture).reach.count
