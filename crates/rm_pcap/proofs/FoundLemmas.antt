@@ -8,7 +8,7 @@ use Rattle.rm_pcap.specs.declared.reach.Reach.{Reach}
 use Rattle.rm_pcap.specs.declared.record.Record.{Record}
 use Rattle.rm_pcap.specs.Records.{Whole, Stops, Ended, CutAt, Broken, found_at, found_in, found_with, fault_at, included_of, frame_at, reach_after}
 use Rattle.rm_pcap.specs.Filling.{Fills}
-use Rattle.rm_pcap.specs.Seen.{record_of, frame_of}
+use Rattle.rm_pcap.specs.Seen.{record_of, frame_seen}
 use Rattle.rm_pcap.proofs.FrontLemmas.{record_front, fault_front}
 
 none_left : (form : Form) (lead : ℕ) (reach : Reach) (xs : List ℕ) → length xs ≡ 0 → found_in form lead reach xs ≡ Stops Ended
@@ -86,7 +86,7 @@ found_short form lead reach bytes header body seen count h none is long fills fe
 
 pub found_whole : (form : Form) (lead : ℕ) (reach : Reach) (bytes header body rest : List ℕ) (seen : Record) (count : ℕ) → length header ≡ 16 → IsHeader reach bytes header
     → fault_at form lead reach header ≡ None → seen ≡ record_of form lead reach header → length body ≡ seen.included → Fills bytes (reach.at + 16) count body → seen.included ≤ count
-    → Whole (frame_of seen (header ++ (body ++ rest))) seen.after ≡ found_at form lead reach bytes
+    → Whole (frame_seen seen (header ++ (body ++ rest))) seen.after ≡ found_at form lead reach bytes
 found_whole form lead reach bytes header body rest seen count sixteen h none is long fills all =
     let s = is_sound form lead reach bytes header seen h none is in
     let xs = drop reach.at bytes in
@@ -99,4 +99,4 @@ found_whole form lead reach bytes header body rest seen count sixteen h none is 
     ∙ ap (take seen.included) (sym (drop-drop 16 reach.at bytes)) in
     let whole : found_with form lead reach xs None ≡ Whole (frame_at form lead reach xs) (reach_after form lead reach xs) = grind (arith, nat_tests) in
     ap (λ (t : List ℕ). Whole (record { interface = 1; moment = seen.after.last; number = seen.after.count; octets = t; original = seen.original }) seen.after) octets
-    ∙ ap (λ (r : Record). Whole (frame_of r xs) r.after) s.numbers ∙ sym whole ∙ sym s.found
+    ∙ ap (λ (r : Record). Whole (frame_seen r xs) r.after) s.numbers ∙ sym whole ∙ sym s.found

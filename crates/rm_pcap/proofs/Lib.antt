@@ -3,3 +3,5 @@ pub mod FrontLemmas
 pub mod FoundLemmas
 pub mod CaptureLemmas
 pub mod RecordLaws
+pub mod StepLemmas
+pub mod CountLemmas

@@ -8,8 +8,7 @@ use Rattle.rm_pcap.specs.declared.form.Form.{Form}
 use Rattle.rm_pcap.specs.declared.fault.PcapFault.{PcapFault}
 use Rattle.rm_pcap.specs.declared.reach.Reach.{Reach}
 use Rattle.rm_pcap.specs.Header.{header_of}
-use Rattle.rm_pcap.specs.Records.{Found, Whole, Stops, Stop, Ended, CutAt, Broken, found_at, found_in, found_with, fault_at, included_of, frame_at, reach_after, beginning, AreRecords, ReadsAs}
-
+use Rattle.rm_pcap.specs.Records.{Found, Whole, Stops, Stop, CutAt, Broken, found_at, found_in, found_with, fault_at, included_of, frame_at, reach_after, beginning, AreRecords, ReadsAs}
 
 pub one_list : (form : Form) (lead : ℕ) (reach : Reach) (bytes : List ℕ) (frames others : List Frame) (stop last : Stop)
     → AreRecords form lead reach bytes frames stop → AreRecords form lead reach bytes others last → (frames ≡ others) × (stop ≡ last)
@@ -98,3 +97,24 @@ some_way (Err fault) lead bytes = ([], Broken fault, (refl, refl))
 pub every_reading : (lead : ℕ) (bytes : List ℕ) → (frames : List Frame) × (stop : Stop) × ReadsAs lead bytes frames stop
 unfolding ReadsAs
 every_reading lead bytes = some_way (header_of bytes) lead bytes
+
+-- the records that are left behind one that was passed
+pub record Behind (form : Form) (lead : ℕ) (next : Reach) (bytes : List ℕ) (frames : List Frame) (stop : Stop) : Type 0 where
+  pub more : List Frame
+  pub are : AreRecords form lead next bytes more stop
+  pub one : length frames ≡ 1 + length more
+
+pub behind : (form : Form) (lead : ℕ) (reach next : Reach) (bytes : List ℕ) (frame : Frame) (frames : List Frame) (stop : Stop)
+    → found_at form lead reach bytes ≡ Whole frame next → AreRecords form lead reach bytes frames stop → Behind form lead next bytes frames stop
+unfolding AreRecords
+behind form lead reach next bytes frame [] stop is are = absurd (let e : Stops stop ≡ Whole frame next = sym are ∙ is in cc)
+behind form lead reach next bytes frame (first ∷ more) stop is are =
+    let e : Whole first are.0 ≡ Whole frame next = sym are.1 ∙ is in
+    let same : are.0 ≡ next = cc in
+    record { more = more; are = subst (λ (r : Reach). AreRecords form lead r bytes more stop) same are.2; one = omega arith }
+
+pub none_behind : (form : Form) (lead : ℕ) (reach : Reach) (bytes : List ℕ) (frames : List Frame) (last stop : Stop)
+    → found_at form lead reach bytes ≡ Stops last → AreRecords form lead reach bytes frames stop → length frames ≡ 0
+unfolding AreRecords
+none_behind form lead reach bytes [] last stop is are = refl
+none_behind form lead reach bytes (first ∷ more) last stop is are = absurd (let e : Whole first are.0 ≡ Stops last = sym are.1 ∙ is in cc)

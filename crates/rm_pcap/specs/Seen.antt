@@ -14,8 +14,8 @@ record_of form lead reach octets =
     record { included = included_of form octets; original = max (included_of form octets) (original_of form octets); after = reach_after form lead reach octets }
 
 -- the frame of a record whose octets are in the buffer
-abbrev pub frame_of : Record → List ℕ → Passed
-frame_of seen buffer = record {
+abbrev pub frame_seen : Record → List ℕ → Passed
+frame_seen seen buffer = record {
   interface = 1;
   moment = seen.after.last;
   number = seen.after.count;
@@ -25,7 +25,7 @@ frame_of seen buffer = record {
 
 -- what was seen at that reach, with the octets in the buffer
 abbrev pub found_of : Reach → List ℕ → Seen → Found
-found_of reach buffer (SeenWhole seen) = Whole (frame_of seen buffer) seen.after
+found_of reach buffer (SeenWhole seen) = Whole (frame_seen seen buffer) seen.after
 found_of reach buffer SeenEnd = Stops Ended
 found_of reach buffer SeenCut = Stops (CutAt reach.at)
 

@@ -12,6 +12,8 @@ mod laws;
 mod place;
 mod reach;
 mod record;
+#[cfg(test)]
+mod tests;
 
 pub use capture::Capture;
 pub use fault::PcapFault;
