@@ -61,6 +61,12 @@ const PORTS: Ports = Ports {
     dest: 161,
 };
 
+// The same where both ports were captured.
+const WITH_PORTS: Facts = Facts {
+    ports: Some(PORTS),
+    ..OF_UDP
+};
+
 // An Ethernet frame from the first station.
 fn ethernet(alloc: Global, dest: [u8; 6], number: u16, payload: &[u8]) -> Result<Vec<u8>, Fail> {
     let mut frame = Vec::from_slice(alloc, &dest)?;
@@ -201,49 +207,53 @@ fn only_the_type_of_ip_is_looked_into(rt: HostRuntime) -> Result<(), Fail> {
 }
 
 #[test]
-fn protocols_and_fragments(rt: HostRuntime) -> Result<(), Fail> {
-    let with = |proto, ports| Facts {
-        proto,
-        ports,
-        ..OF_IPV4
-    };
-    for (fragment, protocol, expected) in [
-        // TCP and UDP, and of those without ports ICMP, IPv4 in IPv4 and OSPF
-        (0, 6, with(Some(6), Some(PORTS))),
-        (0, 17, with(Some(17), Some(PORTS))),
-        (0, 1, with(Some(1), None)),
-        (0, 4, with(Some(4), None)),
-        (0, 89, with(Some(89), None)),
-        (0, 0, with(Some(0), None)),
-        (0, 255, with(Some(255), None)),
-        // don't fragment, and the first of several fragments
-        (0x4000, 6, with(Some(6), Some(PORTS))),
-        (0x2000, 17, with(Some(17), Some(PORTS))),
-        (0xe000, 17, with(Some(17), Some(PORTS))),
-        // later fragments
-        (0x2001, 17, OF_IPV4),
-        (0x0001, 6, OF_IPV4),
-        (0x0100, 17, OF_IPV4),
-        (0x1000, 17, OF_IPV4),
-        (0x1fff, 1, OF_IPV4),
-    ] {
+fn datagrams_with_ports(rt: HostRuntime) -> Result<(), Fail> {
+    // whole datagrams of TCP and of UDP, one that mustn't be fragmented, and first fragments of several
+    for (fragment, protocol) in [(0, 6), (0, 17), (0x4000, 6), (0x2000, 17), (0xe000, 17)] {
         let frame = internet(rt.alloc(), 0x45, fragment, protocol, 0)?;
+        let expected = Facts {
+            proto: Some(protocol),
+            ports: Some(PORTS),
+            ..OF_IPV4
+        };
         check(&rt, &frame, 60, expected);
     }
     Ok(())
 }
 
 #[test]
+fn protocols_without_ports(rt: HostRuntime) -> Result<(), Fail> {
+    // among them ICMP, IPv4 in IPv4 and OSPF
+    for protocol in [0, 1, 4, 5, 7, 16, 18, 89, 255] {
+        let frame = internet(rt.alloc(), 0x45, 0, protocol, 0)?;
+        let expected = Facts {
+            proto: Some(protocol),
+            ..OF_IPV4
+        };
+        check(&rt, &frame, 60, expected);
+    }
+    Ok(())
+}
+
+#[test]
+fn later_fragments(rt: HostRuntime) -> Result<(), Fail> {
+    for fragment in [0x2001, 0x0001, 0x0100, 0x1000, 0x1fff] {
+        let frame = internet(rt.alloc(), 0x45, fragment, 17, 0)?;
+        check(&rt, &frame, 60, OF_IPV4);
+    }
+    Ok(())
+}
+
+#[test]
 fn the_ports_follow_the_options(rt: HostRuntime) -> Result<(), Fail> {
-    // the version with the words of the header, how many octets of options there are, and the length
-    for (first, options, length) in [(0x45, 0, 64), (0x46, 4, 64), (0x4a, 20, 66), (0x4f, 40, 86)] {
+    // the version with the words of the header, and how many octets of options there are
+    for (first, options) in [(0x45, 0), (0x46, 4), (0x4a, 20), (0x4f, 40)] {
         let frame = internet(rt.alloc(), first, 0, 17, options)?;
         let expected = Facts {
-            length,
-            ports: Some(PORTS),
-            ..OF_UDP
+            length: 104,
+            ..WITH_PORTS
         };
-        check(&rt, &frame, length - 4, expected);
+        check(&rt, &frame, 100, expected);
     }
     Ok(())
 }
@@ -259,43 +269,46 @@ fn other_versions_and_short_headers(rt: HostRuntime) -> Result<(), Fail> {
 
 #[test]
 fn frames_are_cut(rt: HostRuntime) -> Result<(), Fail> {
-    let with_ports = Facts {
-        ports: Some(PORTS),
-        ..OF_UDP
-    };
-    let plain = internet(rt.alloc(), 0x45, 0, 17, 0)?;
-    for (captured, expected) in [
-        (0, NOTHING),
-        (5, NOTHING),
-        (6, NOTHING),
-        (11, NOTHING),
-        (12, ADDRESSED),
-        (13, ADDRESSED),
-        (14, OF_IP),
-        (15, OF_IP),
-        (33, OF_IP),
-        (34, OF_UDP),
-        (37, OF_UDP),
-        (38, with_ports),
-        (42, with_ports),
-    ] {
-        check_cut(&rt, &plain, captured, expected);
+    let frame = internet(rt.alloc(), 0x45, 0, 17, 0)?;
+    for captured in [0, 5, 6, 11] {
+        check_cut(&rt, &frame, captured, NOTHING);
     }
-    // six words in the header
-    let with_options = internet(rt.alloc(), 0x46, 0, 17, 4)?;
-    for (captured, expected) in [
-        (33, OF_IP),
-        (34, OF_IP),
-        (37, OF_IP),
-        (38, OF_UDP),
-        (41, OF_UDP),
-        (42, with_ports),
-    ] {
-        check_cut(&rt, &with_options, captured, expected);
+    for captured in [12, 13] {
+        check_cut(&rt, &frame, captured, ADDRESSED);
     }
-    // a group address without the source
-    check_cut(&rt, &BROADCAST, 6, NOTHING);
+    for captured in [14, 15, 33] {
+        check_cut(&rt, &frame, captured, OF_IP);
+    }
+    for captured in [34, 37] {
+        check_cut(&rt, &frame, captured, OF_UDP);
+    }
+    for captured in [38, 42] {
+        check_cut(&rt, &frame, captured, WITH_PORTS);
+    }
     Ok(())
+}
+
+// As above, but six words in the header.
+#[test]
+fn frames_with_options_are_cut(rt: HostRuntime) -> Result<(), Fail> {
+    let frame = internet(rt.alloc(), 0x46, 0, 17, 4)?;
+    for captured in [33, 34, 37] {
+        check_cut(&rt, &frame, captured, OF_IP);
+    }
+    for captured in [38, 41] {
+        check_cut(&rt, &frame, captured, OF_UDP);
+    }
+    for captured in [42, 46] {
+        check_cut(&rt, &frame, captured, WITH_PORTS);
+    }
+    Ok(())
+}
+
+#[test]
+fn a_group_without_a_source(rt: HostRuntime) {
+    for captured in [1, 6] {
+        check_cut(&rt, &BROADCAST, captured, NOTHING);
+    }
 }
 
 #[test]
