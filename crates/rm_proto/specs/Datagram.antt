@@ -31,7 +31,7 @@ addresses_of datagram = record { source = slice_range datagram 12 16; dest = sli
 unfoldable pub fragment_offset : List ℕ → ℕ
 fragment_offset datagram = big_number 2 (drop 6 datagram) % 2 ^ 13
 
--- Protocol, where the datagram is whole or is the first fragment: a later one doesn't begin with the protocol's header
+-- Protocol, in a whole datagram and a first fragment: the data of a later one doesn't begin with the protocol's header
 unfoldable pub protocol_of : List ℕ → Option ℕ
 protocol_of datagram = if fragment_offset datagram == 0 then Some (slice_index datagram 9) else None
 
@@ -42,7 +42,7 @@ ports_at_front segment =
     then Some (record { source = big_number 2 segment; dest = big_number 2 (drop 2 segment) })
     else None
 
--- whether a protocol has ports: 6 is TCP, 17 is UDP (RFC 1700)
+-- whether the ports of a protocol are told: 6 is TCP, 17 is UDP (RFC 1700)
 abbrev pub has_ports : ℕ → Bool
 has_ports protocol = protocol == 6 || protocol == 17
 

@@ -7,8 +7,8 @@ use Rattle.rm_proto.specs.declared.ethernet.Cast.{Cast}
 use Rattle.rm_proto.specs.declared.ethernet.Cast.TheVariants.{Broad, Multi, Uni}
 
 -- The octets of a frame on the wire, by their number without the check sequence, whose four octets captures leave
--- out. A short frame was padded to the least length of Ethernet (IEEE 802.3, 64 octets with the check sequence),
--- unless short frames are kept as they are.
+-- out. A short frame is taken as padded to the least length of Ethernet, 64 octets with the check sequence (IEEE
+-- 802.3), unless short frames are kept.
 abbrev pub length_of : ℕ → Bool → ℕ
 length_of original keep_short = (if keep_short then original else max original 60) + 4
 
@@ -38,7 +38,7 @@ is_broadcast address = bytes_eq address (replicate 6 0xff)
 unfoldable pub is_group : List ℕ → Bool
 is_group address = slice_index address 0 % 2 == 1
 
--- the class of a frame with these addresses
+-- whom a frame with these addresses was sent to, by the destination
 abbrev pub cast_of : Option Pair → Cast
 cast_of None = Uni
 cast_of (Some pair) =
@@ -46,7 +46,7 @@ cast_of (Some pair) =
     else if is_group pair.dest then Multi
     else Uni
 
--- the number after the addresses, which is a type from 1536 on and below that a length (RFC 894; IEEE 802.3)
+-- the number after the addresses, which is a type where it is 1536 at least, and else a length (RFC 894; IEEE 802.3)
 unfoldable pub ethernet_type : List ℕ → Option ℕ
 ethernet_type bytes =
     let number = big_number 2 (drop 12 bytes) in

@@ -19,6 +19,7 @@ const LEAST_HEADER: usize = 20;
 /// The bits of the fragment offset, below the three flags.
 const FRAGMENT_OFFSET: u16 = 0x1fff;
 
+/// The protocols whose ports are told (RFC 1700).
 const TCP: u8 = 6;
 
 const UDP: u8 = 17;
@@ -34,6 +35,7 @@ pub struct IpPair {
 #[derive(Clone, Copy)]
 pub struct Datagram<'a> {
     octets: &'a [u8],
+    // How many octets the header has: the data stands behind it.
     data_at: usize,
     ghost whole: { has_header octets.now ≡ true },
     ghost exact: { data_at ≡ header_length octets.now },
@@ -74,7 +76,7 @@ impl<'a> Datagram<'a> {
         BigEndian::read_u16(&self.octets[6..]) & FRAGMENT_OFFSET
     }
 
-    /// Its protocol; None in a later fragment, which doesn't begin with the protocol's header.
+    /// Its protocol; None in a later fragment, whose data doesn't begin with the protocol's header.
     #[tactic(auto, unfolding(crate::specs::Datagram::protocol_of))]
     pub fn protocol(&self) -> Option<u8>
         ensures { result ≡ protocol_of self.now.octets.now }

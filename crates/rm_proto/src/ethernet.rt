@@ -31,7 +31,7 @@ const OVERSIZE: u8 = 1;
 
 const UNDERSIZE: u8 = 2;
 
-/// The addresses of a frame, the octets in the order of the wire.
+/// The addresses of a frame, the octets in the order of the wire (IEEE 802.3).
 #[derive(Clone, Copy, Debug, PartialEq, Eq)]
 pub struct Pair {
     pub source: [u8; 6],
@@ -63,7 +63,7 @@ pub enum Cast {
     Broad,
     /// Any other address whose first octet is odd.
     Multi,
-    /// One station, or nobody where the frame has no whole addresses.
+    /// Any other address, also where fewer than 12 octets were captured.
     Uni,
 }
 
@@ -82,8 +82,8 @@ impl Cast {
     }
 }
 
-/// The octets of a frame on the wire, by those that it had there without its check sequence. A frame of fewer than 60
-/// was padded to them, unless short frames are kept.
+/// The octets of a frame on the wire, by their number without the check sequence. A frame of fewer than 60 is taken as
+/// padded to 60, unless short frames are kept.
 pub fn wire_length(original: u32, keep_short: bool) -> u32
     requires { original ≤ 262144 }
     ensures { result ≡ length_of original keep_short }
@@ -96,14 +96,14 @@ pub fn wire_length(original: u32, keep_short: bool) -> u32
     unchecked + CHECK_SEQUENCE
 }
 
-/// Whether a frame of that length is a good packet.
+/// Whether a frame of that length on the wire is a good packet.
 pub fn is_good(length: u32) -> bool
     ensures { result ≡ is_good length }
 {
     (LEAST_LENGTH..=MOST_LENGTH).contains(&length)
 }
 
-/// The status of a frame of that length: 1 above the lengths of good packets, 2 below them, 0 else.
+/// The status of a frame of that length on the wire: 1 above the lengths of good packets, 2 below them, else 0.
 pub fn status(length: u32) -> u8
     ensures { result ≡ status_of length }
 {

@@ -14,7 +14,7 @@ const INTERFACE: u32 = 1;
 /// The type of IP (RFC 894).
 const IP: u16 = 0x0800;
 
-// The datagram of a frame of that type.
+// The datagram of a frame with that type.
 #[tactic(auto, unfolding(crate::specs::Facts::datagram_in, crate::specs::Ethernet::ethernet_type))]
 fn datagram_in(bytes: &[u8], ether: Option<u16>) -> Option<Datagram<'_>>
     requires { ether ≡ ethernet_type bytes.now }
@@ -27,8 +27,8 @@ fn datagram_in(bytes: &[u8], ether: Option<u16>) -> Option<Datagram<'_>>
     }
 }
 
-/// The facts of the frame with these captured octets, of which `original` were on the wire without the check
-/// sequence. A frame of fewer than 60 was padded to them there, unless `keep_short` says that it wasn't.
+/// The facts of the frame with these captured octets, which had `original` octets in all, captured or not, without
+/// its check sequence. A frame of fewer than 60 is taken as padded to 60 on the wire, unless `keep_short` is set.
 pub fn facts(bytes: &[u8], original: u32, keep_short: bool) -> Facts
     requires captured { length bytes.now ≤ original }
     requires original { original ≤ 262144 }
