@@ -83,6 +83,14 @@ impl Capture {
         })
     }
 
+    /// How many records were passed.
+    #[tactic(auto, unfolding(crate::specs::View::progress_of))]
+    pub fn count(&self) -> u32
+        ensures { result ≡ (progress_of self.now).reach.count }
+    {
+        self.place.reach.count
+    }
+
     // Sees what stands next, unless it was seen already.
     fn look<S: Shelf>(&mut self, shelf: &mut S, name: &str) -> Result<Seen, PcapFault>
         ensures constant { (each : List ℕ) → S.held shelf.new each ≡ S.held shelf.old each }

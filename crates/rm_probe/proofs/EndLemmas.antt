@@ -1,9 +1,9 @@
 -- How the parts of a run make its end.
-use Rattle.std.proofs.Common.{◌≡◌, ℕ, ◌+◌, ◌≤◌, List, [], length, Option, Some, None, Result, Ok, Err, refl, sym, ap, ◌∙◌, subst, arith, inl, inr, ◌⊎◌}
-use Rattle.std.specs.Prelude.{IsOk, ⊤}
-use Rattle.rm_edge.specs.Outside.{Held, Untold, Absent, File, OfFile, Adds, AddsFront, Rose}
+use Rattle.std.proofs.Common.{◌≡◌, ℕ, ◌+◌, ◌≤◌, List, [], length, Option, Some, None, Result, Ok, Err, refl, sym, ap, ◌∙◌, subst, arith, inl, inr}
+use Rattle.std.specs.Prelude.{IsOk}
+use Rattle.rm_edge.specs.Outside.{Held, Untold, Absent, File, OfFile, AddsFront, Rose}
 use Rattle.rm_model.specs.Journal.{Frame}
-use Rattle.rm_pcap.specs.Records.{Stop, Ended, CutAt, Broken, AreRecords, ReadsAs, beginning}
+use Rattle.rm_pcap.specs.Records.{Stop, Broken, AreRecords, ReadsAs, beginning}
 use Rattle.rm_pcap.specs.Header.{header_of}
 use Rattle.rm_pcap.specs.Progress.{Progress, begun}
 use Rattle.rm_pcap.specs.Calls.{BeginsAs, IsFirstFault}
@@ -96,9 +96,11 @@ written c r reads reads' writes writes' old new read status form same ok short t
     some_requests : (o : Result (List TimedDatagram) ℕ) → IsOk o → (asked : List TimedDatagram) × (o ≡ Ok asked)
     some_requests (Ok asked) e = (asked, refl)
     some_requests (Err line) e = absurd cc
+
     never : (status : Status) (P : List ℕ → Type 0) → (asked : List TimedDatagram) × (requests_of read ≡ Ok asked)
         → ((bytes : List ℕ) (frames : List Frame) (stop : Stop) (asked : List TimedDatagram) → c ≡ File bytes → IsCapture bytes frames stop → AreRequests read asked → ⊥) → OfFile c P
     never status P are none = of_told c IsCaptureFile P (λ bytes is good. absurd (none bytes good.0 good.1 are.0 is good.2 (record { short = short; are = are.1 }))) form
+
     go : (status : Status) → (asked : List TimedDatagram) × (requests_of read ≡ Ok asked)
         → ((bytes : List ℕ) (frames : List Frame) (stop : Stop) (asked : List TimedDatagram) → c ≡ File bytes → IsCapture bytes frames stop → AreRequests read asked → Writes frames stop asked old new status)
         → (status ≡ ReadFault → Rose reads reads') → (status ≡ WriteFault → Rose writes writes') → (IsSilent status → status ≡ NoMemory) → (IsSilent status → new ≡ old)

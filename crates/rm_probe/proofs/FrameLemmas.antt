@@ -1,5 +1,5 @@
 -- Frames that pass up to a moment.
-use Rattle.std.proofs.Common.{◌≡◌, ℕ, suc, ◌+◌, ◌<◌, ◌≤◌, true, false, List, [], ◌∷◌, ◌++◌, length, take, drop, Option, Some, None, Result, Err, inl, inr, ◌⊎◌, refl, sym, ap, subst, ◌∙◌, arith, take_while, append_assoc}
+use Rattle.std.proofs.Common.{◌≡◌, ℕ, suc, ◌+◌, ◌<◌, ◌≤◌, true, false, List, [], ◌∷◌, ◌++◌, length, take, drop, Some, None, Err, inl, inr, refl, sym, ap, subst, ◌∙◌, arith, take_while, append_assoc}
 use Rattle.std.specs.Prelude.{⊤}
 use Rattle.std.specs.List.{prefix_len}
 use Rattle.std.proofs.lemmas.List.{append-nil}
@@ -7,8 +7,8 @@ use Rattle.std.proofs.lemmas.Bool.Decides.{nat_tests}
 use Rattle.rm_edge.specs.Outside.{Held, File}
 use Rattle.rm_model.specs.Journal.{Frame, Journal, passes, after_frames}
 use Rattle.rm_pcap.specs.Records.{Stop, Broken, Found, Whole, Stops as StopsAt}
-use Rattle.rm_pcap.specs.Progress.{Progress, looking_at, passing, next_in, moment_found, Shows, frame_of}
-use Rattle.rm_pcap.specs.Calls.{Looks, LooksAt, Passes, Fails, IsBroken, Breaks}
+use Rattle.rm_pcap.specs.Progress.{Progress, next_in, moment_found, Shows, frame_of}
+use Rattle.rm_pcap.specs.Calls.{Looks, Passes, Fails, IsBroken}
 use Rattle.rm_pcap.specs.declared.frame.Frame.{Frame as Lent}
 use Rattle.rm_pcap.specs.declared.frame.Step.{Step}
 use Rattle.rm_pcap.specs.declared.frame.Step.TheVariants.{Next, End, Cut}

@@ -1,5 +1,5 @@
 -- Records that are left of a capture.
-use Rattle.std.proofs.Common.{◌≡◌, ◌≤◌, ℕ, List, [], ◌∷◌, Some, Option, Result, Ok, Err, inl, inr, refl, sym, ap, subst, ◌∙◌}
+use Rattle.std.proofs.Common.{◌≡◌, ◌≤◌, ℕ, List, [], ◌∷◌, Result, Ok, Err, inl, inr, refl, sym, ap, subst, ◌∙◌}
 use Rattle.rm_edge.specs.Outside.{Held, Untold, Absent, File, OfFile, Rose}
 use Rattle.rm_model.specs.Journal.{Frame}
 use Rattle.rm_pcap.specs.Records.{Stop, Ended, CutAt, Broken, Found, Whole, Stops as StopsAt, found_at, AreRecords, ReadsAs, beginning}
@@ -201,9 +201,11 @@ refused_record held before now progress fault rose fails judging = go fault rose
     found fault (inr breaks) other =
         of_told held (λ bytes. Judging the_lead bytes progress) (CallsFor (status_of fault))
         (λ bytes is j. (fault, judging_stops progress the_lead bytes (Broken fault) (breaks.stands bytes is) j, refl)) judging
+
     never : (fault : PcapFault) → IsBroken held progress.form progress.lead progress.reach fault → (fault ≡ Read → ⊥) → IsFaultAt progress.reach fault
     never fault (inl read) other = absurd (other read)
     never fault (inr breaks) other = breaks.place
+
     go : (fault : PcapFault) → (fault ≡ Read → Rose before now) → IsBroken held progress.form progress.lead progress.reach fault → JudgesCapture {T = Unit {0}} held before now (Err (status_of fault))
     go Read rose cause = rose refl
     go (Included at) rose cause = found (Included at) cause (λ e. cc)

@@ -1,6 +1,6 @@
 -- What the steps of a run do.
 use Rattle.std.specs.Prelude.{◌≡◌, ℕ, ◌+◌, List, length, take_while, Option, Result, Ok, Err, ⊤}
-use Rattle.rm_edge.specs.Outside.{Adds, AddsFront, Held, File, OfFile, Rose}
+use Rattle.rm_edge.specs.Outside.{Adds, AddsFront, Held, OfFile, Rose}
 use Rattle.rm_model.specs.Journal.{Frame, Journal, after_frames}
 use Rattle.rm_pcap.specs.Records.{Stop, Broken, AreRecords}
 use Rattle.rm_pcap.specs.Progress.{Progress, Agrees}

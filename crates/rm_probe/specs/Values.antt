@@ -1,8 +1,9 @@
 -- The values of the variables that are answered.
-use Rattle.std.specs.Prelude.{ℕ, ◌+◌, ◌/◌, ◌%◌, ◌^◌, max, nat_eq, if◌then◌else◌, Bool, List, [], ◌∷◌, length, sum_by, Option, Some, None}
+use Rattle.std.specs.Prelude.{ℕ, ◌/◌, ◌%◌, ◌^◌, nat_eq, if◌then◌else◌, Bool, false, List, [], ◌∷◌, length, sum_by, Option, Some, None}
 use Rattle.std.specs.Str.{bytes_eq}
 use Rattle.std.specs.List.{list_any, starts_with}
 use Rattle.rm_val.specs.Val.{Val, ticks, counter, no_object, no_instance}
+use Rattle.rm_proto.specs.Facts.{facts_of}
 use Rattle.rm_model.specs.Journal.{Frame, Journal, frames_in}
 
 -- sysUpTime of the system group, and etherStatsPkts and etherStatsOctets of the statistics group (RFC 1213, RFC 1757)
@@ -25,10 +26,9 @@ ether_stats_pkts_1 = 1 ∷ 3 ∷ 6 ∷ 1 ∷ 2 ∷ 1 ∷ 16 ∷ 1 ∷ 1 ∷ 1 �
 abbrev pub ether_stats_octets_1 : List ℕ
 ether_stats_octets_1 = 1 ∷ 3 ∷ 6 ∷ 1 ∷ 2 ∷ 1 ∷ 16 ∷ 1 ∷ 1 ∷ 1 ∷ 4 ∷ 1 ∷ []
 
--- The octets of a frame as they stood on the wire: padded to the least length of Ethernet, and with the four
--- octets of the check sequence.
+-- the octets of a frame as they stood on the wire
 abbrev pub length_of : Frame → ℕ
-length_of frame = max frame.original 60 + 4
+length_of frame = (facts_of frame.octets frame.original false).length
 
 -- The value of the variable with that name at a moment, by what happened before, if there is one: sysUpTime in
 -- hundredths of a second, the packets and the octets of all frames modulo 2^32.

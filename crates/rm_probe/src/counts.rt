@@ -1,5 +1,5 @@
 // The counters of the frames so far.
-ghost use Rattle.std.specs.Prelude.{◌≡◌, [], ◌∷◌, None, IfSome};
+ghost use Rattle.std.specs.Prelude.{◌≡◌, ◌≤◌, [], ◌∷◌, None, IfSome, length};
 ghost use Rattle.std.specs.Option.{option_map};
 ghost use Rattle.rm_val.specs.Val.{val_of};
 ghost use Rattle.rm_val.specs.Spellable.{HasSpelling};
@@ -7,13 +7,8 @@ ghost use Rattle.rm_probe.specs.Values.{answer_for};
 
 use crate::names::{self, ETHER_STATS_OCTETS_1, ETHER_STATS_PKTS_1, SYS_UP_TIME_0};
 use rm_pcap::Frame;
+use rm_proto::facts;
 use rm_val::{Oid, Value};
-
-/// The least length of a frame without its check sequence; a shorter one was padded to it on the wire.
-const LEAST_LENGTH: u32 = 60;
-
-/// The octets of the check sequence, which a capture doesn't have.
-const CHECK_SEQUENCE: u32 = 4;
 
 /// How many frames came, and how many octets they had, both modulo 2^32.
 #[derive(Clone, Copy)]
@@ -40,13 +35,14 @@ impl Counts {
 
     /// Counts a frame.
     pub fn frame(&mut self, frame: Frame<'_>)
+        requires captured { length frame.bytes.now ≤ frame.original }
+        requires original { frame.original ≤ 262144 }
         ensures { (journal : Journal) → StandsFor self.old journal → StandsFor self.new (passes (frame_of frame.entry) ∷ journal) }
     {
         self.packets = self.packets.wrapping_add(1);
         self.octets = self
             .octets
-            .wrapping_add(frame.original.max(LEAST_LENGTH))
-            .wrapping_add(CHECK_SEQUENCE);
+            .wrapping_add(facts(frame.bytes, frame.original, false).length);
     }
 
     /// What is answered for a name, at a moment in milliseconds: the variable's value, else noSuchInstance under an

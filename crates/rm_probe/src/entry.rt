@@ -129,7 +129,14 @@ fn replay<F: Shelf, K: Sink>(
     ensures silent { IsSilent result → K.content out.new ≡ K.content out.old }
 {
     match judge(alloc, capture, requests, shelf) {
-        Ok(mut judged) => write_run(alloc, shelf, capture, &judged.requests, &mut judged.datagram, out),
+        Ok(mut judged) => write_run(
+            alloc,
+            shelf,
+            capture,
+            &judged.requests,
+            &mut judged.datagram,
+            out,
+        ),
         Err(status) => status,
     }
 }

@@ -121,14 +121,27 @@ fn write_lines<F: Shelf, K: Sink>(
             Err(fault) => return Status::from(fault),
         }
         line.clear();
-        line::push_line(&mut line, &counts, cursor.number, taken.moment, &buffer[..taken.count]);
+        line::push_line(
+            &mut line,
+            &counts,
+            cursor.number,
+            taken.moment,
+            &buffer[..taken.count],
+        );
         match out.put(line.as_slice()) {
             Ok(()) => cursor = taken.next,
             Err(_) => return Status::WriteFault,
         }
     }
     line.clear();
-    match finish(capture, shelf, name, &mut counts, cursor.number - 1, &mut line) {
+    match finish(
+        capture,
+        shelf,
+        name,
+        &mut counts,
+        cursor.number - 1,
+        &mut line,
+    ) {
         Ok(()) => (),
         Err(fault) => return Status::from(fault),
     }

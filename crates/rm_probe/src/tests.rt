@@ -284,79 +284,168 @@ fn frames_have_moments(rt: HostRuntime) -> Result<(), Fail> {
     Ok(())
 }
 
+// Headers of the four forms, and the two records of each: 10 and 10.002 seconds, of 60 octets.
+const FORMS: [(&str, &str, &str, &str); 4] = [
+    (
+        "d4c3b2a10200040000000000000000000000040001000000",
+        "0a000000000000003c0000003c000000",
+        "0a000000d00700003c0000003c000000",
+        "microseconds, the lowest octet first",
+    ),
+    (
+        "a1b2c3d40002000400000000000000000004000000000001",
+        "0000000a000000000000003c0000003c",
+        "0000000a000007d00000003c0000003c",
+        "microseconds, the highest octet first",
+    ),
+    (
+        "4d3cb2a10200040000000000000000000000040001000000",
+        "0a000000000000003c0000003c000000",
+        "0a00000080841e003c0000003c000000",
+        "nanoseconds, the lowest octet first",
+    ),
+    (
+        "a1b23c4d0002000400000000000000000004000000000001",
+        "0000000a000000000000003c0000003c",
+        "0000000a001e84800000003c0000003c",
+        "nanoseconds, the highest octet first",
+    ),
+];
+
+// A capture of a header and two records of 60 octets, all in hexadecimal digits.
+fn capture_in(alloc: Global, header: &str, first: &str, second: &str) -> Result<Vec<u8>, Fail> {
+    let mut capture = hex::decode(alloc, header)?;
+    for record in [first, second] {
+        let octets = hex::decode(alloc, record)?;
+        capture.extend_from_slice(&octets)?;
+        capture.extend_from_slice(&[0; 60])?;
+    }
+    Ok(capture)
+}
+
+#[test]
+fn each_form_is_read(rt: HostRuntime) -> Result<(), Fail> {
+    let alloc = rt.alloc();
+    let counts = [(999, 0), (1000, 1), (1001, 1), (1002, 2)];
+    for (header, first, second, what) in FORMS {
+        let capture = capture_in(alloc, header, first, second)?;
+        let requests = asked_at(alloc, &counts)?;
+        let text = answered_at(alloc, &counts, 2)?;
+        let files = (capture.as_slice(), requests.as_bytes());
+        check(&rt, alloc, files, (Status::Done, &text), what)?;
+    }
+    Ok(())
+}
+
 #[test]
 fn other_headers_are_refused(rt: HostRuntime) -> Result<(), Fail> {
-    for (header, what) in [
+    for (header, at, what) in [
         (
-            "a1b2c3d40002000400000000000000000004000000000001",
-            "microseconds, the highest octet first",
-        ),
-        (
-            "4d3cb2a10200040000000000000000000000040001000000",
-            "nanoseconds, the lowest octet first",
-        ),
-        (
-            "a1b23c4d0002000400000000000000000004000000000001",
-            "nanoseconds, the highest octet first",
+            "d4c3b2a20200040000000000000000000000040001000000",
+            0,
+            "no magic number",
         ),
         (
             "d4c3b2a10200030000000000000000000000040001000000",
+            4,
             "version 2.3",
         ),
         (
             "d4c3b2a10300040000000000000000000000040001000000",
+            4,
             "version 3.4",
         ),
         (
+            "a1b2c3d40200040000000000000000000004000000000001",
+            4,
+            "a version in the other octet order",
+        ),
+        (
             "d4c3b2a10200040000000000000000000000040069000000",
+            20,
             "link type 105",
         ),
         (
             "d4c3b2a10200040000000000000000000000040001000004",
+            20,
             "bits above the link type",
         ),
     ] {
         let alloc = rt.alloc();
         let capture = hex::decode(alloc, header)?;
         let files = (capture.as_slice(), TWO_REQUESTS.as_bytes());
-        check(&rt, alloc, files, (Status::BadCapture(0), ""), what)?;
+        check(&rt, alloc, files, (Status::BadCapture(at), ""), what)?;
     }
     Ok(())
 }
 
-// The capture is judged whole, and before the request file.
+// The capture is judged whole, and before the request file. The second record begins at 100.
 #[test]
 fn other_records_are_refused(rt: HostRuntime) -> Result<(), Fail> {
-    for (bad, what) in [
-        ([0, 0, 262_145, 60], "an included length of 262145"),
-        ([0, 0, 60, 262_145], "an original length of 262145"),
-        ([4_294_966, 296_000, 60, 60], "a moment of 4294967296"),
+    for (bad, at, what) in [
+        ([0, 0, 262_145, 60], 108, "an included length of 262145"),
+        ([0, 0, 60, 262_145], 112, "an original length of 262145"),
+        ([4_294_966, 296_000, 60, 60], 100, "a moment of 4294967296"),
+        (
+            [4_294_966, 296_000, 60, 262_145],
+            112,
+            "two faults, of which the length comes first",
+        ),
     ] {
         let alloc = rt.alloc();
         let capture = capture_of(alloc, &[[0, 0, 60, 60], bad])?;
         let files = (capture.as_slice(), b"bad".as_slice());
-        check(&rt, alloc, files, (Status::BadCapture(0), ""), what)?;
+        check(&rt, alloc, files, (Status::BadCapture(at), ""), what)?;
     }
     Ok(())
 }
 
-// The front of a capture is one where it ends with the header or with a record.
+// The lengths of the first record are judged where its octets aren't there.
 #[test]
-fn cut_captures_are_refused(rt: HostRuntime) -> Result<(), Fail> {
+fn a_first_length_is_refused(rt: HostRuntime) -> Result<(), Fail> {
+    let alloc = rt.alloc();
+    let mut capture = Vec::from_slice(alloc, &HEADER)?;
+    push_record_header(&mut capture, &[0, 0, 262_145, 60])?;
+    let files = (capture.as_slice(), TWO_REQUESTS.as_bytes());
+    check(&rt, alloc, files, (Status::BadCapture(32), ""), "included")
+}
+
+// The last line says whether a record is cut short. Such a record has no frame.
+#[test]
+fn cut_captures_are_told(rt: HostRuntime) -> Result<(), Fail> {
     let alloc = rt.alloc();
     let capture = capture_of(alloc, &[[9, 0, 60, 60], [9, 0, 2, 2]])?;
     assert_eq!(rt; capture.len(), 118);
     for end in 0..=capture.len() {
         let expected = match end {
+            0..=3 => (Status::BadCapture(0), ""),
+            4..=7 => (Status::BadCapture(4), ""),
+            8..=23 => (Status::BadCapture(20), ""),
             24 => (Status::Done, "end 0 0\n"),
+            25..=99 => (Status::Done, "cut 0 0\n"),
             100 => (Status::Done, "end 1 0\n"),
             118 => (Status::Done, "end 2 0\n"),
-            _ => (Status::BadCapture(0), ""),
+            _ => (Status::Done, "cut 1 0\n"),
         };
         let what = format!(in alloc; "{end} octets")?;
         check(&rt, alloc, (&capture[..end], b""), expected, &what)?;
     }
     Ok(())
+}
+
+// The third record is cut within its frame. The frames before it are counted.
+#[test]
+fn a_cut_frame_is_not_counted(rt: HostRuntime) -> Result<(), Fail> {
+    let alloc = rt.alloc();
+    let records = [[9, 500, 60, 60], [9, 2499, 60, 60], [8, 0, 60, 60]];
+    let capture = capture_of(alloc, &records)?;
+    let cut = capture.get(..24 + 76 + 76 + 16 + 3).ok_or("too short")?;
+    let requests = format!(in alloc; "1000 {PACKETS}\n1001 {PACKETS}\n")?;
+    let text = format!(in alloc;
+        "1000 1 reply {PACKETS_REPLY}01\n1001 2 reply {PACKETS_REPLY}02\ncut 2 2\n"
+    )?;
+    let files = (cut, requests.as_bytes());
+    check(&rt, alloc, files, (Status::Done, &text), "cut")
 }
 
 #[test]
@@ -479,32 +568,31 @@ fn absent_files_are_read_faults(rt: HostRuntime) -> Result<(), Fail> {
     Ok(())
 }
 
-// A file's length is judged before its form, and the capture before the request file.
+// A request file's length is judged before its form, and after the capture. A capture may have more octets.
 #[test]
-fn files_have_16777216_octets_at_most(rt: HostRuntime) -> Result<(), Fail> {
+fn request_files_have_16777216_octets_at_most(rt: HostRuntime) -> Result<(), Fail> {
     let alloc = rt.alloc();
     let long = vec![in alloc; b'\n'; 16_777_217]?;
     let long = long.as_slice();
     let most = &long[1..];
+    let header = HEADER.as_slice();
     for (capture, requests, status, what) in [
-        (long, most, Status::TooLong, "a long capture"),
         (most, long, Status::BadCapture(0), "a bad capture"),
-        (
-            HEADER.as_slice(),
-            long,
-            Status::TooLong,
-            "a long request file",
-        ),
-        (
-            HEADER.as_slice(),
-            most,
-            Status::BadRequests(1),
-            "a bad request file",
-        ),
+        (header, long, Status::TooLong, "a long request file"),
+        (header, most, Status::BadRequests(1), "a bad request file"),
     ] {
         check(&rt, alloc, (capture, requests), (status, ""), what)?;
     }
     Ok(())
+}
+
+#[test]
+fn a_long_capture_is_replayed(rt: HostRuntime) -> Result<(), Fail> {
+    let alloc = rt.alloc();
+    let capture = capture_of(alloc, &[[9, 0, 262_144, 262_144]; 65])?;
+    assert_eq!(rt; capture.len(), 17_040_424);
+    let files = (capture.as_slice(), b"".as_slice());
+    check(&rt, alloc, files, (Status::Done, "end 65 0\n"), "long")
 }
 
 #[test]
@@ -519,25 +607,40 @@ fn files_are_read_in_pieces(rt: HostRuntime) -> Result<(), Fail> {
     Ok(())
 }
 
-// In pieces of ten octets the capture takes four reads at least, of which the last finds its end, and the
-// request file two.
+// The text of one frame at 1000 and one at 3000, with requests before, between and after them.
+const THREE_REQUESTS: &str = "500 \n2000 \n4000 \n";
+
+const FOUR_LINES: &str =
+    "500 1 drop malformed 0\n2000 2 drop malformed 0\n4000 3 drop malformed 0\nend 2 3\n";
+
+// Each read fails in turn, in pieces of ten octets. A read that fails while the lines are written leaves a front of them.
 #[test]
-fn failed_reads_write_nothing(rt: HostRuntime) -> Result<(), Fail> {
+fn failed_reads_leave_a_front(rt: HostRuntime) -> Result<(), Fail> {
     let alloc = rt.alloc();
-    for call in 1..=12 {
-        let mut shelf = shelf_of(alloc, &HEADER, TWO_REQUESTS.as_bytes())?;
+    let capture = capture_of(alloc, &[[7, 0, 60, 60], [9, 0, 60, 60]])?;
+    let mut longest = 0;
+    for call in 1..100 {
+        let mut shelf = shelf_of(alloc, &capture, THREE_REQUESTS.as_bytes())?;
         shelf.pieces(10);
         shelf.fail(call)?;
         let mut out = sink_of(alloc, 4096)?;
-        let status = replay(alloc, &mut shelf, &mut out)?;
-        let (expected, text) = if call <= 6 || status == Status::ReadFault {
-            (Status::ReadFault, "")
-        } else {
-            (Status::Done, THREE_LINES)
-        };
-        assert_eq!(rt; status, expected, "read {call}");
-        assert_eq!(rt; out.bytes(), text.as_bytes(), "read {call}");
+        match replay(alloc, &mut shelf, &mut out)? {
+            Status::ReadFault => {
+                assert!(rt;
+                    FOUR_LINES.as_bytes().starts_with(out.bytes()),
+                    "read {call}"
+                );
+                longest = out.bytes().len();
+            }
+            status => {
+                assert_eq!(rt; status, Status::Done, "read {call}");
+                assert_eq!(rt; out.bytes(), FOUR_LINES.as_bytes(), "read {call}");
+                break;
+            }
+        }
     }
+    // The last read that can fail is the one that finds the end of the capture, for the third line.
+    assert_eq!(rt; longest, 47);
     Ok(())
 }
 

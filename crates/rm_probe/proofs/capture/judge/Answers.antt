@@ -1,9 +1,7 @@
-use Rattle.std.proofs.Common.{◌≡◌, Ok, Err, refl, sym, ap, ◌∙◌, arith, subst}
+use Rattle.std.proofs.Common.{◌≡◌, Ok, sym, ap, ◌∙◌, arith}
 use Rattle.rm_pcap.specs.View.{progress_of}
 use Rattle.rm_pcap.specs.Calls.{Steps}
 use Rattle.rm_pcap.specs.declared.frame.Step.TheVariants.{Next, End, Cut}
-use Rattle.rm_probe.specs.Steps.{JudgesCapture}
-use Rattle.rm_probe.specs.declared.status.Status.{Status}
 use Rattle.rm_probe.proofs.RecordLemmas.{judged_begins, refused_begin, judged_more, judged_stops, refused_record}
 use Rattle.rm_probe.proofs.capture.judge.Goals as goal
 

@@ -1,4 +1,4 @@
-use Rattle.std.proofs.Common.{◌≡◌, Ok, refl, sym, ap, ◌∙◌}
+use Rattle.std.proofs.Common.{refl, ◌∙◌}
 use Rattle.rm_pcap.specs.View.{progress_of}
 use Rattle.rm_pcap.specs.Calls.{Steps}
 use Rattle.rm_probe.proofs.FrameLemmas.{finish_last}

@@ -1,4 +1,4 @@
-use Rattle.std.proofs.Common.{◌-◌, length, arith, sym, ◌∙◌, ap, take, refl}
+use Rattle.std.proofs.Common.{◌-◌, length, arith, ◌∙◌, ap, take, refl}
 use Rattle.rm_pcap.specs.View.{progress_of}
 use Rattle.rm_probe.specs.Lines.{TimedDatagram}
 use Rattle.rm_probe.proofs.FrameLemmas.{advanced_so, finished_so}

@@ -1,4 +1,4 @@
-use Rattle.std.proofs.Common.{sym, ◌∙◌}
+use Rattle.std.proofs.Common.{◌∙◌}
 use Rattle.rm_pcap.specs.View.{progress_of}
 use Rattle.rm_probe.proofs.EndLemmas.{begun_left, writes_none}
 use Rattle.rm_probe.proofs.RunLemmas.{text_none}
