@@ -11,35 +11,13 @@ use Rattle.rm_pcap.specs.declared.record.Seen.TheVariants.{Whole as SeenWhole, E
 use Rattle.rm_pcap.specs.Header.{header_of}
 use Rattle.rm_pcap.specs.Records.{Found, Whole, Stops}
 use Rattle.rm_pcap.specs.Progress.{Progress, Agrees, IsLawfulFind, next_in, looking_at, passing}
-use Rattle.rm_pcap.specs.Calls.{Looks, Passes, IsHeaderFault, IsFirstFault, BeginsAs}
+use Rattle.rm_pcap.specs.Calls.{Looks, Passes, IsHeaderFault, BeginsAs}
 use Rattle.rm_pcap.specs.Filling.{Fills}
 use Rattle.rm_pcap.specs.View.{ahead_of}
 use Rattle.rm_pcap.specs.Seen.{found_of, FollowsSeen, IsAhead}
 use Rattle.rm_pcap.proofs.FrontLemmas.{header_front}
 
--- a fault of the file header is neither of the other two that a capture may begin with
-pub not_read : (fault : PcapFault) → IsHeaderFault fault → fault ≡ Read → ⊥
-not_read Magic is e = cc
-not_read Version is e = cc
-not_read LinkType is e = cc
-not_read (Included at) is e = is
-not_read (Original at) is e = is
-not_read (Late at) is e = is
-not_read TooMany is e = is
-not_read Read is e = is
-not_read NoMemory is e = is
-
-pub is_first : (fault : PcapFault) → IsHeaderFault fault → IsFirstFault fault
-is_first Magic is = is
-is_first Version is = is
-is_first LinkType is = is
-is_first (Included at) is = is
-is_first (Original at) is = is
-is_first (Late at) is = is
-is_first TooMany is = is
-is_first Read is = absurd is
-is_first NoMemory is = absurd is
-
+-- a capture that doesn't begin by a fault of its header
 pub begins_not : (bytes : List ℕ) (fault : PcapFault) → IsHeaderFault fault → header_of bytes ≡ Err fault → BeginsAs bytes (Err fault)
 begins_not bytes Magic is e = e
 begins_not bytes Version is e = e

@@ -63,10 +63,7 @@ impl Capture {
         let Ok(count) = fill(shelf, name, 0, &mut header) else {
             return Err(PcapFault::Read);
         };
-        let form = match header_of(&header[..count]) {
-            Ok(form) => form,
-            Err(fault) => return Err(fault),
-        };
+        let form = header_of(&header[..count])?;
         let Ok(buffer) = vec![in alloc; 0u8; ROOM] else {
             return Err(PcapFault::NoMemory);
         };
@@ -106,10 +103,7 @@ impl Capture {
         if let Some(seen) = self.seen {
             return Ok(seen);
         }
-        let seen = match self.place.see(shelf, name, &mut self.buffer) {
-            Ok(seen) => seen,
-            Err(fault) => return Err(fault),
-        };
+        let seen = self.place.see(shelf, name, &mut self.buffer)?;
         self.seen = Some(seen);
         Ok(seen)
     }
@@ -125,10 +119,7 @@ impl Capture {
         ensures passes { KeepsStep (S.held shelf.old name.now) self.old self.new result }
         ensures faults { IfErr result (Fails (S.held shelf.old name.now) (progress_of self.old)) }
     {
-        let seen = match self.look(shelf, name) {
-            Ok(seen) => seen,
-            Err(fault) => return Err(fault),
-        };
+        let seen = self.look(shelf, name)?;
         match seen {
             Seen::Whole(record) => {
                 self.place.reach = record.after;

@@ -109,10 +109,7 @@ impl Place {
         if count < RECORD_HEADER {
             return Ok(Seen::Cut);
         }
-        let record = match self.judge(header) {
-            Ok(record) => record,
-            Err(fault) => return Err(fault),
-        };
+        let record = self.judge(header)?;
         let included = record.included as usize;
         let Ok(count) = fill(
             shelf,

@@ -1,20 +1,17 @@
 use Rattle.std.proofs.Common.{◌∙◌, sym}
-use Rattle.rm_pcap.proofs.CaptureLemmas.{not_read, is_first, begins_not, header_read}
+use Rattle.std.proofs.lemmas.Result.{err_from_is_err_and}
+use Rattle.rm_pcap.proofs.CaptureLemmas.{begins_not, header_read}
 use Rattle.rm_pcap.specs.View.{progress_of}
 use Rattle.rm_pcap.proofs.capture.Capture.begin.Goals as goal
 
-pub returns-in-Err-clause-cause : goal.returns-in-Err-clause-cause
-returns-in-Err-clause-cause g c = λ e. absurd (not_read c.in-Err.fault c.in-Err.ensures.kinds e)
-
-pub returns-in-Err-clause-header : goal.returns-in-Err-clause-header
-returns-in-Err-clause-header g c = λ bytes is.
-    begins_not bytes c.in-Err.fault c.in-Err.ensures.kinds
-    (sym (header_read bytes c.fill.new.into c.in-Ok.count c.fill.auto.into (c.in-Ok.ensures.octets bytes is)) ∙ sym c.in-Err.ensures.judged)
-
-pub returns-in-Err-clause-kinds : goal.returns-in-Err-clause-kinds
-returns-in-Err-clause-kinds g c = is_first c.in-Err.fault c.in-Err.ensures.kinds
+pub returns-in_err-form-clause-header : goal.returns-in_err-form-clause-header
+returns-in_err-form-clause-header g c = λ bytes is.
+    let p = err_from_is_err_and c.from_residual.result c.from_residual.ensures.1 in
+    rw (p.1, p.2)
+    (begins_not bytes c.in_err-form.field-0.0 c.in_err-form.ensures.kinds
+    (sym (header_read bytes c.fill.new.into c.in-Ok.count c.fill.auto.into (c.in-Ok.ensures.octets bytes is)) ∙ sym c.in_err-form.ensures.judged))
 
 pub returns-clause-header : goal.returns-clause-header
 unfolding progress_of
 returns-clause-header g c = λ bytes is.
-    sym (header_read bytes c.fill.new.into c.in-Ok.count c.fill.auto.into (c.in-Ok.ensures.octets bytes is)) ∙ sym c.in-Ok-header_of.ensures.judged
+    sym (header_read bytes c.fill.new.into c.in-Ok.count c.fill.auto.into (c.in-Ok.ensures.octets bytes is)) ∙ sym c.in_ok-form.ensures.judged
