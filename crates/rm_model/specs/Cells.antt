@@ -24,10 +24,14 @@ behind [] name = Some name
 behind (x ∷ front) [] = None
 behind (x ∷ front) (y ∷ name) = if nat_eq x y then behind front name else None
 
+-- whether a number is one of these
+abbrev pub is_one_of : List ℕ → ℕ → Bool
+is_one_of numbers number = list_any (λ other. nat_eq other number) numbers
+
 -- the instance that is left behind an entry: a column that is answered, and the numbers after it
 abbrev pub instance_left : List ℕ → Option (List ℕ) → Option Instance
 instance_left columns (Some (column ∷ index)) =
-    if list_any (nat_eq column) columns then Some (record { column = column; index = index }) else None
+    if is_one_of columns column then Some (record { column = column; index = index }) else None
 instance_left columns (Some []) = None
 instance_left columns None = None
 

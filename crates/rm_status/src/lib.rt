@@ -1,0 +1,16 @@
+//! What a group of objects does for GetNext and Get, and the search for the next cell of a table.
+#![tactic(auto)]
+
+mod both;
+mod group;
+mod instance;
+mod rows;
+mod scalars;
+mod search;
+
+pub use both::Both;
+pub use group::Group;
+pub use instance::instance_of;
+pub use rows::Rows;
+pub use scalars::Scalars;
+pub use search::next_name;
