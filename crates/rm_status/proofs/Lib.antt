@@ -1,2 +1,3 @@
 mod SearchLemmas
 mod StartLemmas
+mod Sources

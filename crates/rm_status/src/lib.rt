@@ -4,13 +4,17 @@
 mod both;
 mod group;
 mod instance;
+mod interface;
 mod rows;
 mod scalars;
 mod search;
+mod system;
 
 pub use both::Both;
 pub use group::Group;
 pub use instance::instance_of;
+pub use interface::{INTERFACES, interface_name, source};
 pub use rows::Rows;
 pub use scalars::Scalars;
 pub use search::next_name;
+pub use system::System;

@@ -24,3 +24,12 @@ impl Rows for Scalars {
         }
     }
 }
+
+impl Scalars {
+    /// Whether these numbers are the index of that row.
+    pub fn has(index: &Oid) -> bool
+        ensures { result ≡ bytes_eq index.now (0 ∷ []) }
+    {
+        index.len() == 1 && index.at(0) == 0
+    }
+}
