@@ -1,6 +1,6 @@
 -- The variables that have a value, and the next of them.
-use Rattle.std.specs.Prelude.{◌≡◌, ℕ, List, [], ◌∷◌, Bool, false, nat_eq, if◌then◌else◌, Option, Some, None, is_some}
-use Rattle.std.specs.List.{list_any}
+use Rattle.std.specs.Prelude.{◌≡◌, ℕ, List, [], ◌∷◌, ◌++◌, Bool, false, nat_eq, if◌then◌else◌, Option, Some, None, is_some}
+use Rattle.std.specs.List.{list_any, starts_with}
 use Rattle.rm_val.specs.Val.{Val}
 use Rattle.rm_model.specs.Names.{IsLeastAbove}
 use Rattle.rm_model.specs.declared.instance.Instance.{Instance}
@@ -39,6 +39,10 @@ instance_left columns None = None
 -- one exactly where the name begins with the identifier of one of these columns.
 abbrev pub instance_of : List ℕ → List ℕ → List ℕ → Option Instance
 instance_of entry columns name = instance_left columns (behind entry name)
+
+-- whether a name begins with the identifier of one of the columns under an entry
+abbrev pub is_of_column : List ℕ → List ℕ → List ℕ → Bool
+is_of_column entry columns name = list_any (λ column. starts_with nat_eq name (entry ++ column ∷ [])) columns
 
 abbrev pub is_of_row : (List ℕ → Bool) → Option Instance → Bool
 is_of_row is_row (Some at) = is_row at.index

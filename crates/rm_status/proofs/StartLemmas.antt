@@ -1,11 +1,11 @@
 -- Names under the entry of a table, and where the cells above a name begin.
-use Rattle.std.proofs.Common.{◌≡◌, ℕ, zero, suc, ◌<◌, ◌≤◌, ◌⊎◌, inl, inr, List, [], ◌∷◌, ◌++◌, refl, sym, ◌∙◌, ap, subst, Bool, true, false, cond, ◌&&◌, Option, Some, None, nat_lt, nat_eq, arith, length, drop, slice_get, ◌+◌, bytes_eq}
+use Rattle.std.proofs.Common.{◌≡◌, ℕ, zero, suc, ◌<◌, ◌≤◌, ◌⊎◌, inl, inr, List, [], ◌∷◌, ◌++◌, refl, sym, ◌∙◌, ap, subst, Bool, true, false, cond, ◌&&◌, Option, Some, None, nat_lt, nat_eq, arith, length, drop, slice_get, ◌+◌}
 use Rattle.std.proofs.lemmas.Option.{slice_get_within}
 use Rattle.std.specs.List.{starts_with}
 use Rattle.std.specs.declared.cmp.Ordering.{Ordering}
 use Rattle.std.specs.declared.cmp.Ordering.TheVariants.{Less, Equal, Greater}
 use Rattle.std.specs.Ordering.{nat_cmp, is_lt, ordering_then}
-use Rattle.std.specs.Cmp.Lexicographic.{slice_cmp, same_text}
+use Rattle.std.specs.Cmp.Lexicographic.{slice_cmp}
 use Rattle.std.proofs.lemmas.Bool.Decides.{nat_tests}
 use Rattle.rm_model.specs.Names.{Below, IsLeastAbove}
 use Rattle.rm_model.specs.Cells.{behind, is_one_of, instance_of, instance_left, is_of_row, is_cell_name}
@@ -262,24 +262,6 @@ module _ (e columns n : List ℕ) where
 
       pub instance_some : true ≡ is_one_of columns column → Some (record { column = column; index = drop (length e + 1) n }) ≡ instance_of e columns n
       instance_some in_list = sym (left_is ∙ rw (← in_list) refl)
-
--- above a name of one number or more stands no 0 alone
-pub none_above_zero : (asked : List ℕ) → (length asked ≡ 0 → ⊥) → IsLeastAbove (λ index. bytes_eq index (0 ∷ [])) asked None
-none_above_zero asked some name above = unless_true (bytes_eq name (0 ∷ [])) (λ is.
-    let same : name ≡ 0 ∷ [] = same_text name (0 ∷ []) (sym is) in
-    not_below_zero asked some (rw (← same) above))
-  where
-    no_less : (rest : List ℕ) → slice_cmp nat_cmp rest [] ≡ Less → ⊥
-    no_less [] h = cc
-    no_less (x ∷ rest) h = cc
-
-    not_below_zero : (asked : List ℕ) → (length asked ≡ 0 → ⊥) → Below asked (0 ∷ []) → ⊥
-    not_below_zero [] some h = some refl
-    not_below_zero (x ∷ rest) some h = by (then_less x 0 (slice_cmp nat_cmp rest []) h)
-      where
-        by : (x < 0) ⊎ ((x ≡ 0) × (slice_cmp nat_cmp rest [] ≡ Less)) → ⊥
-        by (inl less) = omega arith
-        by (inr same) = no_less rest same.1
 
 -- where the cells above a name begin, by the front of the name and its order
 module _ (e n : List ℕ) where

@@ -1,8 +1,9 @@
 // Two groups as one.
-ghost use Rattle.std.specs.Prelude.{◌≡◌, ℕ, ◌≤◌, List};
+ghost use Rattle.std.specs.Prelude.{◌≡◌, ℕ, ◌≤◌, List, ◌||◌};
 ghost use Rattle.std.specs.Option.{option_or};
 
 use crate::group::Group;
+use crate::objects::Objects;
 use rm_val::{Oid, Value};
 use std::cmp::Ordering;
 
@@ -48,5 +49,13 @@ impl<G: Group, H: Group> Group for Both<G, H> {
                 },
             },
         }
+    }
+}
+
+impl<G: Objects, H: Objects> Objects for Both<G, H> {
+    ghost objects = { λ name. G.objects name || H.objects name };
+
+    fn has_object(name: &Oid) -> bool {
+        G::has_object(name) || H::has_object(name)
     }
 }

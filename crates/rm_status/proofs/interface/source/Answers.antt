@@ -1,4 +1,4 @@
-use Rattle.std.proofs.Common.{◌≡◌, ◌+◌, ◌≤◌, arith, sym, ◌∙◌}
+use Rattle.std.proofs.Common.{arith, sym, ◌∙◌}
 use Rattle.rm_status.proofs.Sources.{none_up_to}
 use Rattle.rm_status.proofs.interface.source.Goals as goal
 

@@ -1,4 +1,4 @@
-use Rattle.std.proofs.Common.{◌≡◌, ℕ, ◌≤◌, ◌<◌}
+use Rattle.std.proofs.Common.{ℕ, ◌≤◌, ◌<◌}
 use Rattle.rm_val.specs.Val.{name}
 use Rattle.rm_model.specs.Interfaces.{is_interface}
 use Rattle.std.specs.Prelude.{IsTrue}
