@@ -1,0 +1,3 @@
+pub mod Ethernet
+pub mod Datagram
+pub mod Facts

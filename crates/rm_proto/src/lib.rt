@@ -1,0 +1,18 @@
+//! The facts of an Ethernet frame: how long it was on the wire, whether it is good, and what its headers say of
+//! addresses, type, protocol and ports.
+#![tactic(auto)]
+
+mod datagram;
+mod ethernet;
+mod field;
+mod frame;
+mod known;
+mod ports;
+#[cfg(test)]
+mod tests;
+
+pub use datagram::IpPair;
+pub use ethernet::{Cast, Pair};
+pub use frame::facts;
+pub use known::Facts;
+pub use ports::Ports;

@@ -1,0 +1,32 @@
+// The ports of a header of TCP or UDP.
+ghost use Rattle.std.specs.Prelude.{◌≡◌};
+
+use byteorder::{BigEndian, ByteOrder};
+
+/// The octets of both ports.
+const BOTH_PORTS: usize = 4;
+
+/// The ports of a segment of TCP (RFC 793) or a datagram of UDP (RFC 768).
+#[derive(Clone, Copy, Debug, PartialEq, Eq)]
+pub struct Ports {
+    pub source: u16,
+    pub dest: u16,
+}
+
+impl Ports {
+    ghost use Rattle.rm_proto.specs.Datagram.{ports_at_front};
+
+    /// The ports at the front of these octets; None where they have fewer than four.
+    #[tactic(auto, unfolding(crate::specs::Datagram::ports_at_front))]
+    pub(crate) fn at_front(segment: &[u8]) -> Option<Ports>
+        ensures { result ≡ ports_at_front segment.now }
+    {
+        if segment.len() < BOTH_PORTS {
+            return None;
+        }
+        Some(Ports {
+            source: BigEndian::read_u16(segment),
+            dest: BigEndian::read_u16(&segment[2..]),
+        })
+    }
+}
