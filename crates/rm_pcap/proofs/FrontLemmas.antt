@@ -1,0 +1,75 @@
+-- The numbers of a header stand in its octets alone.
+use Rattle.std.proofs.Common.{◌≡◌, ℕ, zero, suc, ◌+◌, ◌-◌, ◌≤◌, ◌<◌, nat_le, List, length, take, drop, Option, Some, None, refl, ap, ◌∙◌, arith}
+use Rattle.std.specs.Prelude.{slice_index}
+use Rattle.std.proofs.lemmas.List.{drop-take, get_or-take, length-take}
+use Rattle.std.proofs.lemmas.Bool.Decides.{nat_tests}
+use Rattle.byteorder.specs.Endian.{big_from, little_from}
+use Rattle.rm_pcap.specs.declared.form.Order.{Order}
+use Rattle.rm_pcap.specs.declared.form.Order.TheVariants.{HighestFirst, LowestFirst}
+use Rattle.rm_pcap.specs.declared.form.Form.{Form}
+use Rattle.rm_pcap.specs.declared.reach.Reach.{Reach}
+use Rattle.rm_pcap.specs.Header.{number_at, form_of, has_version, has_link_type, header_with, header_of}
+use Rattle.rm_pcap.specs.Records.{included_of, original_of, time_of, fault_at}
+use Rattle.rm_pcap.specs.Seen.{record_of}
+
+index_front : (k i : ℕ) (xs : List ℕ) → i < k → slice_index (take k xs) i ≡ slice_index xs i
+index_front k i xs below = get_or-take k xs i 0 below
+
+big_front : (i n k : ℕ) (xs : List ℕ) → i + n ≤ k → big_from i n (take k xs) ≡ big_from i n xs
+big_front i zero k xs fits = refl
+big_front i (suc n) k xs fits =
+    let here : slice_index (take k xs) i ≡ slice_index xs i = index_front k i xs (omega (arith, fits)) in
+    let more : big_from (suc i) n (take k xs) ≡ big_from (suc i) n xs = big_front (suc i) n k xs (omega (arith, fits)) in
+    rw (here, more) refl
+
+little_front : (i n k : ℕ) (xs : List ℕ) → i + n ≤ k → little_from i n (take k xs) ≡ little_from i n xs
+little_front i zero k xs fits = refl
+little_front i (suc n) k xs fits =
+    let here : slice_index (take k xs) i ≡ slice_index xs i = index_front k i xs (omega (arith, fits)) in
+    let more : little_from (suc i) n (take k xs) ≡ little_from (suc i) n xs = little_front (suc i) n k xs (omega (arith, fits)) in
+    rw (here, more) refl
+
+rest_front : (at m : ℕ) (xs : List ℕ) → at ≤ m → drop at (take m xs) ≡ take (m - at) (drop at xs)
+rest_front at m xs within = let e : m ≡ at + (m - at) = omega arith in ap (λ (k : ℕ). drop at (take k xs)) e ∙ drop-take at (m - at) xs
+
+-- a number that stands within the front of some octets
+pub number_front : (order : Order) (n at m : ℕ) (xs : List ℕ) → at + n ≤ m → number_at order n at (take m xs) ≡ number_at order n at xs
+unfolding number_at
+number_front HighestFirst n at m xs fits = ap (big_from 0 n) (rest_front at m xs (omega (arith, fits))) ∙ big_front 0 n (m - at) (drop at xs) (omega (arith, fits))
+number_front LowestFirst n at m xs fits = ap (little_from 0 n) (rest_front at m xs (omega (arith, fits))) ∙ little_front 0 n (m - at) (drop at xs) (omega (arith, fits))
+
+-- the numbers of the record whose header comes first
+pub record_front : (form : Form) (lead : ℕ) (reach : Reach) (xs : List ℕ) → record_of form lead reach (take 16 xs) ≡ record_of form lead reach xs
+unfolding included_of original_of time_of
+record_front form lead reach xs =
+    rw (number_front form.order 4 0 16 xs (omega arith), number_front form.order 4 4 16 xs (omega arith), number_front form.order 4 8 16 xs (omega arith), number_front form.order 4 12 16 xs (omega arith)) refl
+
+pub fault_front : (form : Form) (lead : ℕ) (reach : Reach) (xs : List ℕ) → fault_at form lead reach (take 16 xs) ≡ fault_at form lead reach xs
+unfolding fault_at included_of original_of time_of
+fault_front form lead reach xs =
+    rw (number_front form.order 4 0 16 xs (omega arith), number_front form.order 4 4 16 xs (omega arith), number_front form.order 4 8 16 xs (omega arith), number_front form.order 4 12 16 xs (omega arith)) refl
+
+-- whether there are so many octets
+long_front : (n m : ℕ) (xs : List ℕ) → n ≤ m → nat_le n (length (take m xs)) ≡ nat_le n (length xs)
+long_front n m xs within = rw (length-take m xs) (grind (arith, nat_tests))
+
+form_front : (xs : List ℕ) → form_of (take 24 xs) ≡ form_of xs
+unfolding form_of
+form_front xs = rw (long_front 4 24 xs (omega arith), number_front HighestFirst 4 0 24 xs (omega arith), number_front LowestFirst 4 0 24 xs (omega arith)) refl
+
+version_front : (form : Form) (xs : List ℕ) → has_version form (take 24 xs) ≡ has_version form xs
+unfolding has_version
+version_front form xs = rw (long_front 8 24 xs (omega arith), number_front form.order 2 4 24 xs (omega arith), number_front form.order 2 6 24 xs (omega arith)) refl
+
+link_front : (form : Form) (xs : List ℕ) → has_link_type form (take 24 xs) ≡ has_link_type form xs
+unfolding has_link_type
+link_front form xs = rw (long_front 24 24 xs (omega arith), number_front form.order 4 20 24 xs (omega arith)) refl
+
+with_front : (form : Option Form) (xs : List ℕ) → header_with form (take 24 xs) ≡ header_with form xs
+with_front None xs = refl
+with_front (Some form) xs = rw (version_front form xs, link_front form xs) refl
+
+-- a file header
+pub header_front : (xs : List ℕ) → header_of (take 24 xs) ≡ header_of xs
+unfolding header_of
+header_front xs = rw (form_front xs) (with_front (form_of xs) xs)

@@ -1,0 +1,7 @@
+pub mod FillingLemmas
+pub mod FrontLemmas
+pub mod FoundLemmas
+pub mod CaptureLemmas
+pub mod RecordLaws
+pub mod StepLemmas
+pub mod CountLemmas

@@ -1,0 +1,120 @@
+-- A file has its records in one way.
+use Rattle.std.proofs.Common.{◌≡◌, ℕ, zero, suc, ◌+◌, ◌-◌, ◌≤◌, ◌<◌, nat_lt, Bool, true, false, if◌then◌else◌, List, [], ◌∷◌, length, drop, Option, Some, None, Result, Ok, Err, refl, sym, ap, ap, subst, ◌∙◌, arith}
+use Rattle.std.specs.Prelude.{MatchResult}
+use Rattle.std.proofs.lemmas.List.{length-drop}
+use Rattle.std.proofs.lemmas.Bool.Decides.{nat_tests}
+use Rattle.rm_model.specs.Journal.{Frame}
+use Rattle.rm_pcap.specs.declared.form.Form.{Form}
+use Rattle.rm_pcap.specs.declared.fault.PcapFault.{PcapFault}
+use Rattle.rm_pcap.specs.declared.reach.Reach.{Reach}
+use Rattle.rm_pcap.specs.Header.{header_of}
+use Rattle.rm_pcap.specs.Records.{Found, Whole, Stops, Stop, CutAt, Broken, found_at, found_in, found_with, fault_at, included_of, frame_at, reach_after, beginning, AreRecords, ReadsAs}
+
+pub one_list : (form : Form) (lead : ℕ) (reach : Reach) (bytes : List ℕ) (frames others : List Frame) (stop last : Stop)
+    → AreRecords form lead reach bytes frames stop → AreRecords form lead reach bytes others last → (frames ≡ others) × (stop ≡ last)
+unfolding AreRecords
+one_list form lead reach bytes [] [] stop last a b = let e : Stops stop ≡ Stops last = sym a ∙ b in (refl, cc)
+one_list form lead reach bytes [] (other ∷ more) stop last a b = absurd (let e : Stops stop ≡ Whole other b.0 = sym a ∙ b.1 in cc)
+one_list form lead reach bytes (frame ∷ rest) [] stop last a b = absurd (let e : Whole frame a.0 ≡ Stops last = sym a.1 ∙ b in cc)
+one_list form lead reach bytes (frame ∷ rest) (other ∷ more) stop last a b =
+    let e : Whole frame a.0 ≡ Whole other b.0 = sym a.1 ∙ b.1 in
+    let same : frame ≡ other = cc in
+    let next : b.0 ≡ a.0 = cc in
+    let one = one_list form lead a.0 bytes rest more stop last a.2 (subst (λ (r : Reach). AreRecords form lead r bytes more last) next b.2) in
+    (ap (λ (f : Frame). f ∷ rest) same ∙ ap (λ (t : List Frame). other ∷ t) one.0, one.1)
+
+one_way : (header : Result Form PcapFault) (lead : ℕ) (bytes : List ℕ) (frames others : List Frame) (stop last : Stop)
+    → MatchResult header (λ form. AreRecords form lead (beginning lead) bytes frames stop) (λ fault. (frames ≡ []) × (stop ≡ Broken fault))
+    → MatchResult header (λ form. AreRecords form lead (beginning lead) bytes others last) (λ fault. (others ≡ []) × (last ≡ Broken fault))
+    → (frames ≡ others) × (stop ≡ last)
+one_way (Ok form) lead bytes frames others stop last a b = one_list form lead (beginning lead) bytes frames others stop last a b
+one_way (Err fault) lead bytes frames others stop last a b = (a.0 ∙ sym b.0, a.1 ∙ sym b.1)
+
+pub one_reading : (lead : ℕ) (bytes : List ℕ) (frames others : List Frame) (stop last : Stop) → ReadsAs lead bytes frames stop → ReadsAs lead bytes others last
+    → (frames ≡ others) × (stop ≡ last)
+unfolding ReadsAs
+one_reading lead bytes frames others stop last a b = one_way (header_of bytes) lead bytes frames others stop last a b
+
+-- a record ends within the file, behind its beginning
+record IsWithin (reach next : Reach) (bytes : List ℕ) : Type 0 where
+  on : reach.at < next.at
+  within : next.at ≤ length bytes
+
+within_with : (form : Form) (lead : ℕ) (reach next : Reach) (bytes xs : List ℕ) (fault : Option PcapFault) (frame : Frame) → length xs ≡ length bytes - reach.at
+    → found_with form lead reach xs fault ≡ Whole frame next → IsWithin reach next bytes
+within_with form lead reach next bytes xs (Some fault) frame long is = absurd cc
+within_with form lead reach next bytes xs None frame long is =
+    by_test (nat_lt (length xs) (16 + included_of form xs)) refl is
+  where
+    by_test : (short : Bool) → nat_lt (length xs) (16 + included_of form xs) ≡ short
+        → (if short then Stops (CutAt reach.at) else Whole (frame_at form lead reach xs) (reach_after form lead reach xs)) ≡ Whole frame next → IsWithin reach next bytes
+    by_test true test e = absurd cc
+    by_test false test e =
+        let after : reach_after form lead reach xs ≡ next = cc in
+        let place : reach.at + (16 + included_of form xs) ≡ next.at = ap (λ (r : Reach). r.at) after in
+        let enough : 16 + included_of form xs ≤ length xs = grind (arith, nat_tests) in
+        record { on = omega arith; within = omega arith }
+
+within_in : (form : Form) (lead : ℕ) (reach next : Reach) (bytes xs : List ℕ) (frame : Frame) → length xs ≡ length bytes - reach.at → found_in form lead reach xs ≡ Whole frame next
+    → IsWithin reach next bytes
+within_in form lead reach next bytes [] frame long is = absurd cc
+within_in form lead reach next bytes (x ∷ xs) frame long is = by_test (nat_lt (length (x ∷ xs)) 16) is
+  where
+    by_test : (short : Bool) → (if short then Stops (CutAt reach.at) else found_with form lead reach (x ∷ xs) (fault_at form lead reach (x ∷ xs))) ≡ Whole frame next → IsWithin reach next bytes
+    by_test true e = absurd cc
+    by_test false e = within_with form lead reach next bytes (x ∷ xs) (fault_at form lead reach (x ∷ xs)) frame long e
+
+within : (form : Form) (lead : ℕ) (reach next : Reach) (bytes : List ℕ) (frame : Frame) → found_at form lead reach bytes ≡ Whole frame next → IsWithin reach next bytes
+unfolding found_at
+within form lead reach next bytes frame is = within_in form lead reach next bytes (drop reach.at bytes) frame (length-drop reach.at bytes) is
+
+-- some list of records
+record SomeRecords (form : Form) (lead : ℕ) (reach : Reach) (bytes : List ℕ) : Type 0 where
+  frames : List Frame
+  stop : Stop
+  are : AreRecords form lead reach bytes frames stop
+
+by_found : (form : Form) (lead : ℕ) (reach : Reach) (bytes : List ℕ) (found : Found) → found_at form lead reach bytes ≡ found
+    → ((next : Reach) → reach.at < next.at → next.at ≤ length bytes → SomeRecords form lead next bytes) → SomeRecords form lead reach bytes
+unfolding AreRecords
+by_found form lead reach bytes (Stops stop) is more = record { frames = []; stop = stop; are = is }
+by_found form lead reach bytes (Whole frame next) is more =
+    let w = within form lead reach next bytes frame is in
+    let left = more next w.on w.within in
+    record { frames = frame ∷ left.frames; stop = left.stop; are = (next, is, left.are) }
+
+some_records : (most : ℕ) (form : Form) (lead : ℕ) (reach : Reach) (bytes : List ℕ) → length bytes - reach.at < most → SomeRecords form lead reach bytes
+some_records zero form lead reach bytes few = absurd (omega (arith, few))
+some_records (suc most) form lead reach bytes few =
+    by_found form lead reach bytes (found_at form lead reach bytes) refl (λ next on inside. some_records most form lead next bytes (omega (arith, few, on, inside)))
+
+some_way : (header : Result Form PcapFault) (lead : ℕ) (bytes : List ℕ) → (frames : List Frame) × (stop : Stop)
+    × MatchResult header (λ form. AreRecords form lead (beginning lead) bytes frames stop) (λ fault. (frames ≡ []) × (stop ≡ Broken fault))
+some_way (Ok form) lead bytes =
+    let some = some_records (suc (length bytes)) form lead (beginning lead) bytes (omega arith) in (some.frames, some.stop, some.are)
+some_way (Err fault) lead bytes = ([], Broken fault, (refl, refl))
+
+pub every_reading : (lead : ℕ) (bytes : List ℕ) → (frames : List Frame) × (stop : Stop) × ReadsAs lead bytes frames stop
+unfolding ReadsAs
+every_reading lead bytes = some_way (header_of bytes) lead bytes
+
+-- the records that are left behind one that was passed
+pub record Behind (form : Form) (lead : ℕ) (next : Reach) (bytes : List ℕ) (frames : List Frame) (stop : Stop) : Type 0 where
+  pub more : List Frame
+  pub are : AreRecords form lead next bytes more stop
+  pub one : length frames ≡ 1 + length more
+
+pub behind : (form : Form) (lead : ℕ) (reach next : Reach) (bytes : List ℕ) (frame : Frame) (frames : List Frame) (stop : Stop)
+    → found_at form lead reach bytes ≡ Whole frame next → AreRecords form lead reach bytes frames stop → Behind form lead next bytes frames stop
+unfolding AreRecords
+behind form lead reach next bytes frame [] stop is are = absurd (let e : Stops stop ≡ Whole frame next = sym are ∙ is in cc)
+behind form lead reach next bytes frame (first ∷ more) stop is are =
+    let e : Whole first are.0 ≡ Whole frame next = sym are.1 ∙ is in
+    let same : are.0 ≡ next = cc in
+    record { more = more; are = subst (λ (r : Reach). AreRecords form lead r bytes more stop) same are.2; one = omega arith }
+
+pub none_behind : (form : Form) (lead : ℕ) (reach : Reach) (bytes : List ℕ) (frames : List Frame) (last stop : Stop)
+    → found_at form lead reach bytes ≡ Stops last → AreRecords form lead reach bytes frames stop → length frames ≡ 0
+unfolding AreRecords
+none_behind form lead reach bytes [] last stop is are = refl
+none_behind form lead reach bytes (first ∷ more) last stop is are = absurd (let e : Whole first are.0 ≡ Stops last = sym are.1 ∙ is in cc)

@@ -1,0 +1,69 @@
+-- How far a capture has been read, and what its calls do to that.
+use Rattle.std.specs.Prelude.{◌≡◌, ◌≤◌, ℕ, ◌+◌, List, length, Option, Some, None, ⊤}
+use Rattle.rm_model.specs.Journal.{Frame as Passed}
+use Rattle.rm_pcap.specs.declared.form.Form.{Form}
+use Rattle.rm_pcap.specs.declared.reach.Reach.{Reach}
+use Rattle.rm_pcap.specs.declared.frame.Frame.{Frame}
+use Rattle.rm_pcap.specs.declared.frame.Step.{Step}
+use Rattle.rm_pcap.specs.declared.frame.Step.TheVariants.{Next, End, Cut}
+use Rattle.rm_pcap.specs.Records.{Ended, CutAt, Broken, Found, Whole, Stops, found_at, beginning}
+
+-- A capture that is being read: how its octets are read, the moment of its first frame, how far its records were passed, and
+-- what was found there, if it was looked at.
+pub record Progress : Type 0 where
+  pub form : Form
+  pub lead : ℕ
+  pub reach : Reach
+  pub ahead : Option Found
+
+-- before the first record
+abbrev pub begun : Form → ℕ → Progress
+begun form lead = record { form = form; lead = lead; reach = beginning lead; ahead = None }
+
+-- what stands next in a file of these octets
+abbrev pub next_in : Progress → List ℕ → Found
+next_in progress bytes = found_at progress.form progress.lead progress.reach bytes
+
+-- what was looked at is what a file of these octets has there
+abbrev pub Agrees : Progress → List ℕ → Type 0
+Agrees progress bytes = (found : Found) → progress.ahead ≡ Some found → found ≡ next_in progress bytes
+
+-- the same place, with what was found there
+abbrev pub looking_at : Progress → Found → Progress
+looking_at progress found = record progress { ahead = Some found }
+
+-- the place behind what was found; it stays where the records stop
+abbrev pub passing : Progress → Found → Progress
+passing progress (Whole frame after) = record progress { reach = after; ahead = None }
+passing progress (Stops stop) = looking_at progress (Stops stop)
+
+-- the moment of the frame that was found, if one was
+abbrev pub moment_found : Found → Option ℕ
+moment_found (Whole frame after) = Some frame.moment
+moment_found (Stops stop) = None
+
+-- the frame that the code lends, as a journal holds it
+abbrev pub frame_of : Frame → Passed
+frame_of frame = record { interface = 1; moment = frame.moment; number = frame.number; octets = frame.bytes.now; original = frame.original }
+
+-- the step shows what was found
+abbrev pub Shows : Step → Found → Type 0
+Shows (Next frame) (Whole passed after) = passed ≡ frame_of frame
+Shows End (Stops Ended) = ⊤
+Shows (Cut at) (Stops (CutAt place)) = at ≡ place
+Shows step found = ⊥
+
+-- what holds of a record that was found, whatever the file is
+pub record IsLawful (reach : Reach) (frame : Passed) (after : Reach) : Type 0 where
+  pub captured : length frame.octets ≤ frame.original
+  pub most : frame.original ≤ 262144
+  pub number : frame.number ≡ reach.count + 1
+  pub few : frame.number ≤ 100000000
+  pub moment : reach.last ≤ frame.moment
+  pub last : after.last ≡ frame.moment
+  pub count : after.count ≡ frame.number
+
+abbrev pub IsLawfulFind : Reach → Found → Type 0
+IsLawfulFind reach (Whole frame after) = IsLawful reach frame after
+IsLawfulFind reach (Stops (Broken fault)) = ⊥
+IsLawfulFind reach (Stops stop) = ⊤

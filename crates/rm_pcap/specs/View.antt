@@ -1,0 +1,39 @@
+-- How far a capture has been read, as its callers see it.
+use Rattle.std.specs.Prelude.{◌≡◌, ℕ, List, Option, Some, None, Result, Ok, Err}
+use Rattle.rm_edge.specs.Outside.{Held}
+use Rattle.rm_pcap.specs.declared.fault.PcapFault.{PcapFault}
+use Rattle.rm_pcap.specs.declared.form.Form.{Form}
+use Rattle.rm_pcap.specs.declared.record.Seen.{Seen}
+use Rattle.rm_pcap.specs.declared.place.Place.{Place}
+use Rattle.rm_pcap.specs.declared.capture.Capture.{Capture}
+use Rattle.rm_pcap.specs.Records.{Found}
+use Rattle.rm_pcap.specs.Progress.{Progress}
+use Rattle.rm_pcap.specs.Calls.{Looks, Passes}
+use Rattle.rm_pcap.specs.Seen.{found_of}
+
+-- what was found at a place, if it was looked at
+abbrev pub ahead_of : Place → List ℕ → Option Seen → Option Found
+ahead_of place buffer None = None
+ahead_of place buffer (Some seen) = Some (found_of place.reach buffer seen)
+
+unfoldable pub progress_of : Capture → Progress
+progress_of capture = record {
+  form = capture.place.form;
+  lead = capture.place.lead;
+  reach = capture.place.reach;
+  ahead = ahead_of capture.place capture.buffer.items capture.seen;
+}
+
+-- the form that a capture began with
+abbrev pub form_begun : Result Capture PcapFault → Result Form PcapFault
+form_begun (Ok capture) = Ok (progress_of capture).form
+form_begun (Err fault) = Err fault
+
+-- what is kept of a look and of a step: what was seen, with the octets that are in the buffer
+abbrev pub KeepsLook : Held → Capture → Capture → Result Seen PcapFault → Type 0
+KeepsLook held old new (Ok seen) = Looks held (progress_of old) (progress_of new) (found_of old.place.reach new.buffer.items seen)
+KeepsLook held old new (Err fault) = progress_of new ≡ progress_of old
+
+abbrev pub KeepsStep : Held → Capture → Capture → Result Seen PcapFault → Type 0
+KeepsStep held old new (Ok seen) = Passes held (progress_of old) (progress_of new) (found_of old.place.reach new.buffer.items seen)
+KeepsStep held old new (Err fault) = progress_of new ≡ progress_of old

@@ -1,0 +1,180 @@
+ghost use Rattle.std.specs.Prelude.{◌≡◌, ◌≤◌, ◌+◌, ℕ, List, vec_len, IfOk, IfErr, OnErr, ⊤};
+ghost use Rattle.std.specs.Borrow.{sem};
+ghost use denote.Follow.{follows_so};
+ghost use mathlib.Core.Option.{none};
+ghost use Rattle.rm_edge.specs.Outside.{File, Absent, Rose};
+ghost use Rattle.rm_pcap.specs.Seen.{IsAhead, IsNear, FollowsSeen};
+ghost use Rattle.rm_pcap.specs.Progress.{begun};
+ghost use Rattle.rm_pcap.specs.Calls.{LooksAt, Steps, Fails, IsFirstFault, BeginsAs};
+
+use crate::fault::PcapFault;
+use crate::filling::fill;
+use crate::frame::{Frame, Step};
+use crate::header::{HEADER, header_of};
+use crate::place::Place;
+use crate::reach::Reach;
+use crate::record::{MOST_LENGTH, RECORD_HEADER, Seen};
+use rm_edge::Shelf;
+use std::alloc::Global;
+
+/// How many octets a record has at most.
+const ROOM: usize = RECORD_HEADER + MOST_LENGTH as usize;
+
+/// A capture that is read record by record. It holds one record at a time.
+#[derive(Drop)]
+pub struct Capture {
+    place: Place,
+    // The record that was seen, its header in front.
+    buffer: Vec<u8>,
+    seen: Option<Seen>,
+    ghost room: { vec_len buffer ≡ 262160 },
+    ghost near: { IsNear place.reach },
+    ghost follows: { IsAhead place.reach seen },
+}
+
+impl Capture {
+    ghost use Rattle.rm_pcap.specs.View.{progress_of, form_begun, KeepsLook, KeepsStep};
+    ghost use Rattle.rm_pcap.specs.contracts.capture.Capture.{the_row};
+
+    /// Begins to read a capture whose first frame stands at a moment, in milliseconds: judges its file header, and
+    /// reserves room for one record.
+    ///
+    /// Magic, Version and LinkType come in this order, also where the file ends before the octets that are judged.
+    /// Read comes only where a read failed. A name without a file always fails with Read.
+    #[tactic(auto, unfolding(crate::specs::View::progress_of))]
+    pub fn begin<S: Shelf>(
+        alloc: Global,
+        shelf: &mut S,
+        name: &str,
+        lead: u32,
+    ) -> Result<Capture, PcapFault>
+        ensures constant { (each : List ℕ) → S.held shelf.new each ≡ S.held shelf.old each }
+        ensures later { (each : List ℕ) → S.faults shelf.old each ≤ S.faults shelf.new each }
+        ensures cause { IfErr result (λ fault. fault ≡ PcapFault.Read
+            → Rose (S.faults shelf.old name.now) (S.faults shelf.new name.now)) }
+        ensures absent { S.held shelf.old name.now ≡ Absent → result ≡ Err PcapFault.Read }
+        ensures begun { IfOk result (λ capture.
+            progress_of capture ≡ begun (progress_of capture).form lead) }
+        ensures header { (bytes : List ℕ) → S.held shelf.old name.now ≡ File bytes
+            → BeginsAs bytes (form_begun result) }
+        ensures kinds { IfErr result IsFirstFault }
+    {
+        let mut header = [0; HEADER];
+        let Ok(count) = fill(shelf, name, 0, &mut header) else {
+            return Err(PcapFault::Read);
+        };
+        let form = match header_of(&header[..count]) {
+            Ok(form) => form,
+            Err(fault) => return Err(fault),
+        };
+        let Ok(buffer) = vec![in alloc; 0u8; ROOM] else {
+            return Err(PcapFault::NoMemory);
+        };
+        let reach = Reach {
+            first: None,
+            last: lead,
+            count: 0,
+            at: HEADER as u64,
+        };
+        Ok(Capture {
+            place: Place { form, lead, reach },
+            buffer,
+            seen: None,
+        })
+    }
+
+    // Sees what stands next, unless it was seen already.
+    fn look<S: Shelf>(&mut self, shelf: &mut S, name: &str) -> Result<Seen, PcapFault>
+        ensures constant { (each : List ℕ) → S.held shelf.new each ≡ S.held shelf.old each }
+        ensures later { (each : List ℕ) → S.faults shelf.old each ≤ S.faults shelf.new each }
+        ensures cause { IfErr result (λ fault. fault ≡ PcapFault.Read
+            → Rose (S.faults shelf.old name.now) (S.faults shelf.new name.now)) }
+        ensures place { self.new.place ≡ self.old.place }
+        ensures seen { IfOk result (λ seen. self.new.seen ≡ Some seen) }
+        ensures follows { IfOk result (FollowsSeen self.old.place.reach) }
+        ensures looks { KeepsLook (S.held shelf.old name.now) self.old self.new result }
+        ensures faults { IfErr result (Fails (S.held shelf.old name.now) (progress_of self.old)) }
+    {
+        if let Some(seen) = self.seen {
+            return Ok(seen);
+        }
+        let seen = match self.place.see(shelf, name, &mut self.buffer) {
+            Ok(seen) => seen,
+            Err(fault) => return Err(fault),
+        };
+        self.seen = Some(seen);
+        Ok(seen)
+    }
+
+    // Sees what stands next, and passes a record.
+    fn pass<S: Shelf>(&mut self, shelf: &mut S, name: &str) -> Result<Seen, PcapFault>
+        ensures constant { (each : List ℕ) → S.held shelf.new each ≡ S.held shelf.old each }
+        ensures later { (each : List ℕ) → S.faults shelf.old each ≤ S.faults shelf.new each }
+        ensures cause { IfErr result (λ fault. fault ≡ PcapFault.Read
+            → Rose (S.faults shelf.old name.now) (S.faults shelf.new name.now)) }
+        ensures follows { IfOk result (FollowsSeen self.old.place.reach) }
+        ensures stays { IfOk result (λ seen. seen ≡ Seen.Cut → self.new.place.reach.at ≡ self.old.place.reach.at) }
+        ensures passes { KeepsStep (S.held shelf.old name.now) self.old self.new result }
+        ensures faults { IfErr result (Fails (S.held shelf.old name.now) (progress_of self.old)) }
+    {
+        let seen = match self.look(shelf, name) {
+            Ok(seen) => seen,
+            Err(fault) => return Err(fault),
+        };
+        match seen {
+            Seen::Whole(record) => {
+                self.place.reach = record.after;
+                self.seen = None;
+                Ok(seen)
+            }
+            _ => Ok(seen),
+        }
+    }
+
+    /// The moment of the next record's frame, which stays the next. None comes exactly where `next` gives End or Cut.
+    ///
+    /// The faults are those of `next`, and after a fault the capture is as before. It takes no memory.
+    pub fn peek<S: Shelf>(&mut self, shelf: &mut S, name: &str) -> Result<Option<u32>, PcapFault>
+        ensures constant { (each : List ℕ) → S.held shelf.new each ≡ S.held shelf.old each }
+        ensures later { (each : List ℕ) → S.faults shelf.old each ≤ S.faults shelf.new each }
+        ensures cause { IfErr result (λ fault. fault ≡ PcapFault.Read
+            → Rose (S.faults shelf.old name.now) (S.faults shelf.new name.now)) }
+        ensures looks { IfOk result
+            (LooksAt (S.held shelf.old name.now) (progress_of self.old) (progress_of self.new)) }
+        ensures same { OnErr result (progress_of self.new ≡ progress_of self.old) }
+        ensures faults { IfErr result (Fails (S.held shelf.old name.now) (progress_of self.old)) }
+    {
+        match self.look(shelf, name) {
+            Ok(Seen::Whole(record)) => Ok(Some(record.after.last)),
+            Ok(_) => Ok(None),
+            Err(fault) => Err(fault),
+        }
+    }
+
+    /// The next record, which is passed: `peek` and `next` go on behind it. Its octets are lent from the capture.
+    ///
+    /// After End or Cut the same answer comes again. After an Ok of `peek` it gives what `peek` read, whatever the
+    /// shelf then gives. Included, Original, Late and TooMany come where the next record has that fault, Read only
+    /// where a read failed, and after a fault the capture is as before. It takes no memory.
+    pub fn next<S: Shelf>(&mut self, shelf: &mut S, name: &str) -> Result<Step<'_>, PcapFault>
+        ensures constant { (each : List ℕ) → S.held shelf.new each ≡ S.held shelf.old each }
+        ensures later { (each : List ℕ) → S.faults shelf.old each ≤ S.faults shelf.new each }
+        ensures cause { IfErr result (λ fault. fault ≡ PcapFault.Read
+            → Rose (S.faults shelf.old name.now) (S.faults shelf.new name.now)) }
+        ensures faults { IfErr result (Fails (S.held shelf.old name.now) (progress_of self.old)) }
+        ensures* after { sem 𝓛 (follows_so the_row the_row self.entry.ghost_name none (λ _ _. ⊤)
+            (λ after. Steps (S.held shelf.old name.now) (progress_of self.old) (progress_of after) result)) }
+    {
+        match self.pass(shelf, name) {
+            Ok(Seen::Whole(record)) => Ok(Step::Next(Frame {
+                bytes: &self.buffer[RECORD_HEADER..RECORD_HEADER + record.included as usize],
+                original: record.original,
+                moment: record.after.last,
+                number: record.after.count,
+            })),
+            Ok(Seen::End) => Ok(Step::End),
+            Ok(Seen::Cut) => Ok(Step::Cut(self.place.reach.at)),
+            Err(fault) => Err(fault),
+        }
+    }
+}

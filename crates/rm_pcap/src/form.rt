@@ -1,0 +1,22 @@
+/// Which octet of a capture's numbers comes first.
+#[derive(Clone, Copy, Debug, PartialEq, Eq)]
+pub enum Order {
+    /// The highest one.
+    HighestFirst,
+    /// The lowest one.
+    LowestFirst,
+}
+
+/// What the fractions of a capture's times count.
+#[derive(Clone, Copy, Debug, PartialEq, Eq)]
+pub enum Unit {
+    Microseconds,
+    Nanoseconds,
+}
+
+/// How a capture's octets are read, as its magic number tells.
+#[derive(Clone, Copy, Debug, PartialEq, Eq)]
+pub struct Form {
+    pub order: Order,
+    pub unit: Unit,
+}

@@ -1,0 +1,24 @@
+// Laws of what the octets of a file are as a capture. The bodies cite the proofs, and do nothing else.
+ghost use Rattle.std.specs.Prelude.{◌≡◌, ℕ, List};
+ghost use Rattle.rm_model.specs.Journal.{Frame as Passed};
+ghost use Rattle.rm_pcap.specs.declared.form.Form.{Form};
+ghost use Rattle.rm_pcap.specs.declared.reach.Reach.{Reach};
+ghost use Rattle.rm_pcap.specs.Records.{Stop, AreRecords, ReadsAs};
+
+/// A law: from a reach on, a file has one list of records at most, and stops in one way.
+pub fn one_list_of_records()
+    ensures { (form : Form) (lead : ℕ) (reach : Reach) (bytes : List ℕ) (frames others : List Passed) (stop last : Stop)
+        → AreRecords form lead reach bytes frames stop → AreRecords form lead reach bytes others last
+        → (frames ≡ others) × (stop ≡ last) }
+{}
+
+/// A law: a file reads in one way at most.
+pub fn one_reading()
+    ensures { (lead : ℕ) (bytes : List ℕ) (frames others : List Passed) (stop last : Stop)
+        → ReadsAs lead bytes frames stop → ReadsAs lead bytes others last → (frames ≡ others) × (stop ≡ last) }
+{}
+
+/// A law: each file reads in some way.
+pub fn every_reading()
+    ensures { (lead : ℕ) (bytes : List ℕ) → (frames : List Passed) × (stop : Stop) × ReadsAs lead bytes frames stop }
+{}

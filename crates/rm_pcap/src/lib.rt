@@ -1,0 +1,23 @@
+//! Captures in the classic pcap format, read record by record through a shelf.
+#![tactic(auto)]
+
+mod capture;
+mod fault;
+mod fields;
+mod filling;
+mod form;
+mod frame;
+mod header;
+mod laws;
+mod place;
+mod reach;
+mod record;
+#[cfg(test)]
+mod tests;
+
+pub use capture::Capture;
+pub use fault::PcapFault;
+pub use form::{Form, Order, Unit};
+pub use frame::{Frame, Step};
+pub use laws::{every_reading, one_list_of_records, one_reading};
+pub use reach::Reach;

@@ -1,0 +1,130 @@
+ghost use Rattle.std.specs.Prelude.{◌≡◌, ◌≤◌, ◌+◌, ℕ, List, length, drop, None, Some, IfOk, IfErr, MatchResult};
+ghost use Rattle.rm_edge.specs.Outside.{File, Absent, Rose};
+ghost use Rattle.rm_pcap.specs.Records.{fault_at, time_of, found_at};
+ghost use Rattle.rm_pcap.specs.Calls.{IsFaultAt, IsBroken};
+ghost use Rattle.rm_pcap.specs.Seen.{record_of, found_of, Follows, FollowsSeen, IsNear};
+
+use crate::fault::PcapFault;
+use crate::fields::long_at;
+use crate::filling::fill;
+use crate::form::{Form, Unit};
+use crate::reach::Reach;
+use crate::record::{MOST_LENGTH, MOST_RECORDS, RECORD_HEADER, Record, Seen};
+use rm_edge::Shelf;
+
+/// How the octets of a capture are read, the moment of its first frame, and how far it was read.
+#[derive(Clone, Copy)]
+pub struct Place {
+    pub form: Form,
+    pub lead: u32,
+    pub reach: Reach,
+}
+
+// The time in a record's header, in nanoseconds. A fraction of a second or more is taken as it stands.
+#[tactic(auto, unfolding(crate::specs::Records::time_of))]
+fn time_of(form: Form, octets: &[u8]) -> u64
+    requires { 16 ≤ length octets.now }
+    ensures { result ≡ time_of form octets.now }
+{
+    let seconds = u64::from(long_at(form.order, octets, 0));
+    let fraction = u64::from(long_at(form.order, octets, 4));
+    let nanoseconds = match form.unit {
+        Unit::Microseconds => 1000,
+        Unit::Nanoseconds => 1,
+    };
+    seconds * 1_000_000_000 + fraction * nanoseconds
+}
+
+impl Place {
+    // The numbers of the record whose header comes first, or the header's first fault.
+    #[tactic(auto, unfolding(crate::specs::Records::fault_at, crate::specs::Records::included_of, crate::specs::Records::original_of))]
+    fn judge(self, octets: &[u8]) -> Result<Record, PcapFault>
+        requires long { 16 ≤ length octets.now }
+        requires near { IsNear self.reach }
+        ensures judged { MatchResult result
+            (λ seen. (fault_at self.form self.lead self.reach octets.now ≡ None)
+            × (seen ≡ record_of self.form self.lead self.reach octets.now))
+            (λ fault. fault_at self.form self.lead self.reach octets.now ≡ Some fault) }
+        ensures follows { IfOk result (λ seen. Follows self.reach seen) }
+        ensures place { IfErr result (λ fault. IsFaultAt self.reach fault) }
+    {
+        let reach = self.reach;
+        if reach.count >= MOST_RECORDS {
+            return Err(PcapFault::TooMany);
+        }
+        let included = long_at(self.form.order, octets, 8);
+        if included > MOST_LENGTH {
+            return Err(PcapFault::Included(reach.at + 8));
+        }
+        let original = long_at(self.form.order, octets, 12);
+        if original > MOST_LENGTH {
+            return Err(PcapFault::Original(reach.at + 12));
+        }
+        let time = time_of(self.form, octets);
+        let first = reach.first.unwrap_or(time);
+        let since = u64::from(self.lead) + time.saturating_sub(first) / 1_000_000;
+        let Ok(moment) = u32::try_from(since.max(u64::from(reach.last))) else {
+            return Err(PcapFault::Late(reach.at));
+        };
+        let after = Reach {
+            first: Some(first),
+            last: moment,
+            count: reach.count + 1,
+            at: reach.at + (RECORD_HEADER as u64 + u64::from(included)),
+        };
+        Ok(Record {
+            included,
+            original: included.max(original),
+            after,
+        })
+    }
+
+    /// Reads what stands next in the file into the buffer, a record's header in front.
+    pub fn see<S: Shelf>(
+        self,
+        shelf: &mut S,
+        name: &str,
+        buffer: &mut [u8],
+    ) -> Result<Seen, PcapFault>
+        requires room { length buffer.old ≡ 262160 }
+        requires near { IsNear self.reach }
+        ensures constant { (each : List ℕ) → S.held shelf.new each ≡ S.held shelf.old each }
+        ensures later { (each : List ℕ) → S.faults shelf.old each ≤ S.faults shelf.new each }
+        ensures cause { IfErr result (λ fault. fault ≡ PcapFault.Read
+            → Rose (S.faults shelf.old name.now) (S.faults shelf.new name.now)) }
+        ensures follows { IfOk result (λ seen. FollowsSeen self.reach seen) }
+        ensures found { (bytes : List ℕ) → S.held shelf.old name.now ≡ File bytes → IfOk result (λ seen.
+            found_of self.reach buffer.new seen ≡ found_at self.form self.lead self.reach bytes) }
+        ensures faults { IfErr result (λ fault.
+            IsBroken (S.held shelf.old name.now) self.form self.lead self.reach fault) }
+    {
+        let (header, rest) = buffer.split_at_mut(RECORD_HEADER);
+        let at = self.reach.at;
+        let Ok(count) = fill(shelf, name, at, header) else {
+            return Err(PcapFault::Read);
+        };
+        if count == 0 {
+            return Ok(Seen::End);
+        }
+        if count < RECORD_HEADER {
+            return Ok(Seen::Cut);
+        }
+        let record = match self.judge(header) {
+            Ok(record) => record,
+            Err(fault) => return Err(fault),
+        };
+        let included = record.included as usize;
+        let Ok(count) = fill(
+            shelf,
+            name,
+            at + RECORD_HEADER as u64,
+            &mut rest[..included],
+        ) else {
+            return Err(PcapFault::Read);
+        };
+        if count < included {
+            return Ok(Seen::Cut);
+        }
+        Ok(Seen::Whole(record))
+    }
+}
