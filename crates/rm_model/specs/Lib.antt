@@ -1,4 +1,5 @@
 pub mod Journal
+pub mod Settings
 pub mod Names
 pub mod Cells
 pub mod Interfaces

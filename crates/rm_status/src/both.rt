@@ -15,9 +15,9 @@ pub struct Both<G, H> {
 }
 
 impl<G: Group, H: Group> Group for Both<G, H> {
-    ghost stands = { λ s journal. G.stands s.first journal × H.stands s.second journal };
+    ghost stands = { λ s settings journal. G.stands s.first settings journal × H.stands s.second settings journal };
 
-    ghost cells = { λ journal now name. option_or (G.cells journal now name) (H.cells journal now name) };
+    ghost cells = { λ settings journal now name. option_or (G.cells settings journal now name) (H.cells settings journal now name) };
 
     fn cell(&self, name: &Oid, now: u32) -> Option<Value<'_>> {
         match self.first.cell(name, now) {

@@ -25,9 +25,9 @@ const SCALARS: OneRow = OneRow { number: 0 };
 pub struct System;
 
 impl Group for System {
-    ghost stands = { λ s journal. Unit {0} };
+    ghost stands = { λ s settings journal. Unit {0} };
 
-    ghost cells = { λ journal now. cells_of (system_table now) };
+    ghost cells = { λ settings journal now. cells_of (system_table now) };
 
     fn cell(&self, name: &Oid, now: u32) -> Option<Value<'_>> {
         let at = instance_of(name, &identifier(), &COLUMNS)?;
