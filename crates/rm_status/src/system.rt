@@ -1,5 +1,8 @@
 // The system group.
-ghost use Rattle.std.specs.Prelude.{◌≡◌, ℕ, List, [], ◌∷◌};
+ghost use Rattle.std.specs.Prelude.{◌≡◌, ℕ, List, [], ◌∷◌, IfSome};
+ghost use Rattle.std.specs.Option.{option_map};
+ghost use Rattle.rm_val.specs.Val.{val_of};
+ghost use Rattle.rm_val.specs.Spellable.{HasSpelling};
 ghost use Rattle.rm_model.specs.Cells.{cells_of, is_of_column};
 ghost use Rattle.rm_status.specs.System.{system_entry, system_columns, system_table};
 
@@ -30,19 +33,12 @@ impl Group for System {
     ghost cells = { λ settings journal now. cells_of (system_table now) };
 
     fn cell(&self, name: &Oid, now: u32) -> Option<Value<'_>> {
-        let at = instance_of(name, &identifier(), &COLUMNS)?;
-        if !SCALARS.has(&at.index) {
-            return None;
-        }
-        match at.column {
-            SYS_DESCR => Some(Value::Octets(b"RMON probe")),
-            _ => Some(Value::Ticks(now / 10)),
-        }
+        scalar(name, now)
     }
 
     fn after(&self, name: &Oid, now: u32, out: &mut Oid) -> Option<Value<'_>> {
         *out = next_name(&SCALARS, &identifier(), &COLUMNS, name, now)?;
-        self.cell(out, now)
+        scalar(out, now)
     }
 }
 
@@ -51,6 +47,21 @@ impl Objects for System {
 
     fn has_object(name: &Oid) -> bool {
         is_of_column(name, &identifier(), &COLUMNS)
+    }
+}
+
+/// The value of the scalar with that name at a moment in milliseconds. None where the group has no such scalar.
+fn scalar(name: &Oid, now: u32) -> Option<Value<'static>>
+    ensures value { option_map val_of result ≡ cells_of (system_table now) name.now }
+    ensures spelling { IfSome result (λ value. HasSpelling (val_of value)) }
+{
+    let at = instance_of(name, &identifier(), &COLUMNS)?;
+    if !SCALARS.has(&at.index) {
+        return None;
+    }
+    match at.column {
+        SYS_DESCR => Some(Value::Octets(b"RMON probe")),
+        _ => Some(Value::Ticks(now / 10)),
     }
 }
 
