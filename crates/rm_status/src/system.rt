@@ -41,8 +41,10 @@ impl Group for System {
     }
 
     fn after(&self, name: &Oid, now: u32, out: &mut Oid) -> Option<Value<'_>> {
-        *out = next_name(&SCALARS, &identifier(), &COLUMNS, name, now)?;
-        self.cell(out, now)
+        let found = next_name(&SCALARS, &identifier(), &COLUMNS, name, now)?;
+        let value = self.cell(&found, now)?;
+        *out = found;
+        Some(value)
     }
 }
 
