@@ -1,3 +1,3 @@
-pub mod Order
+mod Examples
 pub mod Next
 pub mod Tables

@@ -1,15 +1,17 @@
 -- The least name above another.
-use Rattle.std.proofs.Common.{◌≡◌, ℕ, List, refl, sym, ◌∙◌, ap, subst, Bool, true, false, Option, Some, None}
+use Rattle.std.proofs.Common.{◌≡◌, ℕ, List, refl, sym, ◌∙◌, ap, subst, Bool, false, Option, Some, None}
 use Rattle.std.specs.Prelude.{is_some, IsTrue}
-use Rattle.std.specs.Option.{option_or}
-use Rattle.std.specs.Ordering.{nat_cmp, is_gt}
+use Rattle.std.specs.Ordering.{nat_cmp, ordering_reverse}
 use Rattle.std.specs.declared.cmp.Ordering.TheVariants.{Less, Equal, Greater}
 use Rattle.std.specs.Cmp.Lexicographic.{slice_cmp}
 use Rattle.std.proofs.lemmas.Map.Lookups.{exact_bytes}
 use Rattle.rm_val.specs.Val.{Val}
 use Rattle.rm_model.specs.Names.{Below, IsLeastAbove}
 use Rattle.rm_model.specs.Cells.{Cells, has_cell, IsNext}
-use Rattle.rm_model.proofs.Order.{below_trans, below_of_greater, below_along}
+use Rattle.std.proofs.lemmas.Cmp.{nat_list_cmp_total}
+
+below_of_greater : (x y : List ℕ) → slice_cmp nat_cmp x y ≡ Greater → Below y x
+below_of_greater x y e = nat_list_cmp_total.antisymm y x ∙ ap ordering_reverse e
 
 -- two names, neither of which can be below the other
 same_of_neither : (x y : List ℕ) → (Below x y → ⊥) → (Below y x → ⊥) → x ≡ y
@@ -52,38 +54,3 @@ next_found cells test asked found value p same is =
 
 pub next_none : (cells : Cells) (test : List ℕ → Bool) (asked found : List ℕ) → IsLeastAbove test asked None → ((name : List ℕ) → has_cell cells name ≡ test name) → IsNext cells asked None found
 next_none cells test asked found p same = λ name above. same name ∙ p name above
-
-none_of : (a : Option Val) → is_some a ≡ false → a ≡ None
-none_of None empty = refl
-none_of (Some v) empty = absurd (contradicts true refl empty)
-
-module _ (f g : Cells) where
-  or_none : (name : List ℕ) → has_cell f name ≡ false → has_cell g name ≡ false → is_some (option_or (f name) (g name)) ≡ false
-  or_none name p q = or_none_at (f name) (g name) p q
-    where
-      or_none_at : (a b : Option Val) → is_some a ≡ false → is_some b ≡ false → is_some (option_or a b) ≡ false
-      or_none_at None b p q = q
-      or_none_at (Some v) b p q = p
-
-  -- of two groups the first has the lesser name, or the same
-  pub next_first : (asked o o' : List ℕ) (v w : Val) → IsNext f asked (Some v) o → IsNext g asked (Some w) o' → is_gt (slice_cmp nat_cmp o o') ≡ false → IsNext (λ n. option_or (f n) (g n)) asked (Some v) o
-  next_first asked o o' v w p q e = ((p.0.0, rw p.1 refl, λ n above under. or_none n (p.0.2 n above under) (q.0.2 n above (below_along n o o' under e))), (rw p.1 refl))
-
-  -- of two groups the second has the lesser name
-  pub next_second : (asked o o' : List ℕ) (v w : Val) → IsNext f asked (Some v) o → IsNext g asked (Some w) o' → slice_cmp nat_cmp o o' ≡ Greater → IsNext (λ n. option_or (f n) (g n)) asked (Some w) o'
-  next_second asked o o' v w p q e =
-      let nearer : Below o' o = below_of_greater o o' e in
-      let gone : f o' ≡ None = none_of (f o') (p.0.2 o' q.0.0 nearer) in
-      ((q.0.0, rw (gone, q.1) refl, λ n above under. or_none n (p.0.2 n above (below_trans n o' o under nearer)) (q.0.2 n above under)), (rw (gone, q.1) refl))
-
-  -- only the first has a greater name, or only the second
-  pub next_alone : (asked o : List ℕ) (v : Val) → IsNext f asked (Some v) o → IsNext g asked None o → IsNext (λ n. option_or (f n) (g n)) asked (Some v) o
-  next_alone asked o v p q = ((p.0.0, rw p.1 refl, λ n above under. or_none n (p.0.2 n above under) (q n above)), (rw p.1 refl))
-
-  pub next_other : (asked o : List ℕ) (w : Val) → IsNext f asked None o → IsNext g asked (Some w) o → IsNext (λ n. option_or (f n) (g n)) asked (Some w) o
-  next_other asked o w p q =
-      let gone : f o ≡ None = none_of (f o) (p o q.0.0) in
-      ((q.0.0, rw (gone, q.1) refl, λ n above under. or_none n (p n above) (q.0.2 n above under)), (rw (gone, q.1) refl))
-
-  pub next_neither : (asked o : List ℕ) → IsNext f asked None o → IsNext g asked None o → IsNext (λ n. option_or (f n) (g n)) asked None o
-  next_neither asked o p q = λ n above. or_none n (p n above) (q n above)

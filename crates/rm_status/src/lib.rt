@@ -10,6 +10,8 @@ mod one_row;
 mod rows;
 mod search;
 mod system;
+#[cfg(test)]
+mod tests;
 
 pub use both::Both;
 pub use group::Group;
