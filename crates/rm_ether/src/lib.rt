@@ -1,0 +1,11 @@
+//! The statistics of Ethernet interfaces: etherStatsTable (RFC 1757, section 5).
+#![tactic(auto)]
+
+mod added;
+mod cell;
+mod column;
+mod counter;
+mod ether;
+mod statistics;
+
+pub use ether::Ether;
