@@ -7,5 +7,7 @@ mod column;
 mod counter;
 mod ether;
 mod statistics;
+#[cfg(test)]
+mod tests;
 
 pub use ether::Ether;
