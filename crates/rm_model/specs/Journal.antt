@@ -1,5 +1,6 @@
 -- What happened to the probe: its acts, the newest first.
-use Rattle.std.specs.Prelude.{ℕ, List, [], ◌∷◌}
+use Rattle.std.specs.Prelude.{ℕ, ℤ, List, [], ◌∷◌, Option}
+use Rattle.rm_val.specs.Val.{Val}
 
 -- a frame that the probe saw: the number of its interface, its moment in milliseconds, its number in the
 -- capture from 1, the octets captured, and how many octets it had on the wire without its check sequence
@@ -10,17 +11,37 @@ pub record Frame : Type 0 where
   pub octets : List ℕ
   pub original : ℕ
 
--- a frame passed
+-- What a Set gives: the value of each variable that it names, so that the order of its bindings is not
+-- there to matter.
+abbrev pub Assignments : Type 0
+Assignments = List ℕ → Option Val
+
+-- A frame passed; a Set was accepted at a moment; an alarm was sampled at a moment, by the number of its
+-- row, with the number that it read, or nothing where its variable was gone.
 pub data Act : Type 0 where
   passes : Frame → Act
+  assigns : (moment : ℕ) (values : Assignments) → Act
+  samples : (moment alarm : ℕ) (reading : Option ℤ) → Act
 
 abbrev pub Journal : Type 0
 Journal = List Act
+
+abbrev pub moment_of : Act → ℕ
+moment_of (passes frame) = frame.moment
+moment_of (assigns moment values) = moment
+moment_of (samples moment alarm reading) = moment
+
+-- the moment of the newest act, 0 before the first
+abbrev pub last_moment : Journal → ℕ
+last_moment [] = 0
+last_moment (act ∷ earlier) = moment_of act
 
 -- the frames of a journal, the newest first
 abbrev pub frames_in : Journal → List Frame
 frames_in [] = []
 frames_in (passes frame ∷ earlier) = frame ∷ frames_in earlier
+frames_in (assigns moment values ∷ earlier) = frames_in earlier
+frames_in (samples moment alarm reading ∷ earlier) = frames_in earlier
 
 -- the journal after frames that pass in this order
 abbrev pub after_frames : List Frame → Journal → Journal

@@ -1,4 +1,12 @@
 //! What happened to the probe: the journal, from which every value that the probe answers is defined.
 //!
-//! The crate has definitions alone, in `specs/`: `Journal` has the acts. No code keeps a journal.
+//! The crate has definitions, in `specs/`, and the plain types that code and definitions share. `Journal` has the acts,
+//! `Names` and `Cells` what GetNext finds and the cells of a table, `ControlTable` and `ControlRows` the rows of control
+//! tables after a journal, `Interfaces` the frames that a data source names. No code keeps a journal.
 #![tactic(auto)]
+
+mod instance;
+mod row;
+
+pub use instance::Instance;
+pub use row::{Ask, State, StatusKind};

@@ -1,0 +1,95 @@
+-- The table etherStats (RFC 1757, section 5), and what it shows after a journal.
+use Rattle.std.specs.Prelude.{ℕ, ℤ, pos, ◌%◌, ◌^◌, List, [], ◌∷◌, Bool, true, false, ◌&&◌, nat_eq, not, if◌then◌else◌, Some, None, codes}
+use Rattle.std.specs.List.{sum_by}
+use Rattle.std.specs.Str.{bytes_eq}
+use Rattle.rm_val.specs.Val.{Val, int, octets, null, name, counter}
+use Rattle.rm_model.specs.Settings.{Settings}
+use Rattle.rm_model.specs.Journal.{Frame, Journal, frames_in}
+use Rattle.rm_model.specs.Interfaces.{interface_name, frames_of}
+use Rattle.rm_model.specs.Cells.{Table}
+use Rattle.rm_model.specs.ControlTable.{ControlTable, data_source, text}
+use Rattle.rm_model.specs.ControlRows.{Beginning, is_absent, state_of, value_of, since}
+use Rattle.rm_model.specs.declared.row.StatusKind.TheVariants.{EntryStatus}
+use Rattle.rm_model.specs.declared.row.State.{State}
+use Rattle.rm_model.specs.declared.row.State.TheVariants.{Absent, UnderCreation, Valid}
+use Rattle.rm_ether.specs.declared.counter.Counter.{Counter}
+use Rattle.rm_ether.specs.declared.column.Column.{Column}
+use Rattle.rm_ether.specs.declared.column.Column.TheVariants.{Index, DataSource, Counts, Owner, Status}
+use Rattle.rm_ether.specs.FrameFacts.{frame_facts}
+use Rattle.rm_ether.specs.Counted.{counted}
+use Rattle.rm_ether.specs.Columns.{ether_columns, column_of}
+
+-- the identifier of etherStatsEntry
+abbrev pub ether_entry : List ℕ
+ether_entry = 1 ∷ 3 ∷ 6 ∷ 1 ∷ 2 ∷ 1 ∷ 16 ∷ 1 ∷ 1 ∷ 1 ∷ []
+
+-- The control table: a row counts the frames of its data source, which is interface 1 until it is set. The owner may be
+-- set at any time.
+abbrev pub ether_stats : ControlTable
+ether_stats = record {
+  entry = ether_entry;
+  status = 21;
+  status_kind = EntryStatus;
+  columns =
+      (record { number = 2; kind = data_source; always = false; needed = false; default = name (interface_name 1) })
+      ∷ (record { number = 20; kind = text 127; always = true; needed = false; default = octets [] })
+      ∷ [];
+  go_together = λ value. true;
+  is_sampled = false;
+}
+
+-- whether these numbers are the index of row 1
+abbrev pub is_row_1 : List ℕ → Bool
+is_row_1 index = bytes_eq index (1 ∷ [])
+
+-- row 1 is valid from before the first act, and belongs to the monitor
+abbrev pub ether_beginning : Beginning
+ether_beginning = record {
+  state = λ index. if is_row_1 index then Valid else Absent;
+  set = λ index column. if is_row_1 index && nat_eq column 20 then Some (octets (codes "monitor")) else None;
+}
+
+-- the state of a row, and the value of a column that can be set
+abbrev pub ether_state : Journal → List ℕ → State
+ether_state journal index = state_of ether_stats ether_beginning journal index
+
+abbrev pub ether_set : Journal → List ℕ → ℕ → Val
+ether_set journal index column = value_of ether_stats ether_beginning journal index column
+
+-- the frames that a row counts: those of its data source, since it became valid
+abbrev pub counted_frames : Journal → List ℕ → List Frame
+counted_frames journal index =
+    frames_of (ether_set journal index 2) (frames_in (since ether_stats ether_beginning journal index))
+
+-- a counter of a row: the sum of what each of these frames adds to it
+abbrev pub counter_sum : Settings → Journal → List ℕ → Counter → ℕ
+counter_sum settings journal index each =
+    sum_by (λ frame. counted each (frame_facts settings frame)) (counted_frames journal index)
+
+-- the number that an index is
+abbrev pub index_value : List ℕ → Val
+index_value [] = null
+index_value (number ∷ more) = int (pos number)
+
+-- the number of a state, as an EntryStatus
+abbrev pub entry_status : State → ℤ
+entry_status Valid = pos 1
+entry_status UnderCreation = pos 3
+entry_status Absent = pos 4
+
+-- what a column of a row shows; a Counter32 is shown modulo 2 ^ 32
+abbrev pub ether_value : Settings → Journal → List ℕ → Column → Val
+ether_value settings journal index Index = index_value index
+ether_value settings journal index DataSource = ether_set journal index 2
+ether_value settings journal index (Counts each) = counter (counter_sum settings journal index each % 2 ^ 32)
+ether_value settings journal index Owner = ether_set journal index 20
+ether_value settings journal index Status = int (entry_status (ether_state journal index))
+
+-- the table after a journal
+abbrev pub ether_table : Settings → Journal → Table
+ether_table settings journal = record {
+  entry = ether_entry;
+  columns = ether_columns;
+  is_row = λ index. not (is_absent (ether_state journal index));
+  value = λ column index. ether_value settings journal index (column_of column);
+}

@@ -1,0 +1,6 @@
+pub mod FrameFacts
+pub mod Counted
+pub mod Columns
+pub mod EtherStats
+pub mod Standing
+pub mod Group

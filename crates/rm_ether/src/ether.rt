@@ -1,0 +1,86 @@
+// The group statistics.
+ghost use Rattle.std.specs.Prelude.{◌≡◌, ℕ, ◌+◌, ◌<◌, ◌≤◌, List, [], ◌∷◌};
+
+use crate::cell::{ROWS, SOURCE, cell_of, entry};
+use crate::column::COLUMNS;
+use crate::statistics::Statistics;
+use rm_proto::Facts;
+use rm_status::{Group, Objects, is_of_column, next_name};
+use rm_val::{Oid, Value};
+
+/// The statistics of interface 1: row 1 of etherStats (RFC 1757, section 5), which is valid from before the first act.
+#[derive(Drop)]
+pub struct Ether {
+    statistics: Statistics,
+    // How many frames it was given.
+    frames: u32,
+    // The moment of the last one, in milliseconds.
+    last: u32,
+    ghost few: { statistics.packets ≤ frames },
+}
+
+impl Ether {
+    ghost use Rattle.rm_model.specs.Settings.{Settings};
+    ghost use Rattle.rm_model.specs.Journal.{Journal, Frame, passes};
+    ghost use Rattle.rm_ether.specs.FrameFacts.{frame_facts};
+    ghost use Rattle.rm_ether.specs.Group.{Stands, frames_given, last_given};
+
+    /// The statistics before the first frame.
+    pub fn new() -> Ether
+        ensures stands { (settings : Settings) → Stands result settings [] }
+        ensures frames { frames_given result ≡ 0 }
+        ensures last { last_given result ≡ 0 }
+    {
+        Ether {
+            statistics: Statistics::new(),
+            frames: 0,
+            last: 0,
+        }
+    }
+
+    /// Counts a frame that passed at a moment, in milliseconds.
+    pub fn frame(&mut self, facts: &Facts, moment: u32)
+        requires later { last_given self.old ≤ moment }
+        requires length { facts.now.length ≤ 262148 }
+        requires room { frames_given self.old < 400000000 }
+        ensures stands { (settings : Settings) (journal : Journal) (frame : Frame) → Stands self.old settings journal → facts.now ≡ frame_facts settings frame
+            → frame.moment ≡ moment → Stands self.new settings (passes frame ∷ journal) }
+        ensures frames { frames_given self.new ≡ frames_given self.old + 1 }
+        ensures last { last_given self.new ≡ moment }
+    {
+        self.statistics.pass(SOURCE, facts);
+        self.frames += 1;
+        self.last = moment;
+    }
+}
+
+impl Group for Ether {
+    ghost use Rattle.rm_model.specs.Cells.{cells_of};
+    ghost use Rattle.rm_ether.specs.EtherStats.{ether_table};
+    ghost use Rattle.rm_ether.specs.Group.{Stands};
+
+    ghost stands = { Stands };
+
+    ghost cells = { λ settings journal now. cells_of (ether_table settings journal) };
+
+    fn cell(&self, name: &Oid, _now: u32) -> Option<Value<'_>> {
+        cell_of(&self.statistics, name)
+    }
+
+    fn after(&self, name: &Oid, now: u32, out: &mut Oid) -> Option<Value<'_>> {
+        *out = next_name(&ROWS, &entry(), &COLUMNS, name, now)?;
+        cell_of(&self.statistics, out)
+    }
+}
+
+impl Objects for Ether {
+    ghost use Rattle.rm_model.specs.Cells.{is_of_column};
+    ghost use Rattle.rm_ether.specs.Columns.{ether_columns};
+    ghost use Rattle.rm_ether.specs.EtherStats.{ether_entry};
+
+    ghost objects = { is_of_column ether_entry ether_columns };
+
+    fn has_object(name: &Oid) -> bool {
+        is_of_column(name, &entry(), &COLUMNS)
+    }
+}

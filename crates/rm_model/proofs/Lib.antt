@@ -1,0 +1,3 @@
+mod Examples
+pub mod Next
+pub mod Tables

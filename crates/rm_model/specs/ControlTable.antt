@@ -1,0 +1,52 @@
+-- What is fixed of a control table: its columns, and the values that they take.
+use Rattle.std.specs.Prelude.{ℕ, ℤ, List, Bool, ◌&&◌, ◌||◌, not, nat_eq, Option, is_some, unwrap_or, find}
+use Rattle.std.specs.List.{list_all}
+use Rattle.std.specs.Option.{option_map_or}
+use Rattle.rm_val.specs.Val.{Val, null}
+use Rattle.rm_model.specs.declared.row.StatusKind.{StatusKind}
+
+-- the numbers from the least one to the greatest one
+pub record Range : Type 0 where
+  pub least : ℤ
+  pub greatest : ℤ
+
+-- the values that a column takes: the numbers of some ranges, the texts of at most so many octets, every name, or the
+-- names of the interfaces alone
+pub data Kind : Type 0 where
+  number : List Range → Kind
+  text : (longest : ℕ) → Kind
+  any_name : Kind
+  data_source : Kind
+
+-- A writable column beside the status: its number, the values that it takes, whether it may be set while its row is
+-- valid too, whether a row needs it to be set before it is ready, and what it shows until it is set.
+pub record Column : Type 0 where
+  pub number : ℕ
+  pub kind : Kind
+  pub always : Bool
+  pub needed : Bool
+  pub default : Val
+
+-- A control table: the identifier of its entry, its status column and which kind of status that has, its other
+-- writable columns, and whether values of these go together in a row that is ready. The rows of a sampled table are
+-- alarms: a sample whose variable is gone takes its row away.
+pub record ControlTable : Type 0 where
+  pub entry : List ℕ
+  pub status : ℕ
+  pub status_kind : StatusKind
+  pub columns : List Column
+  pub go_together : (ℕ → Val) → Bool
+  pub is_sampled : Bool
+
+abbrev pub column_of : ControlTable → ℕ → Option Column
+column_of table column = find (λ c. nat_eq c.number column) table.columns
+
+-- what a column shows until it is set
+abbrev pub default_of : ControlTable → ℕ → Val
+default_of table column = option_map_or (λ c. c.default) (column_of table column) null
+
+-- whether a row with these values set is ready
+abbrev pub is_ready : ControlTable → (ℕ → Option Val) → Bool
+is_ready table set =
+    list_all (λ c. not c.needed || is_some (set c.number)) table.columns
+    && table.go_together (λ column. unwrap_or (set column) (default_of table column))

@@ -1,0 +1,4 @@
+mod SearchLemmas
+mod StartLemmas
+mod Sources
+mod ColumnLemmas

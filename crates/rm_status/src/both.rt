@@ -1,0 +1,61 @@
+// Two groups as one.
+ghost use Rattle.std.specs.Prelude.{◌≡◌, ℕ, ◌≤◌, List, ◌||◌};
+ghost use Rattle.std.specs.Option.{option_or};
+
+use crate::group::Group;
+use crate::objects::Objects;
+use rm_val::{Oid, Value};
+use std::cmp::Ordering;
+
+/// Two groups as one. Where both have a variable of a name, the first one's counts.
+#[derive(Drop)]
+pub struct Both<G, H> {
+    pub first: G,
+    pub second: H,
+}
+
+impl<G: Group, H: Group> Group for Both<G, H> {
+    ghost stands = { λ s settings journal. G.stands s.first settings journal × H.stands s.second settings journal };
+
+    ghost cells = { λ settings journal now name. option_or (G.cells settings journal now name) (H.cells settings journal now name) };
+
+    fn cell(&self, name: &Oid, now: u32) -> Option<Value<'_>> {
+        match self.first.cell(name, now) {
+            Some(value) => Some(value),
+            None => self.second.cell(name, now),
+        }
+    }
+
+    fn after(&self, name: &Oid, now: u32, out: &mut Oid) -> Option<Value<'_>> {
+        let mut other = Oid::new();
+        let left = self.first.after(name, now, out);
+        let right = self.second.after(name, now, &mut other);
+        match left {
+            None => match right {
+                None => None,
+                Some(value) => {
+                    *out = other;
+                    Some(value)
+                }
+            },
+            Some(value) => match right {
+                None => Some(value),
+                Some(nearer) => match out.compare(&other) {
+                    Ordering::Greater => {
+                        *out = other;
+                        Some(nearer)
+                    }
+                    _ => Some(value),
+                },
+            },
+        }
+    }
+}
+
+impl<G: Objects, H: Objects> Objects for Both<G, H> {
+    ghost objects = { λ name. G.objects name || H.objects name };
+
+    fn has_object(name: &Oid) -> bool {
+        G::has_object(name) || H::has_object(name)
+    }
+}

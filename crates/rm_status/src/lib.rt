@@ -1,0 +1,24 @@
+//! What a group of objects does for GetNext and Get, and the search for the next cell of a table.
+#![tactic(auto)]
+
+mod both;
+mod group;
+mod instance;
+mod interface;
+mod objects;
+mod one_row;
+mod rows;
+mod search;
+mod system;
+#[cfg(test)]
+mod tests;
+
+pub use both::Both;
+pub use group::Group;
+pub use instance::instance_of;
+pub use interface::{INTERFACES, interface_name, source};
+pub use objects::{Objects, is_of_column};
+pub use one_row::OneRow;
+pub use rows::Rows;
+pub use search::next_name;
+pub use system::System;

@@ -1,0 +1,76 @@
+// A group with one row, which is there once a frame has passed.
+ghost use Rattle.std.specs.Prelude.{◌≡◌, ℕ, ◌+◌, ◌<◌, ◌^◌, List, [], ◌∷◌, ◌&&◌, nat_lt, length, refl};
+ghost use Rattle.std.specs.Str.{bytes_eq};
+ghost use Rattle.rm_val.specs.Val.{counter};
+ghost use Rattle.rm_model.specs.Journal.{Journal, Frame, frames_in, passes};
+ghost use Rattle.rm_model.specs.Cells.{cells_of};
+
+use crate::{Group, OneRow, Rows, instance_of, next_name};
+use rm_val::{Oid, Value};
+
+/// The columns sysObjectID and sysContact, of which each is the number of frames.
+const COLUMNS: [u32; 2] = [2, 4];
+
+const ROW: OneRow = OneRow { number: 0 };
+
+#[derive(Drop)]
+pub struct Seen {
+    pub frames: u32,
+}
+
+impl Seen {
+    /// A frame passes.
+    pub fn frame(&mut self)
+        requires { self.old.frames + 1 < 2 ^ 32 }
+        ensures { (journal : Journal) (frame : Frame) → self.old.frames ≡ length (frames_in journal) → self.new.frames ≡ length (frames_in (passes frame ∷ journal)) }
+    {
+        self.frames += 1;
+    }
+}
+
+impl Rows for Seen {
+    ghost is_row = { λ rows now index. bytes_eq index (0 ∷ []) && nat_lt 0 rows.frames };
+
+    ghost longest = { 1 };
+
+    ghost not_empty = { λ rows now. refl };
+
+    fn after(&self, index: &Oid, now: u32) -> Option<Oid> {
+        if self.frames == 0 {
+            return None;
+        }
+        ROW.after(index, now)
+    }
+}
+
+impl Group for Seen {
+    ghost stands = { λ s settings journal. s.frames ≡ length (frames_in journal) };
+
+    ghost cells = { λ settings journal now. cells_of (record {
+      entry = 1 ∷ 3 ∷ 6 ∷ 1 ∷ 2 ∷ 1 ∷ 1 ∷ [];
+      columns = 2 ∷ 4 ∷ [];
+      is_row = λ index. bytes_eq index (0 ∷ []) && nat_lt 0 (length (frames_in journal));
+      value = λ column index. counter (length (frames_in journal));
+    }) };
+
+    fn cell(&self, name: &Oid, _now: u32) -> Option<Value<'_>> {
+        let at = instance_of(name, &identifier(), &COLUMNS)?;
+        if self.frames == 0 || !ROW.has(&at.index) {
+            return None;
+        }
+        Some(Value::Counter(self.frames))
+    }
+
+    fn after(&self, name: &Oid, now: u32, out: &mut Oid) -> Option<Value<'_>> {
+        let found = next_name(self, &identifier(), &COLUMNS, name, now)?;
+        let value = self.cell(&found, now)?;
+        *out = found;
+        Some(value)
+    }
+}
+
+fn identifier() -> Oid
+    ensures { result ≡ 1 ∷ 3 ∷ 6 ∷ 1 ∷ 2 ∷ 1 ∷ 1 ∷ [] }
+{
+    Oid::from_slice(&[1, 3, 6, 1, 2, 1, 1]).unwrap()
+}
