@@ -9,6 +9,7 @@ mod objects;
 mod one_row;
 mod rows;
 mod search;
+mod several;
 mod system;
 #[cfg(test)]
 mod tests;
@@ -21,4 +22,5 @@ pub use objects::{Objects, is_of_column};
 pub use one_row::OneRow;
 pub use rows::Rows;
 pub use search::next_name;
+pub use several::lesser;
 pub use system::System;
