@@ -19,7 +19,7 @@ pub fn choose_nearer<'a>(
     ensures next { (cells other_cells : Cells) (asked : List ℕ) → IsNext cells asked (option_map val_of value.entry) out.old
         → IsNext other_cells asked (option_map val_of other_value.entry) other
         → IsNext (λ name. option_or (cells name) (other_cells name)) asked (option_map val_of result) out.new }
-    ensures neither { IfNone result (value.entry ≡ None) }
+    ensures neither { IfNone result ((value.entry ≡ None) × (other_value.entry ≡ None)) }
     ensures stays { IfNone result (out.new ≡ out.old) }
     ensures name_spelling { OnSome value.entry (IsSpellable out.old) → OnSome other_value.entry (IsSpellable other) → OnSome result (IsSpellable out.new) }
     ensures spelling { IfSome value.entry (λ v. HasSpelling (val_of v)) → IfSome other_value.entry (λ v. HasSpelling (val_of v)) → IfSome result (λ v. HasSpelling (val_of v)) }
