@@ -14,7 +14,7 @@ use Rattle.rm_ether.specs.declared.counter.Counter.{Counter}
 use Rattle.rm_ether.specs.declared.statistics.Statistics.{Statistics}
 use Rattle.rm_ether.specs.FrameFacts.{frame_facts}
 use Rattle.rm_ether.specs.Counted.{counted, counted_from}
-use Rattle.rm_ether.specs.EtherStats.{ether_stats, ether_beginning, ether_set, counted_frames, counter_sum}
+use Rattle.rm_ether.specs.EtherStats.{ether_stats, ether_beginning, ether_column, counted_frames, counter_sum}
 use Rattle.rm_ether.specs.Standing.{counter_of, IsRow1}
 
 -- a sum over the frames that pass a test, with one more
@@ -34,12 +34,12 @@ is_source number = and_true (nat_eq 1 number)
 
 module _ (settings : Settings) (journal : Journal) (statistics : Statistics) (is : IsRow1 statistics settings journal) where
   -- the data source of row 1 is interface 1
-  pub row_source : ether_set journal (1 ∷ []) 2 ≡ name (interface_name 1)
+  pub row_source : ether_column journal (1 ∷ []) 2 ≡ name (interface_name 1)
   row_source = ap (λ set. unwrap_or set (default_of ether_stats 2)) (is.columns 2)
 
   module _ (frame : Frame) where
     of_source : Frame → Bool
-    of_source other = is_interface (ether_set journal (1 ∷ []) 2) other.interface
+    of_source other = is_interface (ether_column journal (1 ∷ []) 2) other.interface
 
     frames_before : List Frame
     frames_before = frames_in (since ether_stats ether_beginning journal (1 ∷ []))

@@ -49,17 +49,18 @@ ether_beginning = record {
   set = λ index column. if is_row_1 index && nat_eq column 20 then Some (octets (codes "monitor")) else None;
 }
 
--- the state of a row, and the value of a column that can be set
+-- the state of a row
 abbrev pub ether_state : Journal → List ℕ → State
 ether_state journal index = state_of ether_stats ether_beginning journal index
 
-abbrev pub ether_set : Journal → List ℕ → ℕ → Val
-ether_set journal index column = value_of ether_stats ether_beginning journal index column
+-- the value of a column of a row that can be set: 2 is the data source, 20 the owner
+abbrev pub ether_column : Journal → List ℕ → ℕ → Val
+ether_column journal index column = value_of ether_stats ether_beginning journal index column
 
 -- the frames that a row counts: those of its data source, since it became valid
 abbrev pub counted_frames : Journal → List ℕ → List Frame
 counted_frames journal index =
-    frames_of (ether_set journal index 2) (frames_in (since ether_stats ether_beginning journal index))
+    frames_of (ether_column journal index 2) (frames_in (since ether_stats ether_beginning journal index))
 
 -- a counter of a row: the sum of what each of these frames adds to it
 abbrev pub counter_sum : Settings → Journal → List ℕ → Counter → ℕ
@@ -80,9 +81,9 @@ entry_status Absent = pos 4
 -- what a column of a row shows; a Counter32 is shown modulo 2 ^ 32
 abbrev pub ether_value : Settings → Journal → List ℕ → Column → Val
 ether_value settings journal index Index = index_value index
-ether_value settings journal index DataSource = ether_set journal index 2
+ether_value settings journal index DataSource = ether_column journal index 2
 ether_value settings journal index (Counts each) = counter (counter_sum settings journal index each % 2 ^ 32)
-ether_value settings journal index Owner = ether_set journal index 20
+ether_value settings journal index Owner = ether_column journal index 20
 ether_value settings journal index Status = int (entry_status (ether_state journal index))
 
 -- the table after a journal

@@ -2,6 +2,7 @@
 ghost use Rattle.std.specs.Prelude.{◌≡◌, ◌≤◌};
 ghost use Rattle.rm_ether.specs.Counted.{counted, one_if, has_octets};
 
+use crate::bounds::MOST_OCTETS;
 use crate::counter::Counter;
 use rm_proto::{Cast, Facts};
 
@@ -12,9 +13,9 @@ const UNDERSIZE: u8 = 2;
 
 /// What a frame adds to a counter. A capture doesn't tell of frames that were dropped or damaged, nor of collisions.
 pub fn added(counter: Counter, facts: &Facts) -> u64
-    requires { facts.now.length ≤ 262148 }
+    requires { facts.now.length ≤ MOST_OCTETS }
     ensures value { result ≡ counted counter facts.now }
-    ensures fits { result ≤ 262148 }
+    ensures fits { result ≤ MOST_OCTETS }
 {
     match counter {
         Counter::Octets => u64::from(facts.length),

@@ -12,8 +12,11 @@ use crate::statistics::Statistics;
 use rm_status::{OneRow, instance_of, interface_name};
 use rm_val::{Oid, Value};
 
+/// The index of the row.
+const ROW: u32 = 1;
+
 /// The rows of the table: row 1.
-pub const ROWS: OneRow = OneRow { number: 1 };
+pub const ROWS: OneRow = OneRow { number: ROW };
 
 /// The interface whose frames row 1 counts.
 pub const SOURCE: u32 = 1;
@@ -46,7 +49,7 @@ fn value_of(statistics: &Statistics, column: Column) -> Value<'static>
     ensures spelling { HasSpelling (val_of result) }
 {
     match column {
-        Column::Index => Value::Int(1),
+        Column::Index => Value::Int(ROW as i32),
         Column::DataSource => Value::Name(interface_name(SOURCE)),
         Column::Counts(counter) => Value::Counter(shown(statistics.of(counter))),
         Column::Owner => Value::Octets(b"monitor"),

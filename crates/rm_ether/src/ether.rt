@@ -1,6 +1,7 @@
 // The group statistics.
 ghost use Rattle.std.specs.Prelude.{◌≡◌, ℕ, ◌+◌, ◌<◌, ◌≤◌, List, [], ◌∷◌};
 
+use crate::bounds::{MOST_FRAMES, MOST_OCTETS};
 use crate::cell::{ROWS, SOURCE, cell_of, entry};
 use crate::column::COLUMNS;
 use crate::statistics::Statistics;
@@ -38,11 +39,12 @@ impl Ether {
         }
     }
 
-    /// Counts a frame that passed at a moment, in milliseconds.
+    /// Counts a frame that passed at a moment, in milliseconds, which isn't below the one given last. It has at most
+    /// `MOST_OCTETS` on the wire, and fewer than `MOST_FRAMES` frames were given before.
     pub fn frame(&mut self, facts: &Facts, moment: u32)
         requires later { last_given self.old ≤ moment }
-        requires length { facts.now.length ≤ 262148 }
-        requires room { frames_given self.old < 400000000 }
+        requires length { facts.now.length ≤ MOST_OCTETS }
+        requires room { frames_given self.old < MOST_FRAMES }
         ensures stands { (settings : Settings) (journal : Journal) (frame : Frame) → Stands self.old settings journal → facts.now ≡ frame_facts settings frame
             → frame.moment ≡ moment → Stands self.new settings (passes frame ∷ journal) }
         ensures frames { frames_given self.new ≡ frames_given self.old + 1 }

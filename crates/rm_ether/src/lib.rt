@@ -2,6 +2,7 @@
 #![tactic(auto)]
 
 mod added;
+mod bounds;
 mod cell;
 mod column;
 mod counter;
@@ -10,4 +11,5 @@ mod statistics;
 #[cfg(test)]
 mod tests;
 
+pub use bounds::{MOST_FRAMES, MOST_OCTETS};
 pub use ether::Ether;

@@ -1,7 +1,9 @@
 // What a row of etherStats counts.
 ghost use Rattle.std.specs.Prelude.{◌≡◌, ◌+◌, ◌*◌, ◌<◌, ◌≤◌};
+ghost use Rattle.rm_ether.specs.declared.bounds.TheConstants.{MOST_OCTETS};
 
 use crate::added::added;
+use crate::bounds::{MOST_FRAMES, MOST_OCTETS};
 use crate::counter::Counter;
 use rm_proto::Facts;
 
@@ -27,17 +29,17 @@ pub struct Statistics {
     pub of_256_to_511: u64,
     pub of_512_to_1023: u64,
     pub of_1024_to_1518: u64,
-    ghost octets_fits: { octets ≤ 262148 * packets },
-    ghost broadcast_fits: { broadcast ≤ 262148 * packets },
-    ghost multicast_fits: { multicast ≤ 262148 * packets },
-    ghost undersize_fits: { undersize ≤ 262148 * packets },
-    ghost oversize_fits: { oversize ≤ 262148 * packets },
-    ghost of_64_fits: { of_64 ≤ 262148 * packets },
-    ghost of_65_to_127_fits: { of_65_to_127 ≤ 262148 * packets },
-    ghost of_128_to_255_fits: { of_128_to_255 ≤ 262148 * packets },
-    ghost of_256_to_511_fits: { of_256_to_511 ≤ 262148 * packets },
-    ghost of_512_to_1023_fits: { of_512_to_1023 ≤ 262148 * packets },
-    ghost of_1024_to_1518_fits: { of_1024_to_1518 ≤ 262148 * packets },
+    ghost octets_fits: { octets ≤ MOST_OCTETS * packets },
+    ghost broadcast_fits: { broadcast ≤ MOST_OCTETS * packets },
+    ghost multicast_fits: { multicast ≤ MOST_OCTETS * packets },
+    ghost undersize_fits: { undersize ≤ MOST_OCTETS * packets },
+    ghost oversize_fits: { oversize ≤ MOST_OCTETS * packets },
+    ghost of_64_fits: { of_64 ≤ MOST_OCTETS * packets },
+    ghost of_65_to_127_fits: { of_65_to_127 ≤ MOST_OCTETS * packets },
+    ghost of_128_to_255_fits: { of_128_to_255 ≤ MOST_OCTETS * packets },
+    ghost of_256_to_511_fits: { of_256_to_511 ≤ MOST_OCTETS * packets },
+    ghost of_512_to_1023_fits: { of_512_to_1023 ≤ MOST_OCTETS * packets },
+    ghost of_1024_to_1518_fits: { of_1024_to_1518 ≤ MOST_OCTETS * packets },
 }
 
 impl Statistics {
@@ -68,8 +70,8 @@ impl Statistics {
 
     /// Counts a frame where it is of that interface.
     pub fn pass(&mut self, source: u32, facts: &Facts)
-        requires length { facts.now.length ≤ 262148 }
-        requires room { self.old.packets < 400000000 }
+        requires length { facts.now.length ≤ MOST_OCTETS }
+        requires room { self.old.packets < MOST_FRAMES }
         ensures sums { (each : Counter) → counter_of self.new each ≡ counter_of self.old each + counted_from source each facts.now }
         ensures packets { self.new.packets ≤ self.old.packets + 1 }
     {
@@ -80,8 +82,8 @@ impl Statistics {
 
     // Counts a frame.
     fn count(&mut self, facts: &Facts)
-        requires length { facts.now.length ≤ 262148 }
-        requires room { self.old.packets < 400000000 }
+        requires length { facts.now.length ≤ MOST_OCTETS }
+        requires room { self.old.packets < MOST_FRAMES }
         ensures sums { (each : Counter) → counter_of self.new each ≡ counter_of self.old each + counted each facts.now }
         ensures packets { self.new.packets ≡ self.old.packets + 1 }
     {

@@ -1,7 +1,7 @@
 // The counters of each frame were worked out from the descriptions of the objects in RFC 1757, section 5.
 ghost use Rattle.std.specs.Prelude.{◌≤◌};
 
-use crate::Ether;
+use crate::{Ether, MOST_OCTETS};
 use rm_proto::{Facts, facts};
 use rm_status::{Group, Objects};
 use rm_val::{Oid, Value};
@@ -101,7 +101,7 @@ fn counter_at(ether: &Ether, column: u32) -> Result<Option<u32>, Fail> {
 
 // The facts of a frame of which the addresses were captured.
 fn facts_of(rt: &impl Abort, addresses: &[u8; 12], original: u32, keep_short: bool) -> Facts
-    ensures { result.length ≤ 262148 }
+    ensures { result.length ≤ MOST_OCTETS }
 {
     assert!(rt; original >= 12 && original <= 262_144, "{original}");
     facts(addresses, original, keep_short)

@@ -3,9 +3,9 @@ ghost use Rattle.std.specs.Prelude.{◌≡◌, ℕ, ◌≤◌, List, ◌||◌};
 ghost use Rattle.std.specs.Option.{option_or};
 
 use crate::group::Group;
+use crate::nearer::choose_nearer;
 use crate::objects::Objects;
 use rm_val::{Oid, Value};
-use std::cmp::Ordering;
 
 /// Two groups as one. Where both have a variable of a name, the first one's counts.
 #[derive(Drop)]
@@ -30,25 +30,7 @@ impl<G: Group, H: Group> Group for Both<G, H> {
         let mut other = Oid::new();
         let left = self.first.after(name, now, out);
         let right = self.second.after(name, now, &mut other);
-        match left {
-            None => match right {
-                None => None,
-                Some(value) => {
-                    *out = other;
-                    Some(value)
-                }
-            },
-            Some(value) => match right {
-                None => Some(value),
-                Some(nearer) => match out.compare(&other) {
-                    Ordering::Greater => {
-                        *out = other;
-                        Some(nearer)
-                    }
-                    _ => Some(value),
-                },
-            },
-        }
+        choose_nearer(left, out, right, other)
     }
 }
 
