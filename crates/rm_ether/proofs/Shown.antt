@@ -8,7 +8,7 @@ use Rattle.rm_model.specs.Journal.{Journal}
 use Rattle.rm_model.specs.Names.{IsLeastAbove}
 use Rattle.rm_model.specs.Cells.{cells_of, cell_at, instance_of, is_cell_name, IsNext}
 use Rattle.rm_model.specs.ControlTable.{default_of}
-use Rattle.rm_model.specs.ControlRows.{is_absent}
+use Rattle.rm_model.specs.ControlRows.{entry_status, is_absent}
 use Rattle.rm_model.specs.declared.row.State.TheVariants.{Absent, Valid}
 use Rattle.rm_model.specs.declared.instance.Instance.{Instance}
 use Rattle.rm_model.proofs.Tables.{table_next}
@@ -16,7 +16,7 @@ use Rattle.rm_ether.specs.declared.column.Column.{Column}
 use Rattle.rm_ether.specs.declared.column.Column.TheVariants.{Index, DataSource, Counts, Owner, Status}
 use Rattle.rm_ether.specs.declared.statistics.Statistics.{Statistics}
 use Rattle.rm_ether.specs.Columns.{ether_columns, column_of}
-use Rattle.rm_ether.specs.EtherStats.{ether_entry, ether_stats, ether_state, is_row_1, entry_status, ether_value, ether_table}
+use Rattle.rm_ether.specs.EtherStats.{ether_entry, ether_stats, ether_state, is_row_1, ether_value, ether_table}
 use Rattle.rm_ether.specs.Standing.{row_value, row_table, IsRow1}
 use Rattle.rm_ether.proofs.Steps.{row_source}
 

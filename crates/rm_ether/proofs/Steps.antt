@@ -12,7 +12,7 @@ use Rattle.rm_val.specs.Val.{name}
 use Rattle.rm_proto.specs.declared.known.Facts.{Facts}
 use Rattle.rm_ether.specs.declared.counter.Counter.{Counter}
 use Rattle.rm_ether.specs.declared.statistics.Statistics.{Statistics}
-use Rattle.rm_ether.specs.FrameFacts.{frame_facts}
+use Rattle.rm_model.specs.FrameFacts.{frame_facts}
 use Rattle.rm_ether.specs.Counted.{counted, counted_from}
 use Rattle.rm_ether.specs.EtherStats.{ether_stats, ether_beginning, ether_column, counted_frames, counter_sum}
 use Rattle.rm_ether.specs.Standing.{counter_of, IsRow1}

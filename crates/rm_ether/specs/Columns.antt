@@ -9,7 +9,7 @@ abbrev pub ether_columns : List ℕ
 ether_columns =
     1 ∷ 2 ∷ 3 ∷ 4 ∷ 5 ∷ 6 ∷ 7 ∷ 8 ∷ 9 ∷ 10 ∷ 11 ∷ 12 ∷ 13 ∷ 14 ∷ 15 ∷ 16 ∷ 17 ∷ 18 ∷ 19 ∷ 20 ∷ 21 ∷ []
 
--- the column with each of these numbers
+-- the column with each of these numbers; Status for every number that isn't one of the others'
 unfoldable pub column_of : ℕ → Column
 column_of number =
     if number == 1 then Index

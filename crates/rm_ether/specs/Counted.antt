@@ -11,6 +11,7 @@ abbrev pub one_if : Bool → ℕ
 one_if true = 1
 one_if false = 0
 
+-- the class of a frame
 abbrev pub is_broadcast : Cast → Bool
 is_broadcast Broad = true
 is_broadcast Multi = false

@@ -8,14 +8,14 @@ use Rattle.rm_model.specs.Journal.{Frame, Journal, frames_in}
 use Rattle.rm_model.specs.Interfaces.{interface_name, frames_of}
 use Rattle.rm_model.specs.Cells.{Table}
 use Rattle.rm_model.specs.ControlTable.{ControlTable, data_source, text}
-use Rattle.rm_model.specs.ControlRows.{Beginning, is_absent, state_of, value_of, since}
+use Rattle.rm_model.specs.ControlRows.{Beginning, is_absent, state_of, value_of, since, index_value, entry_status}
 use Rattle.rm_model.specs.declared.row.StatusKind.TheVariants.{EntryStatus}
 use Rattle.rm_model.specs.declared.row.State.{State}
 use Rattle.rm_model.specs.declared.row.State.TheVariants.{Absent, UnderCreation, Valid}
 use Rattle.rm_ether.specs.declared.counter.Counter.{Counter}
 use Rattle.rm_ether.specs.declared.column.Column.{Column}
 use Rattle.rm_ether.specs.declared.column.Column.TheVariants.{Index, DataSource, Counts, Owner, Status}
-use Rattle.rm_ether.specs.FrameFacts.{frame_facts}
+use Rattle.rm_model.specs.FrameFacts.{frame_facts}
 use Rattle.rm_ether.specs.Counted.{counted}
 use Rattle.rm_ether.specs.Columns.{ether_columns, column_of}
 
@@ -66,17 +66,6 @@ counted_frames journal index =
 abbrev pub counter_sum : Settings → Journal → List ℕ → Counter → ℕ
 counter_sum settings journal index each =
     sum_by (λ frame. counted each (frame_facts settings frame)) (counted_frames journal index)
-
--- the number that an index is
-abbrev pub index_value : List ℕ → Val
-index_value [] = null
-index_value (number ∷ more) = int (pos number)
-
--- the number of a state, as an EntryStatus
-abbrev pub entry_status : State → ℤ
-entry_status Valid = pos 1
-entry_status UnderCreation = pos 3
-entry_status Absent = pos 4
 
 -- what a column of a row shows; a Counter32 is shown modulo 2 ^ 32
 abbrev pub ether_value : Settings → Journal → List ℕ → Column → Val

@@ -1,4 +1,3 @@
-pub mod FrameFacts
 pub mod Counted
 pub mod Columns
 pub mod EtherStats

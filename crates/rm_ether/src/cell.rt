@@ -21,7 +21,7 @@ pub const ROWS: OneRow = OneRow { number: ROW };
 /// The interface whose frames row 1 counts.
 pub const SOURCE: u32 = 1;
 
-/// The status of a valid row, as an EntryStatus (RFC 1757, section 3).
+/// The status of a valid row, as an EntryStatus (RFC 1757, section 5).
 const VALID: i32 = 1;
 
 /// The identifier of etherStatsEntry.

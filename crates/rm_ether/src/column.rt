@@ -21,7 +21,7 @@ pub enum Column {
 impl Column {
     ghost use Rattle.rm_ether.specs.Columns.{column_of};
 
-    /// The column with that number, which is one of `COLUMNS`.
+    /// The column with that number. It is Status for every number that isn't one of the others'.
     #[tactic(auto, unfolding(crate::specs::Columns::column_of))]
     pub fn numbered(number: u32) -> Column
         ensures { result ≡ column_of number }

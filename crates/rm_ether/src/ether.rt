@@ -23,7 +23,7 @@ pub struct Ether {
 impl Ether {
     ghost use Rattle.rm_model.specs.Settings.{Settings};
     ghost use Rattle.rm_model.specs.Journal.{Journal, Frame, passes};
-    ghost use Rattle.rm_ether.specs.FrameFacts.{frame_facts};
+    ghost use Rattle.rm_model.specs.FrameFacts.{frame_facts};
     ghost use Rattle.rm_ether.specs.Group.{Stands, frames_given, last_given};
 
     /// The statistics before the first frame.

@@ -101,8 +101,8 @@ impl Statistics {
         self.of_1024_to_1518 += added(Counter::Pkts1024to1518Octets, facts);
     }
 
-    /// The exact value of a counter. Drop, check sequence, fragment, jabber and collision counters stay 0, since a
-    /// capture doesn't tell of these.
+    /// The exact value of a counter. That of frames that were lost, damaged or collided is 0, since a capture doesn't
+    /// have these.
     pub fn of(&self, counter: Counter) -> u64
         ensures { result ≡ counter_of self.now counter }
     {

@@ -4,7 +4,7 @@ use Rattle.std.specs.Prelude.{pos}
 use Rattle.std.specs.Str.{bytes_eq}
 use Rattle.rm_val.specs.Val.{Val, int, octets}
 use Rattle.rm_model.specs.declared.row.State.TheVariants.{Absent, UnderCreation, Valid}
-use Rattle.rm_model.specs.declared.row.StatusKind.TheVariants.{EntryStatus}
+use Rattle.rm_model.specs.declared.row.StatusKind.TheVariants.{EntryStatus, RowStatus}
 use Rattle.rm_model.specs.Journal.{Assignments, Act, passes, assigns, samples, Journal, last_moment, frames_in}
 use Rattle.rm_model.specs.ControlTable.{number, text, Column, ControlTable}
 use Rattle.rm_model.specs.ControlRows.{no_rows, state_of, set_value, value_of, since, activated}
@@ -80,3 +80,38 @@ anew-since = refl
 
 anew-moment : last_moment anew ≡ 80
 anew-moment = refl
+
+-- the same row in a table with RowStatus: made active, put out of service, made active once more, destroyed
+abbrev row_table : ControlTable
+row_table = record table { status_kind = RowStatus }
+
+abbrev created_at_once : Journal
+created_at_once = assigns 10 (gives 12 (int (pos 4))) ∷ []
+
+abbrev out_of_service : Journal
+out_of_service = assigns 20 (gives 12 (int (pos 2))) ∷ created_at_once
+
+abbrev in_service : Journal
+in_service = assigns 30 (gives 12 (int (pos 1))) ∷ out_of_service
+
+created_at_once-state : state_of row_table no_rows created_at_once (5 ∷ []) ≡ Valid
+created_at_once-state = refl
+
+created_and_waits-state : state_of row_table no_rows (assigns 10 (gives 12 (int (pos 5))) ∷ []) (5 ∷ []) ≡ UnderCreation
+created_and_waits-state = refl
+
+out_of_service-state : state_of row_table no_rows out_of_service (5 ∷ []) ≡ UnderCreation
+out_of_service-state = refl
+
+in_service-activated : activated row_table no_rows in_service (5 ∷ []) ≡ 30
+in_service-activated = refl
+
+destroyed-state : state_of row_table no_rows (assigns 40 (gives 12 (int (pos 6))) ∷ in_service) (5 ∷ []) ≡ Absent
+destroyed-state = refl
+
+-- a valid row of a table with EntryStatus is put under creation, or made invalid
+disabled-state : state_of table no_rows (assigns 60 (gives 12 (int (pos 3))) ∷ again) (5 ∷ []) ≡ UnderCreation
+disabled-state = refl
+
+invalid-state : state_of table no_rows (assigns 60 (gives 12 (int (pos 4))) ∷ again) (5 ∷ []) ≡ Absent
+invalid-state = refl

@@ -9,6 +9,7 @@ use Rattle.rm_model.specs.declared.instance.Instance.{Instance}
 abbrev pub Cells : Type 0
 Cells = List ℕ → Option Val
 
+-- whether a variable with that name has a value
 abbrev pub has_cell : Cells → List ℕ → Bool
 has_cell cells name = is_some (cells name)
 
@@ -44,6 +45,7 @@ instance_of entry columns name = instance_left columns (behind entry name)
 abbrev pub is_of_column : List ℕ → List ℕ → List ℕ → Bool
 is_of_column entry columns name = list_any (λ column. starts_with nat_eq name (entry ++ column ∷ [])) columns
 
+-- whether an instance is that of a row
 abbrev pub is_of_row : (List ℕ → Bool) → Option Instance → Bool
 is_of_row is_row (Some at) = is_row at.index
 is_of_row is_row None = false
@@ -61,6 +63,7 @@ pub record Table : Type 0 where
   pub is_row : List ℕ → Bool
   pub value : ℕ → List ℕ → Val
 
+-- the cell at an instance, if there is one
 abbrev pub cell_at : Table → Option Instance → Option Val
 cell_at table (Some at) = if table.is_row at.index then Some (table.value at.column at.index) else None
 cell_at table None = None

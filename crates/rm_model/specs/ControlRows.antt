@@ -1,8 +1,8 @@
 -- The rows of a control table after a journal, each by the numbers of its index.
-use Rattle.std.specs.Prelude.{ℕ, pos, List, [], ◌∷◌, ◌++◌, Bool, true, false, ◌&&◌, nat_eq, if◌then◌else◌, Option, Some, None, unwrap_or}
+use Rattle.std.specs.Prelude.{ℕ, ℤ, pos, List, [], ◌∷◌, ◌++◌, Bool, true, false, ◌&&◌, nat_eq, if◌then◌else◌, Option, Some, None, unwrap_or}
 use Rattle.std.specs.Option.{option_or}
 use Rattle.std.specs.Str.{bytes_eq}
-use Rattle.rm_val.specs.Val.{Val, int}
+use Rattle.rm_val.specs.Val.{Val, int, null}
 use Rattle.rm_model.specs.Journal.{Act, passes, assigns, samples, Journal, moment_of}
 use Rattle.rm_model.specs.ControlTable.{ControlTable, default_of}
 use Rattle.rm_model.specs.declared.row.StatusKind.{StatusKind}
@@ -31,6 +31,7 @@ row_status_ask n =
     else if nat_eq n 6 then Destroy
     else Nothing
 
+-- what a number asks, by the kind of status
 abbrev pub number_ask : StatusKind → ℕ → Ask
 number_ask EntryStatus n = entry_status_ask n
 number_ask RowStatus n = row_status_ask n
@@ -61,6 +62,7 @@ next_state Disable Valid = UnderCreation
 next_state Destroy state = Absent
 next_state ask state = state
 
+-- whether there is no such row, and whether it is valid
 abbrev pub is_absent : State → Bool
 is_absent Absent = true
 is_absent UnderCreation = false
@@ -70,6 +72,17 @@ abbrev pub is_valid : State → Bool
 is_valid Valid = true
 is_valid UnderCreation = false
 is_valid Absent = false
+
+-- the number that an index is
+abbrev pub index_value : List ℕ → Val
+index_value [] = null
+index_value (number ∷ more) = int (pos number)
+
+-- the number of a state, as an EntryStatus (RFC 1757, section 5)
+abbrev pub entry_status : State → ℤ
+entry_status Valid = pos 1
+entry_status UnderCreation = pos 3
+entry_status Absent = pos 4
 
 -- what the rows are before the first act: their states, and the values that their columns were set to
 pub record Beginning : Type 0 where

@@ -38,6 +38,7 @@ pub record ControlTable : Type 0 where
   pub go_together : (ℕ → Val) → Bool
   pub is_sampled : Bool
 
+-- the writable column with that number
 abbrev pub column_of : ControlTable → ℕ → Option Column
 column_of table column = find (λ c. nat_eq c.number column) table.columns
 

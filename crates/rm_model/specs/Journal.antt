@@ -3,7 +3,7 @@ use Rattle.std.specs.Prelude.{ℕ, ℤ, List, [], ◌∷◌, Option}
 use Rattle.rm_val.specs.Val.{Val}
 
 -- a frame that the probe saw: the number of its interface, its moment in milliseconds, its number in the
--- capture from 1, the octets captured, and how many octets it had on the wire without its check sequence
+-- capture from 1, the octets captured, and how many octets it had where it was captured, its check sequence left out
 pub record Frame : Type 0 where
   pub interface : ℕ
   pub moment : ℕ
@@ -23,9 +23,11 @@ pub data Act : Type 0 where
   assigns : (moment : ℕ) (values : Assignments) → Act
   samples : (moment alarm : ℕ) (reading : Option ℤ) → Act
 
+-- the acts so far, the newest first
 abbrev pub Journal : Type 0
 Journal = List Act
 
+-- the moment of an act
 abbrev pub moment_of : Act → ℕ
 moment_of (passes frame) = frame.moment
 moment_of (assigns moment values) = moment

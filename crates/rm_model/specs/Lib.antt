@@ -1,5 +1,6 @@
 pub mod Journal
 pub mod Settings
+pub mod FrameFacts
 pub mod Names
 pub mod Cells
 pub mod Interfaces

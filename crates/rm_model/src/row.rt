@@ -1,9 +1,11 @@
 // The rows of control tables.
 
-/// The textual convention of a status column: EntryStatus (RFC 1757, section 3) or RowStatus (RFC 1903).
+/// The textual convention of a status column: EntryStatus (RFC 1757, section 5) or RowStatus (RFC 1903).
 #[derive(Clone, Copy, Debug, PartialEq, Eq)]
 pub enum StatusKind {
+    /// valid 1, createRequest 2, underCreation 3, invalid 4
     EntryStatus,
+    /// active 1, notInService 2, createAndGo 4, createAndWait 5, destroy 6
     RowStatus,
 }
 
@@ -21,6 +23,7 @@ pub enum State {
 /// What is asked of a row, the same for both kinds of status.
 #[derive(Clone, Copy, Debug, PartialEq, Eq)]
 pub enum Ask {
+    /// The status isn't set.
     Nothing,
     /// createRequest, createAndWait
     Create,

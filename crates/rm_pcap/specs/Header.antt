@@ -4,8 +4,8 @@ use Rattle.std.specs.Prelude.{ℕ, Bool, ◌==◌, ◌&&◌, nat_le, if◌then�
 use Rattle.byteorder.specs.Endian.{big_number, little_number}
 use Rattle.rm_pcap.specs.declared.form.Order.{Order}
 use Rattle.rm_pcap.specs.declared.form.Order.TheVariants.{HighestFirst, LowestFirst}
-use Rattle.rm_pcap.specs.declared.form.Unit.{Unit as TimeUnit}
-use Rattle.rm_pcap.specs.declared.form.Unit.TheVariants.{Microseconds, Nanoseconds}
+use Rattle.rm_pcap.specs.declared.form.TimeUnit.{TimeUnit}
+use Rattle.rm_pcap.specs.declared.form.TimeUnit.TheVariants.{Microseconds, Nanoseconds}
 use Rattle.rm_pcap.specs.declared.form.Form.{Form}
 use Rattle.rm_pcap.specs.declared.fault.PcapFault.{PcapFault}
 use Rattle.rm_pcap.specs.declared.fault.PcapFault.TheVariants.{Magic, Version, LinkType}
@@ -27,6 +27,7 @@ abbrev pub form_in : Order → Option TimeUnit → Option Form
 form_in order (Some unit) = Some (record { order = order; unit = unit })
 form_in order None = None
 
+-- the first of two forms, if there is one
 abbrev pub first_of : Option Form → Option Form → Option Form
 first_of (Some form) other = Some form
 first_of None other = other
@@ -52,5 +53,6 @@ header_with None bytes = Err Magic
 header_with (Some form) bytes =
     if has_version form bytes then (if has_link_type form bytes then Ok form else Err LinkType) else Err Version
 
+-- the form that a file's header tells, or the first fault of the header
 unfoldable pub header_of : List ℕ → Result Form PcapFault
 header_of bytes = header_with (form_of bytes) bytes

@@ -63,6 +63,7 @@ pub record IsLawful (reach : Reach) (frame : Passed) (after : Reach) : Type 0 wh
   pub last : after.last ≡ frame.moment
   pub count : after.count ≡ frame.number
 
+-- the same of what was found
 abbrev pub IsLawfulFind : Reach → Found → Type 0
 IsLawfulFind reach (Whole frame after) = IsLawful reach frame after
 IsLawfulFind reach (Stops (Broken fault)) = ⊥

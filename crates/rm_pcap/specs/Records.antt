@@ -2,8 +2,8 @@
 -- and a fraction of a second, how many octets were captured, and how many the frame had, and then the captured octets.
 use Rattle.std.specs.Prelude.{◌≡◌, ℕ, ◌+◌, ◌-◌, ◌*◌, ◌/◌, ◌^◌, max, nat_le, nat_lt, if◌then◌else◌, List, [], ◌∷◌, length, take, drop, Option, Some, None, unwrap_or, MatchResult}
 use Rattle.rm_model.specs.Journal.{Frame}
-use Rattle.rm_pcap.specs.declared.form.Unit.{Unit as TimeUnit}
-use Rattle.rm_pcap.specs.declared.form.Unit.TheVariants.{Microseconds, Nanoseconds}
+use Rattle.rm_pcap.specs.declared.form.TimeUnit.{TimeUnit}
+use Rattle.rm_pcap.specs.declared.form.TimeUnit.TheVariants.{Microseconds, Nanoseconds}
 use Rattle.rm_pcap.specs.declared.form.Form.{Form}
 use Rattle.rm_pcap.specs.declared.reach.Reach.{Reach}
 use Rattle.rm_pcap.specs.declared.fault.PcapFault.{PcapFault}
@@ -15,13 +15,15 @@ abbrev pub nanoseconds_of : TimeUnit → ℕ
 nanoseconds_of Microseconds = 1000
 nanoseconds_of Nanoseconds = 1
 
--- The four numbers of a record's header. A fraction of a second or more is taken as it stands.
+-- The time in a record's header, in nanoseconds. A fraction isn't checked: one that counts seconds adds them.
 unfoldable pub time_of : Form → List ℕ → ℕ
 time_of form octets = number_at form.order 4 0 octets * 1000000000 + number_at form.order 4 4 octets * nanoseconds_of form.unit
 
+-- how many octets were captured
 unfoldable pub included_of : Form → List ℕ → ℕ
 included_of form octets = number_at form.order 4 8 octets
 
+-- how many octets the frame had
 unfoldable pub original_of : Form → List ℕ → ℕ
 original_of form octets = number_at form.order 4 12 octets
 
@@ -73,7 +75,7 @@ pub data Found : Type 0 where
   Whole : Frame → Reach → Found
   Stops : Stop → Found
 
--- what the octets that are left are, by the fault of the header at their front
+-- what at least sixteen octets that are left are, by the fault of the header at their front
 abbrev pub found_with : Form → ℕ → Reach → List ℕ → Option PcapFault → Found
 found_with form lead reach octets (Some fault) = Stops (Broken fault)
 found_with form lead reach octets None =
@@ -81,6 +83,7 @@ found_with form lead reach octets None =
     then Stops (CutAt reach.at)
     else Whole (frame_at form lead reach octets) (reach_after form lead reach octets)
 
+-- what octets that are left are
 abbrev pub found_in : Form → ℕ → Reach → List ℕ → Found
 found_in form lead reach [] = Stops Ended
 found_in form lead reach (octet ∷ more) =

@@ -16,6 +16,7 @@ abbrev pub ahead_of : Place → List ℕ → Option Seen → Option Found
 ahead_of place buffer None = None
 ahead_of place buffer (Some seen) = Some (found_of place.reach buffer seen)
 
+-- how far a capture was read
 unfoldable pub progress_of : Capture → Progress
 progress_of capture = record {
   form = capture.place.form;

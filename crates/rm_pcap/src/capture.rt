@@ -21,6 +21,8 @@ use std::alloc::Global;
 const ROOM: usize = RECORD_HEADER + MOST_LENGTH as usize;
 
 /// A capture that is read record by record. It holds one record at a time.
+///
+/// What its calls say of the file holds where each is given a shelf and a name that hold the octets of `begin`.
 #[derive(Drop)]
 pub struct Capture {
     place: Place,
@@ -40,7 +42,8 @@ impl Capture {
     /// reserves room for one record.
     ///
     /// Magic, Version and LinkType come in this order, also where the file ends before the octets that are judged.
-    /// Read comes only where a read failed. A name without a file always fails with Read.
+    /// Read comes only where a read failed. A name without a file always fails with Read. NoMemory comes where there is no
+    /// room for a record; nothing else allocates.
     #[tactic(auto, unfolding(crate::specs::View::progress_of))]
     pub fn begin<S: Shelf>(
         alloc: Global,
@@ -130,7 +133,8 @@ impl Capture {
         }
     }
 
-    /// The moment of the next record's frame, which stays the next. None comes exactly where `next` gives End or Cut.
+    /// The moment of the next record's frame, which stays the next. None where the file ends here, or cuts the
+    /// next record short.
     ///
     /// The faults are those of `next`, and after a fault the capture is as before. It takes no memory.
     pub fn peek<S: Shelf>(&mut self, shelf: &mut S, name: &str) -> Result<Option<u32>, PcapFault>
@@ -152,8 +156,8 @@ impl Capture {
 
     /// The next record, which is passed: `peek` and `next` go on behind it. Its octets are lent from the capture.
     ///
-    /// After End or Cut the same answer comes again. After an Ok of `peek` it gives what `peek` read, whatever the
-    /// shelf then gives. Included, Original, Late and TooMany come where the next record has that fault, Read only
+    /// Once the records have stopped, each further call answers the same. A record that `peek` saw is kept, and isn't
+    /// read again. Included, Original, Late and TooMany come where the next record has that fault, Read only
     /// where a read failed, and after a fault the capture is as before. It takes no memory.
     pub fn next<S: Shelf>(&mut self, shelf: &mut S, name: &str) -> Result<Step<'_>, PcapFault>
         ensures constant { (each : List ℕ) → S.held shelf.new each ≡ S.held shelf.old each }

@@ -1,11 +1,14 @@
 /// Why a capture can't be read on. The offsets are those of octets in the file, from 0.
+///
+/// Magic, Version, LinkType and NoMemory come where a capture is begun; Included, Original, Late and TooMany where it is
+/// read on; Read in both.
 #[derive(Clone, Copy, Debug, PartialEq, Eq)]
 pub enum PcapFault {
-    /// The file doesn't begin with a magic number of the format.
+    /// The file doesn't begin with a magic number of the format, or has fewer than 4 octets.
     Magic,
-    /// The version isn't 2.4.
+    /// The version isn't 2.4, or the file has fewer than 8 octets.
     Version,
-    /// The link type isn't 1, Ethernet.
+    /// The link type isn't 1, Ethernet, or the file has fewer than 24 octets.
     LinkType,
     /// A record says that more than 262,144 octets were captured: where it says so.
     Included(u64),
@@ -17,6 +20,6 @@ pub enum PcapFault {
     TooMany,
     /// A read failed.
     Read,
-    /// There was no memory.
+    /// There was no room for a record.
     NoMemory,
 }

@@ -3,7 +3,7 @@
 pub struct Frame<'a> {
     /// The octets captured, the destination address first.
     pub bytes: &'a [u8],
-    /// How many octets it had on the wire, without its check sequence; never fewer than were captured.
+    /// How many octets it had where it was captured, its check sequence left out; never fewer than were captured.
     pub original: u32,
     /// Its moment, in milliseconds.
     pub moment: u32,

@@ -5,7 +5,7 @@ ghost use Rattle.rm_pcap.specs.Header.{number_at, unit_of, form_in, form_of, has
 
 use crate::fault::PcapFault;
 use crate::fields::{long_at, short_at};
-use crate::form::{Form, Order, Unit};
+use crate::form::{Form, Order, TimeUnit};
 
 /// How many octets a file header has.
 pub const HEADER: usize = 24;
@@ -22,8 +22,8 @@ fn form_in(order: Order, bytes: &[u8]) -> Option<Form>
     ensures { result ≡ form_in order (unit_of (number_at order 4 0 bytes.now)) }
 {
     let unit = match long_at(order, bytes, 0) {
-        MICROSECONDS_MAGIC => Unit::Microseconds,
-        NANOSECONDS_MAGIC => Unit::Nanoseconds,
+        MICROSECONDS_MAGIC => TimeUnit::Microseconds,
+        NANOSECONDS_MAGIC => TimeUnit::Nanoseconds,
         _ => return None,
     };
     Some(Form { order, unit })

@@ -1,4 +1,4 @@
-// Laws of what the octets of a file are as a capture. The bodies cite the proofs, and do nothing else.
+// Laws of what the octets of a file are as a capture. The bodies are empty.
 ghost use Rattle.std.specs.Prelude.{◌≡◌, ℕ, List};
 ghost use Rattle.rm_model.specs.Journal.{Frame as Passed};
 ghost use Rattle.rm_pcap.specs.declared.form.Form.{Form};

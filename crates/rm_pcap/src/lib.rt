@@ -17,7 +17,7 @@ mod tests;
 
 pub use capture::Capture;
 pub use fault::PcapFault;
-pub use form::{Form, Order, Unit};
+pub use form::{Form, Order, TimeUnit};
 pub use frame::{Frame, Step};
 pub use laws::{every_reading, one_list_of_records, one_reading};
 pub use reach::Reach;

@@ -7,7 +7,7 @@ ghost use Rattle.rm_pcap.specs.Seen.{record_of, found_of, Follows, FollowsSeen, 
 use crate::fault::PcapFault;
 use crate::fields::long_at;
 use crate::filling::fill;
-use crate::form::{Form, Unit};
+use crate::form::{Form, TimeUnit};
 use crate::reach::Reach;
 use crate::record::{MOST_LENGTH, MOST_RECORDS, RECORD_HEADER, Record, Seen};
 use rm_edge::Shelf;
@@ -20,7 +20,7 @@ pub struct Place {
     pub reach: Reach,
 }
 
-// The time in a record's header, in nanoseconds. A fraction of a second or more is taken as it stands.
+// The time in a record's header, in nanoseconds. A fraction isn't checked: one that counts seconds adds them.
 #[tactic(auto, unfolding(crate::specs::Records::time_of))]
 fn time_of(form: Form, octets: &[u8]) -> u64
     requires { 16 ≤ length octets.now }
@@ -29,8 +29,8 @@ fn time_of(form: Form, octets: &[u8]) -> u64
     let seconds = u64::from(long_at(form.order, octets, 0));
     let fraction = u64::from(long_at(form.order, octets, 4));
     let nanoseconds = match form.unit {
-        Unit::Microseconds => 1000,
-        Unit::Nanoseconds => 1,
+        TimeUnit::Microseconds => 1000,
+        TimeUnit::Nanoseconds => 1,
     };
     seconds * 1_000_000_000 + fraction * nanoseconds
 }

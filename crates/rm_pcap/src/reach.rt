@@ -3,7 +3,8 @@
 pub struct Reach {
     /// The time of the first record in nanoseconds, once there was one.
     pub first: Option<u64>,
-    /// The moment of the last record's frame, in milliseconds.
+    /// The moment of the last record's frame, in milliseconds; before the first record, the moment at which that will
+    /// stand.
     pub last: u32,
     /// How many records there were.
     pub count: u32,

@@ -14,7 +14,7 @@ pub const MOST_RECORDS: u32 = 100_000_000;
 pub struct Record {
     /// How many octets were captured.
     pub included: u32,
-    /// How many octets the frame had on the wire, never fewer than were captured.
+    /// How many octets the frame had where it was captured, never fewer than were captured.
     pub original: u32,
     /// How far the records reach with this one.
     pub after: Reach,

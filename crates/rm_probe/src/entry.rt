@@ -15,13 +15,14 @@ use std::alloc::Global;
 
 /// Runs the words of a command line.
 ///
-/// The one command is `replay CAPTURE REQUESTS`. It reads both files whole, and writes one line for each datagram
-/// of the request file, and a last line. Each word after `replay` isn't empty and doesn't begin with a dash; other
-/// words are `Usage`.
+/// The one command is `replay CAPTURE REQUESTS`. It writes one line for each datagram of the request file, and a last
+/// line. Each word after `replay` isn't empty and doesn't begin with a dash; other words are `Usage`.
 ///
-/// The capture is judged first and then the request file, each one's length before its form, and only then is
-/// anything written. After `WriteFault` a front of the text was written, after every other status but `Done`
-/// nothing.
+/// The capture is judged first, a record at a time, and then the request file, its length before its form. Only then
+/// is anything written, and the capture is read again meanwhile. After `WriteFault` and `ReadFault` a front of the
+/// text may have been written. Over a shelf that tells what it holds, nothing was written after the others but `Done`.
+/// Over one that doesn't, the capture may be another one when it is read again, and `BadCapture` and `TooLong` may
+/// come after lines were written.
 pub fn run<F: Shelf, K: Sink, L: Link, T: Clock>(
     alloc: Global,
     words: &Words,

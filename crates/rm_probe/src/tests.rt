@@ -619,6 +619,7 @@ fn failed_reads_leave_a_front(rt: HostRuntime) -> Result<(), Fail> {
     let alloc = rt.alloc();
     let capture = capture_of(alloc, &[[7, 0, 60, 60], [9, 0, 60, 60]])?;
     let mut longest = 0;
+    let mut is_done = false;
     for call in 1..100 {
         let mut shelf = shelf_of(alloc, &capture, THREE_REQUESTS.as_bytes())?;
         shelf.pieces(10);
@@ -635,12 +636,14 @@ fn failed_reads_leave_a_front(rt: HostRuntime) -> Result<(), Fail> {
             status => {
                 assert_eq!(rt; status, Status::Done, "read {call}");
                 assert_eq!(rt; out.bytes(), FOUR_LINES.as_bytes(), "read {call}");
+                is_done = true;
                 break;
             }
         }
     }
     // The last read that can fail is the one that finds the end of the capture, for the third line.
     assert_eq!(rt; longest, 47);
+    assert!(rt; is_done);
     Ok(())
 }
 

@@ -13,7 +13,8 @@ is_ip bytes = option_map_or (λ number. number == 0x0800) (ethernet_type bytes) 
 unfoldable pub datagram_in : List ℕ → Option (List ℕ)
 datagram_in bytes = if is_ip bytes && has_header (payload bytes) then Some (payload bytes) else None
 
--- The facts of a frame with these captured octets, and that many octets on the wire without the check sequence.
+-- The facts of a frame with these captured octets, which had that many octets where it was captured, its check
+-- sequence left out.
 -- There is one interface.
 abbrev pub facts_of : List ℕ → ℕ → Bool → Facts
 facts_of bytes original keep_short = record {

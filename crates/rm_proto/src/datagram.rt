@@ -27,7 +27,9 @@ const UDP: u8 = 17;
 /// The addresses of an IPv4 datagram, the octets in network order (RFC 791).
 #[derive(Clone, Copy, Debug, PartialEq, Eq)]
 pub struct IpPair {
+    /// The address of the sender.
     pub source: [u8; 4],
+    /// The address of the receiver.
     pub dest: [u8; 4],
 }
 

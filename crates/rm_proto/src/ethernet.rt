@@ -34,7 +34,9 @@ const UNDERSIZE: u8 = 2;
 /// The addresses of a frame, the octets in the order of the wire (IEEE 802.3).
 #[derive(Clone, Copy, Debug, PartialEq, Eq)]
 pub struct Pair {
+    /// The address of the sender.
     pub source: [u8; 6],
+    /// The address of the receiver, or of a group of them.
     pub dest: [u8; 6],
 }
 

@@ -9,7 +9,9 @@ const BOTH_PORTS: usize = 4;
 /// The ports of a segment of TCP (RFC 793) or a datagram of UDP (RFC 768).
 #[derive(Clone, Copy, Debug, PartialEq, Eq)]
 pub struct Ports {
+    /// The port of the sender.
     pub source: u16,
+    /// The port of the receiver.
     pub dest: u16,
 }
 

@@ -21,6 +21,7 @@ abbrev pub start_behind : List ℕ → Instance
 start_behind [] = at_first
 start_behind (column ∷ index) = record { column = column; index = index }
 
+-- the same by what is left of the name behind the entry, and whether it comes before the entry
 abbrev pub start_at : Bool → Option (List ℕ) → Option Instance
 start_at is_before (Some left) = Some (start_behind left)
 start_at is_before None = if is_before then Some at_first else None

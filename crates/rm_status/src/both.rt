@@ -10,7 +10,9 @@ use rm_val::{Oid, Value};
 /// Two groups as one. Where both have a variable of a name, the first one's counts.
 #[derive(Drop)]
 pub struct Both<G, H> {
+    /// The group whose variables count where both have one of a name.
     pub first: G,
+    /// The other group.
     pub second: H,
 }
 

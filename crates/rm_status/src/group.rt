@@ -9,7 +9,7 @@ ghost use Rattle.rm_model.specs.Cells.{Cells, IsNext};
 
 use rm_val::{Oid, Value};
 
-/// A group of objects, which stands for every journal whose acts leave it as it is.
+/// A group of objects. It stands for a journal where all that it keeps is what that journal gives.
 pub trait Group {
     /// What the group keeps is what a journal gives, by what the probe was set to.
     ghost stands: { Self → Settings → Journal → Type 0 };

@@ -8,7 +8,7 @@ mod interface;
 mod nearer;
 mod objects;
 mod one_row;
-mod rows;
+mod row_indexes;
 mod search;
 mod system;
 #[cfg(test)]
@@ -21,6 +21,6 @@ pub use interface::{INTERFACES, interface_name, source};
 pub use nearer::choose_nearer;
 pub use objects::{Objects, is_of_column};
 pub use one_row::OneRow;
-pub use rows::Rows;
+pub use row_indexes::RowIndexes;
 pub use search::next_name;
 pub use system::System;

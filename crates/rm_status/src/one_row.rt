@@ -2,13 +2,14 @@
 ghost use Rattle.std.specs.Prelude.{◌≡◌, ℕ, List, [], ◌∷◌, refl};
 ghost use Rattle.std.specs.Str.{bytes_eq};
 
-use crate::rows::Rows;
+use crate::row_indexes::RowIndexes;
 use rm_val::Oid;
 
 /// The rows of a table that has one row, whose index is this number. The scalars of a group are such a table: the
-/// instance of each scalar is the number 0 (RFC 1902, section 7.1.12).
+/// instance of each scalar is the number 0 (RFC 1157, section 3.2.6.3).
 #[derive(Clone, Copy)]
 pub struct OneRow {
+    /// The one number of the row's index.
     pub number: u32,
 }
 
@@ -27,7 +28,7 @@ impl OneRow {
     }
 }
 
-impl Rows for OneRow {
+impl RowIndexes for OneRow {
     ghost is_row = { λ rows now index. bytes_eq index (rows.number ∷ []) };
 
     ghost longest = { 1 };

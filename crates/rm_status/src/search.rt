@@ -7,14 +7,14 @@ ghost use Rattle.rm_model.specs.ControlRows.{cell_name};
 ghost use Rattle.rm_status.specs.Search.{are_rising, start_of, start_behind, is_present, IsNextInstance};
 
 use crate::instance::{append_from, numbers_from};
-use crate::rows::Rows;
+use crate::row_indexes::RowIndexes;
 use rm_model::Instance;
 use rm_val::Oid;
 use std::cmp::Ordering;
 
 /// The least name of a cell above that one (RFC 1905, section 4.2.2), in the table with this entry, these columns and
 /// these rows at a moment in milliseconds. None where the table has no cell above. The rows are asked twice at most.
-pub fn next_name<R: Rows>(
+pub fn next_name<R: RowIndexes>(
     rows: &R,
     entry: &Oid,
     columns: &[u32],
@@ -68,7 +68,12 @@ fn start_behind(name: &Oid, from: usize) -> Instance
 }
 
 // The first instance with a cell behind that one, column by column.
-fn next_instance<R: Rows>(rows: &R, columns: &[u32], start: &Instance, now: u32) -> Option<Instance>
+fn next_instance<R: RowIndexes>(
+    rows: &R,
+    columns: &[u32],
+    start: &Instance,
+    now: u32,
+) -> Option<Instance>
     requires { IsTrue (are_rising columns.now) }
     ensures next { IsNextInstance columns.now (R.is_row rows.now now) start.now result }
     ensures fits { IfSome result (λ next. length next.index ≤ R.longest) }
@@ -85,7 +90,7 @@ fn next_instance<R: Rows>(rows: &R, columns: &[u32], start: &Instance, now: u32)
 }
 
 // The index of the first cell behind an instance in its own column.
-fn index_behind<R: Rows>(rows: &R, columns: &[u32], start: &Instance, now: u32) -> Option<Oid>
+fn index_behind<R: RowIndexes>(rows: &R, columns: &[u32], start: &Instance, now: u32) -> Option<Oid>
     ensures least { IsLeastAbove (λ index. is_present columns.now (R.is_row rows.now now) (record { column = start.now.column; index = index })) start.now.index result }
     ensures fits { IfSome result (λ index. length index ≤ R.longest) }
 {

@@ -5,7 +5,7 @@ ghost use Rattle.rm_val.specs.Val.{counter};
 ghost use Rattle.rm_model.specs.Journal.{Journal, Frame, frames_in, passes};
 ghost use Rattle.rm_model.specs.Cells.{cells_of};
 
-use crate::{Group, OneRow, Rows, instance_of, next_name};
+use crate::{Group, OneRow, RowIndexes, instance_of, next_name};
 use rm_val::{Oid, Value};
 
 /// The columns sysObjectID and sysContact, of which each is the number of frames.
@@ -28,7 +28,7 @@ impl Seen {
     }
 }
 
-impl Rows for Seen {
+impl RowIndexes for Seen {
     ghost is_row = { λ rows now index. bytes_eq index (0 ∷ []) && nat_lt 0 rows.frames };
 
     ghost longest = { 1 };

@@ -2,13 +2,13 @@
 ghost use Rattle.std.specs.Prelude.{◌≡◌, ℕ, List, [], ◌∷◌, ◌||◌, refl};
 ghost use Rattle.std.specs.Str.{bytes_eq};
 
-use crate::Rows;
+use crate::RowIndexes;
 use rm_val::Oid;
 
 /// The rows 1, 1.6.2 and 2.0.
 pub struct Sparse;
 
-impl Rows for Sparse {
+impl RowIndexes for Sparse {
     ghost is_row = { λ rows now index. bytes_eq index (1 ∷ []) || bytes_eq index (1 ∷ 6 ∷ 2 ∷ []) || bytes_eq index (2 ∷ 0 ∷ []) };
 
     ghost longest = { 3 };

@@ -5,7 +5,7 @@ ghost use Rattle.rm_model.specs.Names.{IsLeastAbove};
 use rm_val::Oid;
 
 /// The rows of a table, as the search for the next cell sees them: by the numbers of their index.
-pub trait Rows {
+pub trait RowIndexes {
     /// Which lists of numbers are the index of a row at a moment in milliseconds.
     ghost is_row: { Self → ℕ → List ℕ → Bool };
 
