@@ -58,12 +58,18 @@ impl Ether {
 
 impl Group for Ether {
     ghost use Rattle.rm_model.specs.Cells.{cells_of};
-    ghost use Rattle.rm_ether.specs.EtherStats.{ether_table};
+    ghost use Rattle.rm_model.proofs.Finite.{table_finite};
+    ghost use Rattle.rm_model.proofs.Rows.{indexes_of, row_listed, one_row_begins};
+    ghost use Rattle.rm_ether.specs.EtherStats.{ether_table, ether_stats, ether_beginning};
     ghost use Rattle.rm_ether.specs.Group.{Stands};
 
     ghost stands = { Stands };
 
     ghost cells = { λ settings journal now. cells_of (ether_table settings journal) };
+
+    ghost finite = { λ settings journal now.
+        table_finite (ether_table settings journal) (indexes_of ether_stats ((1 ∷ []) ∷ []) journal)
+        (row_listed ether_stats ether_beginning ((1 ∷ []) ∷ []) (one_row_begins (1 ∷ [])) journal) };
 
     fn cell(&self, name: &Oid, _now: u32) -> Option<Value<'_>> {
         cell_of(&self.statistics, name)

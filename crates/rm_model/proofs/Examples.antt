@@ -1,7 +1,6 @@
 -- The life of one row of a sampled table, act by act: its status is column 12, its interval column 2, its owner column 11.
-use Rattle.std.proofs.Common.{◌≡◌, ℕ, [], ◌∷◌, refl, true, false, cond, Some, None}
+use Rattle.std.proofs.Common.{◌≡◌, ℕ, [], ◌∷◌, refl, true, false, Some, None}
 use Rattle.std.specs.Prelude.{pos}
-use Rattle.std.specs.Str.{bytes_eq}
 use Rattle.rm_val.specs.Val.{Val, int, octets}
 use Rattle.rm_model.specs.declared.row.State.TheVariants.{Absent, UnderCreation, Valid}
 use Rattle.rm_model.specs.declared.row.StatusKind.TheVariants.{EntryStatus, RowStatus}
@@ -20,7 +19,7 @@ table = record { entry = 1 ∷ 3 ∷ []; status = 12; status_kind = EntryStatus;
 
 -- a Set of one column of row 5
 abbrev gives : ℕ → Val → Assignments
-gives column value name = cond (bytes_eq name (1 ∷ 3 ∷ column ∷ 5 ∷ [])) (Some value) None
+gives column value = record { name = 1 ∷ 3 ∷ column ∷ 5 ∷ []; value = value } ∷ []
 
 abbrev frame : ℕ → Act
 frame moment = passes (record { interface = 1; moment = moment; number = moment; octets = []; original = 60 })

@@ -1,3 +1,6 @@
 mod Examples
 pub mod Next
 pub mod Tables
+pub mod Members
+pub mod Finite
+pub mod Rows

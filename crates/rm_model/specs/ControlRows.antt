@@ -3,7 +3,7 @@ use Rattle.std.specs.Prelude.{ℕ, ℤ, pos, List, [], ◌∷◌, ◌++◌, Bool
 use Rattle.std.specs.Option.{option_or}
 use Rattle.std.specs.Str.{bytes_eq}
 use Rattle.rm_val.specs.Val.{Val, int, null}
-use Rattle.rm_model.specs.Journal.{Act, passes, assigns, samples, Journal, moment_of}
+use Rattle.rm_model.specs.Journal.{Act, passes, assigns, samples, Journal, moment_of, value_given}
 use Rattle.rm_model.specs.ControlTable.{ControlTable, default_of}
 use Rattle.rm_model.specs.declared.row.StatusKind.{StatusKind}
 use Rattle.rm_model.specs.declared.row.StatusKind.TheVariants.{EntryStatus, RowStatus}
@@ -48,7 +48,7 @@ cell_name entry column index = entry ++ column ∷ index
 -- what an act asks of a row
 abbrev pub act_ask : ControlTable → Act → List ℕ → Ask
 act_ask table (passes frame) index = Nothing
-act_ask table (assigns moment values) index = value_ask table.status_kind (values (cell_name table.entry table.status index))
+act_ask table (assigns moment values) index = value_ask table.status_kind (value_given values (cell_name table.entry table.status index))
 act_ask table (samples moment alarm None) index = if table.is_sampled && bytes_eq index (alarm ∷ []) then Destroy else Nothing
 act_ask table (samples moment alarm (Some reading)) index = Nothing
 
@@ -102,7 +102,7 @@ state_of table beginning (act ∷ earlier) index = next_state (act_ask table act
 abbrev pub set_value : ControlTable → Beginning → Journal → List ℕ → ℕ → Option Val
 set_value table beginning [] index column = beginning.set index column
 set_value table beginning (assigns moment values ∷ earlier) index column =
-    option_or (values (cell_name table.entry column index))
+    option_or (value_given values (cell_name table.entry column index))
     (if is_absent (state_of table beginning earlier index) then None else set_value table beginning earlier index column)
 set_value table beginning (passes frame ∷ earlier) index column = set_value table beginning earlier index column
 set_value table beginning (samples moment alarm reading ∷ earlier) index column = set_value table beginning earlier index column

@@ -1,5 +1,7 @@
 -- What happened to the probe: its acts, the newest first.
-use Rattle.std.specs.Prelude.{ℕ, ℤ, List, [], ◌∷◌, Option}
+use Rattle.std.specs.Prelude.{ℕ, ℤ, List, [], ◌∷◌, Option, find}
+use Rattle.std.specs.Option.{option_map}
+use Rattle.std.specs.Str.{bytes_eq}
 use Rattle.rm_val.specs.Val.{Val}
 
 -- a frame that the probe saw: the number of its interface, its moment in milliseconds, its number in the
@@ -11,10 +13,19 @@ pub record Frame : Type 0 where
   pub octets : List ℕ
   pub original : ℕ
 
--- What a Set gives: the value of each variable that it names, so that the order of its bindings is not
--- there to matter.
+-- a variable that a Set names, and the value that it gives to it
+pub record Assignment : Type 0 where
+  pub name : List ℕ
+  pub value : Val
+
+-- What a Set gives, in rising order of the names, each name once: so the order of its bindings is not there to
+-- matter.
 abbrev pub Assignments : Type 0
-Assignments = List ℕ → Option Val
+Assignments = List Assignment
+
+-- the value that a Set gives to the variable with a name, if it gives it one
+abbrev pub value_given : Assignments → List ℕ → Option Val
+value_given values name = option_map (λ assignment. assignment.value) (find (λ assignment. bytes_eq assignment.name name) values)
 
 -- A frame passed; a Set was accepted at a moment; an alarm was sampled at a moment, by the number of its
 -- row, with the number that it read, or nothing where its variable was gone.

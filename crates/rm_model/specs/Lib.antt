@@ -3,6 +3,7 @@ pub mod Settings
 pub mod FrameFacts
 pub mod Names
 pub mod Cells
+pub mod Finite
 pub mod Interfaces
 pub mod ControlTable
 pub mod ControlRows

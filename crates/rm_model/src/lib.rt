@@ -1,9 +1,9 @@
 //! What happened to the probe: the journal, from which every value that the probe answers is defined.
 //!
 //! The crate has definitions, in `specs/`, and the plain types that code and definitions share. `Journal` has the acts,
-//! `Names` and `Cells` what GetNext finds and the cells of a table, `ControlTable` and `ControlRows` the rows of control
-//! tables after a journal, `Interfaces` the frames that a data source names, `Settings` what the probe was
-//! set to. No code keeps a journal.
+//! `Names` and `Cells` what GetNext finds and the cells of a table, `Finite` that these are finitely many,
+//! `ControlTable` and `ControlRows` the rows of control tables after a journal, `Interfaces` the frames that a data
+//! source names, `Settings` what the probe was set to. No code keeps a journal.
 #![tactic(auto)]
 
 mod instance;

@@ -11,6 +11,7 @@ use Rattle.rm_model.specs.Names.{Below, IsLeastAbove}
 use Rattle.rm_model.specs.Cells.{behind, is_one_of, instance_of, instance_left, is_of_row, is_cell_name}
 use Rattle.rm_model.specs.ControlRows.{cell_name}
 use Rattle.rm_model.specs.declared.instance.Instance.{Instance}
+use Rattle.rm_model.proofs.Tables.{behind_is, behind_front}
 use Rattle.rm_status.specs.Search.{at_first, start_behind, start_at, start_of, Follows, is_present, IsNextInstance}
 use Rattle.rm_status.proofs.SearchLemmas.{unless_true, both_true}
 
@@ -26,25 +27,6 @@ behind_some [] n h = refl
 behind_some (x ∷ xs) [] h = cc
 behind_some (x ∷ xs) (y ∷ ys) h =
     elim (nat_eq x y) as (λ t. true ≡ (t && starts_with nat_eq ys xs) → cond t (behind xs ys) None ≡ Some (drop (length xs) ys)) [ true ↦ λ k. behind_some xs ys k | false ↦ λ k. cc ] h
-
--- what is behind a front, and the front, are the name
-behind_is : (e n left : List ℕ) → behind e n ≡ Some left → n ≡ e ++ left
-behind_is [] n left h = cc
-behind_is (x ∷ e) [] left h = absurd (cc)
-behind_is (x ∷ e) (y ∷ n) left h =
-    elim (nat_eq x y) as (λ t. nat_eq x y ≡ t → cond t (behind e n) None ≡ Some left → y ∷ n ≡ x ∷ (e ++ left)) [
-      | true ↦ λ same is.
-          let head : x ≡ y = grind (arith, nat_tests) in
-          let tail = behind_is e n left is in
-          cc
-      | false ↦ λ _ is. absurd (cc)
-    ] refl h
-
-behind_front : (e left : List ℕ) → behind e (e ++ left) ≡ Some left
-behind_front [] left = refl
-behind_front (x ∷ e) left =
-    let same : nat_eq x x ≡ true = grind (arith, nat_tests) in
-    rw same (behind_front e left)
 
 -- the order of numbers decides, then that of the others
 then_less : (a c : ℕ) (o : Ordering) → ordering_then (nat_cmp a c) o ≡ Less → (a < c) ⊎ ((a ≡ c) × (o ≡ Less))

@@ -1,6 +1,7 @@
 // Two groups as one.
 ghost use Rattle.std.specs.Prelude.{◌≡◌, ℕ, ◌≤◌, List, ◌||◌};
 ghost use Rattle.std.specs.Option.{option_or};
+ghost use Rattle.rm_model.proofs.Finite.{both_finite};
 
 use crate::group::Group;
 use crate::nearer::choose_nearer;
@@ -20,6 +21,9 @@ impl<G: Group, H: Group> Group for Both<G, H> {
     ghost stands = { λ s settings journal. G.stands s.first settings journal × H.stands s.second settings journal };
 
     ghost cells = { λ settings journal now name. option_or (G.cells settings journal now name) (H.cells settings journal now name) };
+
+    ghost finite = { λ settings journal now.
+        both_finite (G.cells settings journal now) (H.cells settings journal now) (G.finite settings journal now) (H.finite settings journal now) };
 
     fn cell(&self, name: &Oid, now: u32) -> Option<Value<'_>> {
         match self.first.cell(name, now) {

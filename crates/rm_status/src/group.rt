@@ -6,6 +6,7 @@ ghost use Rattle.rm_val.specs.Spellable.{IsSpellable, HasSpelling};
 ghost use Rattle.rm_model.specs.Settings.{Settings};
 ghost use Rattle.rm_model.specs.Journal.{Journal, last_moment};
 ghost use Rattle.rm_model.specs.Cells.{Cells, IsNext};
+ghost use Rattle.rm_model.specs.Finite.{AreFinite};
 
 use rm_val::{Oid, Value};
 
@@ -33,4 +34,7 @@ pub trait Group {
         ensures stays { IfNone result (out.new ≡ out.old) }
         ensures name_spelling { OnSome result (IsSpellable out.new) }
         ensures spelling { IfSome result (λ value. HasSpelling (val_of value)) };
+
+    /// The cells are finitely many, after every journal and at every moment.
+    ghost finite: { (settings : Settings) (journal : Journal) (now : ℕ) → AreFinite (cells settings journal now) };
 }

@@ -4,6 +4,7 @@ ghost use Rattle.std.specs.Option.{option_map};
 ghost use Rattle.rm_val.specs.Val.{val_of};
 ghost use Rattle.rm_val.specs.Spellable.{HasSpelling};
 ghost use Rattle.rm_model.specs.Cells.{cells_of, is_of_column};
+ghost use Rattle.rm_model.proofs.Finite.{one_row_finite};
 ghost use Rattle.rm_status.specs.System.{system_entry, system_columns, system_table};
 
 use crate::group::Group;
@@ -31,6 +32,8 @@ impl Group for System {
     ghost stands = { λ s settings journal. Unit {0} };
 
     ghost cells = { λ settings journal now. cells_of (system_table now) };
+
+    ghost finite = { λ settings journal now. one_row_finite (system_table now) (0 ∷ []) (λ index row. row) };
 
     fn cell(&self, name: &Oid, now: u32) -> Option<Value<'_>> {
         scalar(name, now)

@@ -4,6 +4,8 @@ ghost use Rattle.std.specs.Str.{bytes_eq};
 ghost use Rattle.rm_val.specs.Val.{counter};
 ghost use Rattle.rm_model.specs.Journal.{Journal, Frame, frames_in, passes};
 ghost use Rattle.rm_model.specs.Cells.{cells_of};
+ghost use Rattle.rm_model.proofs.Finite.{one_row_finite};
+ghost use Rattle.std.proofs.lemmas.Bool.{and_parts};
 
 use crate::{Group, OneRow, RowIndexes, instance_of, next_name};
 use rm_val::{Oid, Value};
@@ -52,6 +54,13 @@ impl Group for Seen {
       is_row = λ index. bytes_eq index (0 ∷ []) && nat_lt 0 (length (frames_in journal));
       value = λ column index. counter (length (frames_in journal));
     }) };
+
+    ghost finite = { λ settings journal now. one_row_finite (record {
+      entry = 1 ∷ 3 ∷ 6 ∷ 1 ∷ 2 ∷ 1 ∷ 1 ∷ [];
+      columns = 2 ∷ 4 ∷ [];
+      is_row = λ index. bytes_eq index (0 ∷ []) && nat_lt 0 (length (frames_in journal));
+      value = λ column index. counter (length (frames_in journal));
+    }) (0 ∷ []) (λ index row. (and_parts (bytes_eq index (0 ∷ [])) (nat_lt 0 (length (frames_in journal))) row).0) };
 
     fn cell(&self, name: &Oid, _now: u32) -> Option<Value<'_>> {
         let at = instance_of(name, &identifier(), &COLUMNS)?;
