@@ -1,8 +1,15 @@
 //! The agent: its groups of objects, and its answers to datagrams.
 #![tactic(auto)]
 
+mod agent;
+mod answer;
 mod found;
 mod names;
 mod reply;
 mod request;
 mod row;
+mod settings;
+
+pub use agent::{Agent, MOST_REPLY};
+pub use answer::{Answer, Reason};
+pub use settings::Settings;
