@@ -105,17 +105,17 @@ repeat_more IsOne most names m list now left last row draft new count before put
       answers = before.answers ++ puts.answers;
       is_drafted = subst (λ (bs : List Binding). IsDrafted m bs new) (append_assoc list before.answers puts.answers) puts.is_drafted;
       on = λ rest are.
-        let next : Goes IsOne left puts.answers rest =
-        (λ ends. absurd (true≢false (sym ends ∙ end)), λ _. subst (λ (ns : List (List ℕ)). AreRepetitions IsOne left ns rest) puts.row_names are) in
-        let front : AreRepetitions IsOne (suc left) last (puts.answers ++ rest) = front_on IsOne last (Goes IsOne left) puts.answers rest puts.are.first puts.are.all next in
-        subst (λ (bs : List Binding). AreRepetitions IsOne most names bs) (sym (whole rest))
-        (before.on (puts.answers ++ rest) (subst (λ (n : ℕ). AreRepetitions IsOne n last (puts.answers ++ rest)) (sym count) front));
+          let next : Goes IsOne left puts.answers rest =
+          (λ ends. absurd (true≢false (sym ends ∙ end)), λ _. subst (λ (ns : List (List ℕ)). AreRepetitions IsOne left ns rest) puts.row_names are) in
+          let front : AreRepetitions IsOne (suc left) last (puts.answers ++ rest) = front_on IsOne last (Goes IsOne left) puts.answers rest puts.are.first puts.are.all next in
+          subst (λ (bs : List Binding). AreRepetitions IsOne most names bs) (sym (whole rest))
+          (before.on (puts.answers ++ rest) (subst (λ (n : ℕ). AreRepetitions IsOne n last (puts.answers ++ rest)) (sym count) front));
       back = λ rest are.
-        let front : AreRepetitions IsOne (suc left) last (puts.answers ++ rest) =
-        subst (λ (n : ℕ). AreRepetitions IsOne n last (puts.answers ++ rest)) count
-        (before.back (puts.answers ++ rest) (subst (λ (bs : List Binding). AreRepetitions IsOne most names bs) (whole rest) are)) in
-        let next : Goes IsOne left puts.answers rest = front_back IsOne last (Goes IsOne left) puts.answers rest puts.are.all front in
-        subst (λ (ns : List (List ℕ)). AreRepetitions IsOne left ns rest) (sym puts.row_names) (next.1 end);
+          let front : AreRepetitions IsOne (suc left) last (puts.answers ++ rest) =
+          subst (λ (n : ℕ). AreRepetitions IsOne n last (puts.answers ++ rest)) count
+          (before.back (puts.answers ++ rest) (subst (λ (bs : List Binding). AreRepetitions IsOne most names bs) (whole rest) are)) in
+          let next : Goes IsOne left puts.answers rest = front_back IsOne last (Goes IsOne left) puts.answers rest puts.are.all front in
+          subst (λ (ns : List (List ℕ)). AreRepetitions IsOne left ns rest) (sym puts.row_names) (next.1 end);
     }
 
 -- a repetition that is wholly endOfMibView is the last
@@ -129,13 +129,13 @@ repeat_ends IsOne most names m list now left last row draft new count before put
     record {
       added = before.answers ++ puts.answers;
       part = before.on puts.answers (subst (λ (n : ℕ). AreRepetitions IsOne n last puts.answers) (sym count)
-        (subst (λ (bs : List Binding). AreRepetitions IsOne (suc left) last bs) (append-nil puts.answers) front));
+          (subst (λ (bs : List Binding). AreRepetitions IsOne (suc left) last bs) (append-nil puts.answers) front));
       is_drafted = subst (λ (bs : List Binding). IsDrafted m bs new) (append_assoc list before.answers puts.answers) puts.is_drafted;
       longest = λ more are fits.
-        let behind : AreRepetitions IsOne (suc left) last (puts.answers ++ more) =
-        subst (λ (n : ℕ). AreRepetitions IsOne n last (puts.answers ++ more)) count
-        (before.back (puts.answers ++ more) (subst (λ (bs : List Binding). AreRepetitions IsOne most names bs) (append_assoc before.answers puts.answers more) are)) in
-        (front_back IsOne last (Goes IsOne left) puts.answers more puts.are.all behind).0 end;
+          let behind : AreRepetitions IsOne (suc left) last (puts.answers ++ more) =
+          subst (λ (n : ℕ). AreRepetitions IsOne n last (puts.answers ++ more)) count
+          (before.back (puts.answers ++ more) (subst (λ (bs : List Binding). AreRepetitions IsOne most names bs) (append_assoc before.answers puts.answers more) are)) in
+          (front_back IsOne last (Goes IsOne left) puts.answers more puts.are.all behind).0 end;
     }
 
 -- a repetition doesn't fit whole
@@ -149,12 +149,12 @@ repeat_stops IsOne one lengthen most names m list now left last draft new count 
       part = before.on stops.answers (subst (λ (n : ℕ). AreRepetitions IsOne n last stops.answers) (sym count) front);
       is_drafted = subst (λ (bs : List Binding). IsDrafted m bs new) (append_assoc list before.answers stops.answers) stops.is_drafted;
       longest = λ more are fits.
-        let behind : AreRepetitions IsOne (suc left) last (stops.answers ++ more) =
-        subst (λ (n : ℕ). AreRepetitions IsOne n last (stops.answers ++ more)) count
-        (before.back (stops.answers ++ more) (subst (λ (bs : List Binding). AreRepetitions IsOne most names bs) (append_assoc before.answers stops.answers more) are)) in
-        let whole : list ++ ((before.answers ++ stops.answers) ++ more) ≡ (list ++ before.answers) ++ (stops.answers ++ more) =
-        ap (λ (bs : List Binding). list ++ bs) (append_assoc before.answers stops.answers more) ∙ sym (append_assoc list before.answers (stops.answers ++ more)) in
-        stops_longest IsOne one lengthen last (Goes IsOne left) m (list ++ before.answers) new stops more behind (subst (λ (bs : List Binding). size_with m bs ≤ 1472) whole fits);
+          let behind : AreRepetitions IsOne (suc left) last (stops.answers ++ more) =
+          subst (λ (n : ℕ). AreRepetitions IsOne n last (stops.answers ++ more)) count
+          (before.back (stops.answers ++ more) (subst (λ (bs : List Binding). AreRepetitions IsOne most names bs) (append_assoc before.answers stops.answers more) are)) in
+          let whole : list ++ ((before.answers ++ stops.answers) ++ more) ≡ (list ++ before.answers) ++ (stops.answers ++ more) =
+          ap (λ (bs : List Binding). list ++ bs) (append_assoc before.answers stops.answers more) ∙ sym (append_assoc list before.answers (stops.answers ++ more)) in
+          stops_longest IsOne one lengthen last (Goes IsOne left) m (list ++ before.answers) new stops more behind (subst (λ (bs : List Binding). size_with m bs ≤ 1472) whole fits);
     }
 
 -- all repetitions came

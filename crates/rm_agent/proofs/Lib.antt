@@ -2,3 +2,4 @@ mod NameLemmas
 mod RowLemmas
 mod BulkLemmas
 mod ReplyLemmas
+mod OneReply

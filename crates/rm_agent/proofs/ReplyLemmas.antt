@@ -63,9 +63,9 @@ bulk_repeats IsOne names repeated most m row draft new first others times puts r
       part = front_on IsOne names Follows puts.answers repeats.added puts.are.first puts.are.all repeats.part;
       short = repeats.is_drafted.short;
       longest = λ more front fits.
-        let whole = append_assoc puts.answers repeats.added more in
-        repeats.longest more (front_back IsOne names Follows puts.answers (repeats.added ++ more) puts.are.all (subst (λ (bs : List Binding). IsFront IsOne names Follows bs) whole front))
-        (subst (λ (bs : List Binding). size_with m bs ≤ 1472) whole fits);
+          let whole = append_assoc puts.answers repeats.added more in
+          repeats.longest more (front_back IsOne names Follows puts.answers (repeats.added ++ more) puts.are.all (subst (λ (bs : List Binding). IsFront IsOne names Follows bs) whole front))
+          (subst (λ (bs : List Binding). size_with m bs ≤ 1472) whole fits);
     }) repeats.is_drafted.is
 
 -- the octets that were written to the front

@@ -57,7 +57,7 @@ row_more IsOne names m list place row next draft new name b so_far at one is sho
       is_drafted = subst (λ (bs : List Binding). IsDrafted m bs new) whole (record { is = is; short = short });
       row_names = named ∙ ap (λ (ns : List (List ℕ)). ns ++ b.name ∷ []) so_far.row_names ∙ sym (map-append (λ (x : Binding). x.name) answers (b ∷ []));
       row_end = end ∙ ap (λ (t : Bool). t && is_end b.value) so_far.row_end ∙ ap (λ (t : Bool). are_end answers && t) (sym (and_true (is_end b.value)))
-        ∙ sym (list_all-append (λ (x : Binding). is_end x.value) answers (b ∷ []));
+          ∙ sym (list_all-append (λ (x : Binding). is_end x.value) answers (b ∷ []));
     }
   where
     and_true : (t : Bool) → (t && true) ≡ t

@@ -35,9 +35,9 @@ size_with request bindings = length (message_octets (carrying request bindings))
 abbrev pub IsWholeReply : (List ℕ → Binding → Type 0) → Message → Message → Type 0
 IsWholeReply IsOne request reply =
     ((answers : List Binding) × AreAnswers IsOne (names_of request.bindings) answers × (size_with request answers ≤ 1472)
-      × (reply ≡ carrying request answers))
+    × (reply ≡ carrying request answers))
     ⊎ ((some : List Binding) × AreFirst IsOne (names_of request.bindings) some × (1472 < size_with request some)
-      × (reply ≡ too_big request))
+    × (reply ≡ too_big request))
 
 -- A front of a list of bindings that is the answers to names, and behind these what may follow them.
 abbrev pub IsFront : (List ℕ → Binding → Type 0) → List (List ℕ) → (List Binding → List Binding → Type 0) → List Binding → Type 0

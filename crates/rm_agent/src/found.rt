@@ -2,7 +2,6 @@
 ghost use Rattle.std.specs.Prelude.{◌≡◌, ℕ, List};
 ghost use Rattle.rm_val.specs.Val.{val_of};
 ghost use Rattle.rm_val.specs.Spellable.{IsSpellable, HasSpelling};
-
 ghost use Rattle.rm_agent.specs.Answered.{IsGetBinding, IsNextBinding};
 ghost use Rattle.rm_agent.specs.Drafting.{OfCells, binding_found};
 

@@ -4,12 +4,16 @@
 mod agent;
 mod answer;
 mod found;
+mod laws;
 mod names;
 mod reply;
 mod request;
 mod row;
 mod settings;
+#[cfg(test)]
+mod tests;
 
 pub use agent::{Agent, MOST_REPLY};
 pub use answer::{Answer, Reason};
+pub use laws::one_reply;
 pub use settings::Settings;

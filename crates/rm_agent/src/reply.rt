@@ -36,12 +36,7 @@ pub(crate) fn reply<G: Group + Objects>(
 }
 
 // The reply to a GetRequest or a GetNextRequest: the answers to all names, or tooBig.
-fn whole<G: Group + Objects>(
-    groups: &G,
-    lookup: Lookup,
-    request: &Request<'_>,
-    now: u32,
-) -> Draft
+fn whole<G: Group + Objects>(groups: &G, lookup: Lookup, request: &Request<'_>, now: u32) -> Draft
     requires { (m : Message) × IsAsked request.now m × (length m.bindings ≤ 128) }
     ensures { OfCells (G.stands groups.now) G.cells now (λ cells. (m : Message) → IsAsked request.now m
         → DraftsOne (IsWholeReply (IsFound cells G.objects lookup) m) result) }
@@ -74,13 +69,7 @@ fn bulk<G: Group + Objects>(groups: &G, request: &Request<'_>, now: u32) -> Draf
 
 // Puts repetitions behind the bindings of a draft, as many as are asked for and fit. The last one is wholly
 // endOfMibView if any is.
-fn repeat<G: Group + Objects>(
-    groups: &G,
-    names: Names,
-    most: u32,
-    now: u32,
-    draft: &mut Draft,
-)
+fn repeat<G: Group + Objects>(groups: &G, names: Names, most: u32, now: u32, draft: &mut Draft)
     requires { All IsSpellable names }
     ensures { OfCells (G.stands groups.now) G.cells now (λ cells. (m : Message) (list : List Binding) → IsDrafted m list draft.old
         → PutsLongest (AreRepetitions (IsNextBinding cells) most names) m list draft.new) }

@@ -46,7 +46,13 @@ impl Request<'_> {
         ensures fits { (m : Whole) → IsAsked self.now m → length (message_octets (response_to m status [])) ≤ 1472 }
     {
         let message = &self.message;
-        Draft::new(message.community, Kind::Response, message.id, status.number(), 0)
+        Draft::new(
+            message.community,
+            Kind::Response,
+            message.id,
+            status.number(),
+            0,
+        )
     }
 
     /// The names of the bindings from one place to before another.

@@ -24,14 +24,14 @@ returns-then-row g c settings journal stands later m list drafted_so =
 -- src/reply.rt:89:5
 pub loop-preserved : goal.loop-preserved
 loop-preserved g c = (
-    λ settings journal stands later m list drafted_so.
+  λ settings journal stands later m list drafted_so.
       let cells = g.G.Group.cells settings journal c.args.now in
       let before = c.loop.invariant.0 settings journal stands later m list drafted_so in
       repeat_more (IsNextBinding cells) c.args.most c.args.names m list (c.args.most - c.loop.counter) (c.args.most - (c.loop.counter + 1))
       c.loop.last c.in-Ok.row c.loop.draft c.put.new.draft (omega (arith, c.loop-test.true)) before
       (c.in-Ok.ensures.put settings journal stands later m (list ++ before.answers) before.is_drafted) c.if-row.false,
-    c.in-Ok.ensures.spelling,
-  )
+  c.in-Ok.ensures.spelling,
+)
 
 -- src/reply.rt:76:1
 pub returns : goal.returns

@@ -22,11 +22,11 @@ pub loop-place-preserved : goal.loop-place-preserved
 loop-place-preserved g c =
     let (before, spelled, count) = c.loop-place.invariant in (
       λ settings journal stands later m list drafted_so.
-        let so_far = before settings journal stands later m list drafted_so in
-        let part = carrying m (list ++ so_far.answers) in
-        row_more (IsFound (g.G.Group.cells settings journal c.args.now) g.G.Objects.objects c.args.lookup) c.args.names.now m list c.loop-place.place c.loop-place.row c.push.new.self
-        c.loop-place.draft c.add.new.self c.at.result.now (binding_found c.answer-found.result) so_far c.at.ensures (c.answer-found.ensures.answer settings journal stands later)
-        (c.in_ok-add.ensures.ok part so_far.is_drafted.is) ((c.in_ok-add.ensures.room part so_far.is_drafted.is).0 refl) c.push.ensures.names c.push.ensures.end,
+          let so_far = before settings journal stands later m list drafted_so in
+          let part = carrying m (list ++ so_far.answers) in
+          row_more (IsFound (g.G.Group.cells settings journal c.args.now) g.G.Objects.objects c.args.lookup) c.args.names.now m list c.loop-place.place c.loop-place.row c.push.new.self
+          c.loop-place.draft c.add.new.self c.at.result.now (binding_found c.answer-found.result) so_far c.at.ensures (c.answer-found.ensures.answer settings journal stands later)
+          (c.in_ok-add.ensures.ok part so_far.is_drafted.is) ((c.in_ok-add.ensures.room part so_far.is_drafted.is).0 refl) c.push.ensures.names c.push.ensures.end,
       All-same IsSpellable _ _ c.push.ensures.names (All-push IsSpellable c.loop-place.row.names c.answer-found.result.name spelled c.answer-found.ensures.name_spelling),
       omega (arith, ap length c.push.ensures.names, length-append c.loop-place.row.names (c.answer-found.result.name ∷ []), count),
     )
