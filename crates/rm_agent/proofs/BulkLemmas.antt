@@ -1,13 +1,12 @@
 -- How repetitions come into a draft.
-use Rattle.std.proofs.Common.{◌≡◌, ◌+◌, ◌≤◌, ◌<◌, ℕ, zero, suc, Bool, true, false, List, [], ◌∷◌, ◌++◌, length, Some, None, inl, inr, refl, sym, ap, subst, ◌∙◌, true≢false, arith, append_assoc}
+use Rattle.std.proofs.Common.{◌≡◌, ◌≤◌, ℕ, suc, true, false, List, [], ◌∷◌, ◌++◌, length, Some, None, inl, inr, refl, sym, ap, subst, ◌∙◌, true≢false, arith, append_assoc}
 use Rattle.std.proofs.lemmas.List.{append-nil}
-use Rattle.rm_val.specs.Val.{Val}
 use Rattle.rm_model.specs.Cells.{Cells}
 use Rattle.rm_model.proofs.Next.{next_same}
 use Rattle.rm_pdu.specs.Message.{Binding, Message, message_octets}
-use Rattle.rm_pdu.specs.Draft.{Drafted, drafted, binding_of}
+use Rattle.rm_pdu.specs.Draft.{Drafted, binding_of}
 use Rattle.rm_agent.specs.declared.row.Row.{Row}
-use Rattle.rm_agent.specs.Answered.{IsNextBinding, AreFirst, AreAnswers, are_end}
+use Rattle.rm_agent.specs.Answered.{IsNextBinding, AreFirst, are_end}
 use Rattle.rm_agent.specs.Replies.{names_of, carrying, size_with, IsFront, AreRepetitions}
 use Rattle.rm_agent.specs.Drafting.{IsDrafted, Puts, Stops, PutsLongest}
 

@@ -1,5 +1,5 @@
 -- The agent, as its callers see it.
-use Rattle.std.specs.Prelude.{◌≡◌, ◌≤◌, ◌||◌, ℕ, List, Bool}
+use Rattle.std.specs.Prelude.{◌≤◌, ◌||◌, ℕ, List, Bool}
 use Rattle.std.specs.Option.{option_or}
 use Rattle.rm_model.specs.Journal.{Journal, last_moment}
 use Rattle.rm_model.specs.Cells.{Cells, cells_of, is_of_column}
