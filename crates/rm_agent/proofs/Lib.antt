@@ -1,0 +1,5 @@
+mod NameLemmas
+mod RowLemmas
+mod BulkLemmas
+mod ReplyLemmas
+mod OneReply

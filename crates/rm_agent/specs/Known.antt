@@ -1,0 +1,13 @@
+-- What the probe is set to.
+use Rattle.std.specs.Prelude.{ℕ, Bool, ◌||◌, List}
+use Rattle.std.specs.Str.{bytes_eq}
+use Rattle.rm_model.specs.Settings.{Settings as Counting}
+use Rattle.rm_agent.specs.declared.settings.Settings.{Settings}
+
+-- whether a community is answered: it is the read or the write community
+abbrev pub is_known : Settings → List ℕ → Bool
+is_known settings community = bytes_eq community settings.read.items || bytes_eq community settings.write.items
+
+-- what the counters depend on
+abbrev pub counting_by : Settings → Counting
+counting_by settings = record { keep_short = settings.keep_short }

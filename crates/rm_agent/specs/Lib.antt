@@ -1,0 +1,6 @@
+pub mod Answered
+pub mod Replies
+pub mod Drafting
+pub mod Known
+pub mod Answers
+pub mod Agent

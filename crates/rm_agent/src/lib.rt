@@ -1,0 +1,19 @@
+//! The agent: its groups of objects, and its answers to datagrams.
+#![tactic(auto)]
+
+mod agent;
+mod answer;
+mod found;
+mod laws;
+mod names;
+mod reply;
+mod request;
+mod row;
+mod settings;
+#[cfg(test)]
+mod tests;
+
+pub use agent::{Agent, MOST_REPLY};
+pub use answer::{Answer, Reason};
+pub use laws::one_reply;
+pub use settings::Settings;

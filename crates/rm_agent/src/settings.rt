@@ -1,0 +1,39 @@
+// What the probe is set to.
+ghost use Rattle.std.specs.Prelude.{◌≡◌, ◌≤◌, IsTrue, length};
+
+use arrayvec::ArrayVec;
+
+/// What the probe is set to. It never changes while the probe runs.
+#[derive(Drop)]
+pub struct Settings {
+    /// The most hosts of a table, 2 to 4096.
+    pub hosts: u32,
+    /// The most pairs of hosts of a table, 2 to 4096.
+    pub pairs: u32,
+    /// The most rows of a table of the upper layers, 2 to 1024.
+    pub upper: u32,
+    /// Whether a frame of fewer than 60 octets counts as it was captured. Else it counts as padded to 60.
+    pub keep_short: bool,
+    /// The community that may read.
+    pub read: ArrayVec<u8, 64>,
+    /// The community that may read and write.
+    pub write: ArrayVec<u8, 64>,
+    ghost hosts_low: { 2 ≤ hosts },
+    ghost hosts_high: { hosts ≤ 4096 },
+    ghost pairs_low: { 2 ≤ pairs },
+    ghost pairs_high: { pairs ≤ 4096 },
+    ghost upper_low: { 2 ≤ upper },
+    ghost upper_high: { upper ≤ 1024 },
+}
+
+impl Settings {
+    ghost use Rattle.rm_agent.specs.Known.{is_known};
+
+    /// Whether a community is the read or the write community.
+    pub(crate) fn is_known(&self, community: &[u8]) -> bool
+        ensures known { result ≡ is_known self.now community.now }
+        ensures short { IsTrue result → length community.now ≤ 64 }
+    {
+        community == self.read.as_slice() || community == self.write.as_slice()
+    }
+}
