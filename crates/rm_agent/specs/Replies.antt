@@ -53,7 +53,7 @@ AreRepetitions IsOne zero names list = list ≡ []
 AreRepetitions IsOne (suc more) names list = IsFront IsOne names
     (λ answers rest. (are_end answers ≡ true → rest ≡ []) × (are_end answers ≡ false → AreRepetitions IsOne more (names_of answers) rest)) list
 
--- a number of a GetBulkRequest, negative ones counting as 0
+-- a number of a GetBulkRequest; a negative one is taken for 0
 abbrev pub counting : ℤ → ℕ
 counting (pos n) = n
 counting (negsuc n) = 0
@@ -74,7 +74,7 @@ pub record IsLongest (IsPart : List Binding → Type 0) (request : Message) (lis
   pub short : size_with request list ≤ 1472
   pub longest : (more : List Binding) → IsPart (list ++ more) → size_with request (list ++ more) ≤ 1472 → more ≡ []
 
--- the reply carries the longest front of the list of a GetBulkRequest with which it has at most 1472 octets
+-- the bindings of the reply are as many from the front of the list as one response holds
 abbrev pub IsBulkReply : (List ℕ → Binding → Type 0) → Message → Message → Type 0
 IsBulkReply IsOne request reply = (list : List Binding) × IsLongest (IsBulkFront IsOne request) request list × (reply ≡ carrying request list)
 
@@ -92,7 +92,8 @@ IsReplyOf cells objects Next request reply = IsWholeReply (IsNextBinding cells) 
 IsReplyOf cells objects Bulk request reply = IsBulkReply (IsNextBinding cells) request reply
 IsReplyOf cells objects other request reply = ⊥
 
--- the reply to a request: more than 128 bindings are too many for any reply
+-- The reply to a request. One with more than 128 bindings, of whatever kind, has none but tooBig; which requests are answered
+-- at all is said elsewhere.
 pub record IsReply (cells : Cells) (objects : List ℕ → Bool) (request : Message) (reply : Message) : Type 0 where
   pub few : length request.bindings ≤ 128 → IsReplyOf cells objects request.kind request reply
   pub many : 128 < length request.bindings → reply ≡ too_big request

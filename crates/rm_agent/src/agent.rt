@@ -35,7 +35,7 @@ impl Agent {
     ghost use Rattle.rm_agent.specs.Answers.{reason_for, reason_in, IsReplied, IsShort};
     ghost use Rattle.rm_agent.specs.Agent.{cells, objects, settings_of, last_given, frames_given, Stands};
 
-    /// The agent before the first frame.
+    /// The agent before the first frame. It asks for no memory yet.
     pub fn new(_alloc: Global, settings: Settings) -> Result<Agent, NoMemory>
         ensures stands { IfOk result (λ agent. Stands agent []) }
         ensures settings { IfOk result (λ agent. settings_of agent ≡ settings) }
@@ -52,7 +52,8 @@ impl Agent {
         })
     }
 
-    /// Counts a frame.
+    /// Counts a frame. Its moment isn't below the last one given, it had at most 262,144 octets and was captured with no more
+    /// than it had, and fewer than 400,000,000 frames were given before.
     pub fn frame(&mut self, frame: &Frame<'_>)
         requires later { last_given self.old ≤ frame.now.moment }
         requires captured { length frame.now.bytes.now ≤ frame.now.original }
@@ -68,8 +69,8 @@ impl Agent {
         self.last = frame.moment;
     }
 
-    /// Answers a datagram at a moment in milliseconds. A reply comes to the front of `out`. No answer asks for memory
-    /// yet.
+    /// Answers a datagram at a moment in milliseconds, which isn't below the last one given, and is kept. A reply comes to
+    /// the front of `out`. Drop says why there is none. No answer asks for memory yet.
     pub fn answer(
         &mut self,
         _alloc: Global,

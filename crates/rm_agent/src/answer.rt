@@ -15,7 +15,7 @@ pub enum Reason {
     NotRequest,
     /// Its community is neither the read nor the write community.
     Community,
-    /// It is a SetRequest, which isn't answered yet.
+    /// It is a SetRequest of a known community, which isn't answered yet.
     Unbuilt,
 }
 
@@ -38,6 +38,8 @@ impl From<Fault> for Reason {
 /// The answer to a datagram: a reply of so many octets, or none.
 #[derive(Clone, Copy, Debug, PartialEq, Eq)]
 pub enum Answer {
+    /// The octets of the reply, at the front of `out`.
     Reply(usize),
+    /// There is no reply.
     Drop(Reason),
 }

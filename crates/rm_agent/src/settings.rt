@@ -14,9 +14,9 @@ pub struct Settings {
     pub upper: u32,
     /// Whether a frame of fewer than 60 octets counts as it was captured. Else it counts as padded to 60.
     pub keep_short: bool,
-    /// The community that may read.
+    /// The community that may read, 1 to 64 octets.
     pub read: ArrayVec<u8, 64>,
-    /// The community that may read and write.
+    /// The community that may read and write, 1 to 64 octets.
     pub write: ArrayVec<u8, 64>,
     ghost hosts_low: { 2 ≤ hosts },
     ghost hosts_high: { hosts ≤ 4096 },

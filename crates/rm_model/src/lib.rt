@@ -1,6 +1,7 @@
 //! What happened to the probe: the journal, from which every value that the probe answers is defined.
 //!
-//! The crate has definitions, in `specs/`, and the plain types that code and definitions share. `Journal` has the acts,
+//! The crate has definitions, in `specs/`, lemmas about them that the groups cite, in `proofs/`, and the plain types that
+//! code and definitions share. `Journal` has the acts,
 //! `Names` and `Cells` what GetNext finds and the cells of a table, `Finite` that these are finitely many,
 //! `ControlTable` and `ControlRows` the rows of control tables after a journal, `Interfaces` the frames that a data
 //! source names, `Settings` what the probe was set to. No code keeps a journal.
