@@ -24,6 +24,10 @@ pub struct Settings {
     ghost pairs_high: { pairs ≤ 4096 },
     ghost upper_low: { 2 ≤ upper },
     ghost upper_high: { upper ≤ 1024 },
+    ghost read_low: { 1 ≤ length read.items },
+    ghost read_high: { length read.items ≤ 64 },
+    ghost write_low: { 1 ≤ length write.items },
+    ghost write_high: { length write.items ≤ 64 },
 }
 
 impl Settings {

@@ -1,5 +1,5 @@
 // What is expected comes from the rules of RFC 1905, section 4.2, worked out by hand, and never from this program.
-ghost use Rattle.std.specs.Prelude.{◌≤◌, IfOk};
+ghost use Rattle.std.specs.Prelude.{◌≤◌, length, IfOk};
 ghost use Rattle.rm_agent.specs.Agent.{last_given};
 
 use crate::{Agent, Answer, Settings};
@@ -44,7 +44,10 @@ const END_OF_VIEW: &str = "8200";
 // Addresses of stations.
 const STATIONS: [u8; 12] = [2, 0x60, 0x8c, 0x11, 0x22, 0x33, 8, 0, 0x20, 0x1b, 3, 0xd0];
 
-fn settings(read: &[u8], write: &[u8]) -> Result<Settings, Fail> {
+fn settings(read: &[u8], write: &[u8]) -> Result<Settings, Fail>
+    requires read { 1 ≤ length read.now }
+    requires write { 1 ≤ length write.now }
+{
     Ok(Settings {
         hosts: 1024,
         pairs: 1024,
