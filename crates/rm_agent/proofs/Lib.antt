@@ -3,3 +3,4 @@ mod RowLemmas
 mod BulkLemmas
 mod ReplyLemmas
 mod OneReply
+mod EveryReply

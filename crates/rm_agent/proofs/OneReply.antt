@@ -87,7 +87,7 @@ repetitions_go IsOne one zero names xs ys p q = both_none xs ys p q
 repetitions_go IsOne one (suc most) names xs ys p q =
     front_goes IsOne one names (Goes IsOne most) (λ row us vs f g. goes_alike IsOne most (repetitions_go IsOne one most) row us vs (are_end row) refl f g) xs ys p q
 
-bulk_goes : (IsOne : List ℕ → Binding → Type 0) → HasOne IsOne → (request : Message) (xs ys : List Binding) → IsBulkFront IsOne request xs → IsBulkFront IsOne request ys → OneGoesOn xs ys
+pub bulk_goes : (IsOne : List ℕ → Binding → Type 0) → HasOne IsOne → (request : Message) (xs ys : List Binding) → IsBulkFront IsOne request xs → IsBulkFront IsOne request ys → OneGoesOn xs ys
 bulk_goes IsOne one request xs ys p q =
     let others = drop (non_repeaters request) (names_of request.bindings) in
     front_goes IsOne one (take (non_repeaters request) (names_of request.bindings)) (λ answers rest. AreRepetitions IsOne (counting request.second) others rest)

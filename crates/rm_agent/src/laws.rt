@@ -1,10 +1,19 @@
-// Laws of replies. The bodies cite the laws of messages, and do nothing else.
-ghost use Rattle.std.specs.Prelude.{◌≡◌, ℕ, Bool, List};
+// Laws of replies. The bodies cite the laws of messages and of cells, and do nothing else.
+ghost use Rattle.std.specs.Prelude.{◌≡◌, ℕ, Bool, true, List, None};
+ghost use Rattle.rm_model.specs.Settings.{Settings as Counting};
+ghost use Rattle.rm_model.specs.Journal.{Journal};
 ghost use Rattle.rm_model.specs.Cells.{Cells};
+ghost use Rattle.rm_model.specs.Finite.{AreFinite};
 ghost use Rattle.rm_pdu.specs.Message.{Message};
+ghost use Rattle.rm_pdu.specs.Verdict.{IsVerdict, message};
+ghost use Rattle.rm_agent.specs.declared.settings.Settings.{Settings};
+ghost use Rattle.rm_agent.specs.Answers.{reason_for};
 ghost use Rattle.rm_agent.specs.Replies.{IsReply};
+ghost use Rattle.rm_agent.specs.Agent.{cells, objects};
 
-use rm_pdu::bindings_lengthen;
+use rm_ether::Ether;
+use rm_pdu::{bindings_lengthen, empty_messages_are_short};
+use rm_status::{Both, Group, System, next_or_none};
 
 /// A law: a request has one reply at most.
 pub fn one_reply()
@@ -12,3 +21,19 @@ pub fn one_reply()
 {
     bindings_lengthen();
 }
+
+/// A law: a datagram that isn't dropped has a reply.
+pub fn every_reply()
+    ensures { (settings : Settings) (journal : Journal) (now : ℕ) (datagram : List ℕ) (request : Message) → IsVerdict true datagram (message request)
+        → reason_for settings (message request) ≡ None → (reply : Message) × IsReply (cells settings journal now) objects request reply }
+{
+    bindings_lengthen();
+    empty_messages_are_short();
+    next_or_none();
+    cells_are_finite::<Both<System, Ether>>();
+}
+
+// A law: the cells of a group are finitely many.
+fn cells_are_finite<G: Group>()
+    ensures { (settings : Counting) (journal : Journal) (now : ℕ) → AreFinite (G.cells settings journal now) }
+{}

@@ -15,5 +15,5 @@ mod tests;
 
 pub use agent::{Agent, MOST_REPLY};
 pub use answer::{Answer, Reason};
-pub use laws::one_reply;
+pub use laws::{every_reply, one_reply};
 pub use settings::Settings;

@@ -1,5 +1,5 @@
 // Laws of messages and of what octets are. The bodies cite the laws of elements, and do nothing else.
-ghost use Rattle.std.specs.Prelude.{◌≡◌, ◌≤◌, ◌<◌, ◌++◌, ℕ, Bool, List, length, take};
+ghost use Rattle.std.specs.Prelude.{◌≡◌, ◌≤◌, ◌<◌, ◌++◌, ℕ, Bool, List, [], length, take};
 ghost use Rattle.rm_pdu.specs.Message.{Binding, Message, message_octets};
 ghost use Rattle.rm_pdu.specs.Spells.{Spells};
 ghost use Rattle.rm_pdu.specs.Verdict.{Verdict, IsVerdict};
@@ -42,4 +42,9 @@ pub fn every_verdict()
 /// A law: more bindings make the canonical octets of a message more.
 pub fn bindings_lengthen()
     ensures { (m : Message) (more : List Binding) → length (message_octets m) ≤ length (message_octets (record m { bindings = m.bindings ++ more })) }
+{}
+
+/// A law: a message with no bindings and a community of at most 127 octets has at most 1472 canonical octets.
+pub fn empty_messages_are_short()
+    ensures { (m : Message) → length m.community ≤ 127 → m.bindings ≡ [] → length (message_octets m) ≤ 1472 }
 {}

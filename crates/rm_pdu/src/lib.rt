@@ -12,5 +12,8 @@ mod message;
 pub use bindings::{Bindings, Offsets};
 pub use draft::{Draft, reads_back};
 pub use kind::Kind;
-pub use laws::{bindings_lengthen, every_verdict, no_message_in_front, one_message, one_verdict};
+pub use laws::{
+    bindings_lengthen, empty_messages_are_short, every_verdict, no_message_in_front, one_message,
+    one_verdict,
+};
 pub use message::{Fault, Message, read_any, read_message};
