@@ -10,8 +10,9 @@ use Rattle.rm_pcap.specs.Calls.{BeginsAs, IsFirstFault}
 use Rattle.rm_pcap.specs.declared.form.Form.{Form}
 use Rattle.rm_pcap.specs.declared.fault.PcapFault.{PcapFault}
 use Rattle.rm_pcap.specs.declared.fault.PcapFault.TheVariants.{Magic, Version, LinkType, Included, Original, Late, TooMany, Read, NoMemory as OutOfMemory}
+use Rattle.rm_agent.specs.declared.settings.Settings.{Settings}
 use Rattle.rm_probe.specs.Whole.{IsLong}
-use Rattle.rm_probe.specs.Capture.{lead, IsFaultless, IsCapture, IsCaptureFile, IsBroken, CallsFor, status_of}
+use Rattle.rm_probe.specs.Capture.{IsFaultless, IsCapture, IsCaptureFile, IsBroken, CallsFor, status_of}
 use Rattle.rm_probe.specs.Lines.{TimedDatagram, requests_of, AreRequests, IsRequestFile}
 use Rattle.rm_probe.specs.Text.{IsText}
 use Rattle.rm_probe.specs.Steps.{JudgesCapture, Leaves, Writes}
@@ -21,188 +22,17 @@ use Rattle.rm_probe.specs.declared.status.Status.TheVariants.{Done, Usage, BadCa
 use Rattle.rm_probe.proofs.RecordLemmas.{leaves_all, of_told}
 
 -- a run whose capture has no fault ends by a failed read alone
-pub writes_fault : (frames : List Frame) (stop : Stop) (asked : List TimedDatagram) (old new : Option (List ℕ)) (fault : PcapFault) → IsFaultless stop
-    → ((fault ≡ Read → ⊥) → stop ≡ Broken fault) → (text : List ℕ) × IsText frames stop asked text × AddsFront old new text → Writes frames stop asked old new (status_of fault)
-writes_fault frames stop asked old new Read faultless is front = front
-writes_fault frames stop asked old new Magic faultless is front = absurd (subst (λ (s : Stop). IsFaultless s) (is (λ e. cc)) faultless)
-writes_fault frames stop asked old new Version faultless is front = absurd (subst (λ (s : Stop). IsFaultless s) (is (λ e. cc)) faultless)
-writes_fault frames stop asked old new LinkType faultless is front = absurd (subst (λ (s : Stop). IsFaultless s) (is (λ e. cc)) faultless)
-writes_fault frames stop asked old new (Included at) faultless is front = absurd (subst (λ (s : Stop). IsFaultless s) (is (λ e. cc)) faultless)
-writes_fault frames stop asked old new (Original at) faultless is front = absurd (subst (λ (s : Stop). IsFaultless s) (is (λ e. cc)) faultless)
-writes_fault frames stop asked old new (Late at) faultless is front = absurd (subst (λ (s : Stop). IsFaultless s) (is (λ e. cc)) faultless)
-writes_fault frames stop asked old new TooMany faultless is front = absurd (subst (λ (s : Stop). IsFaultless s) (is (λ e. cc)) faultless)
-writes_fault frames stop asked old new OutOfMemory faultless is front = absurd (subst (λ (s : Stop). IsFaultless s) (is (λ e. cc)) faultless)
-
--- the header of a capture has no fault
-good_header : (bytes : List ℕ) (frames : List Frame) (stop : Stop) (header : Result Form PcapFault) → header_of bytes ≡ header → IsCapture bytes frames stop
-    → (form : Form) × (header ≡ Ok form) × AreRecords form lead (beginning lead) bytes frames stop
-unfolding ReadsAs
-good_header bytes frames stop (Ok form) is capture = (form, refl, rw is at capture.reads)
-good_header bytes frames stop (Err fault) is capture =
-    let r = rw is at capture.reads in absurd (subst (λ (s : Stop). IsFaultless s) r.1 capture.faultless)
-
--- a capture that was begun has all its frames left
-pub begun_left : (bytes : List ℕ) (frames : List Frame) (stop : Stop) (form : Form) (progress : Progress) → header_of bytes ≡ Ok form → progress ≡ begun form lead → IsCapture bytes frames stop
-    → Leaves progress bytes frames stop × (progress.reach.count ≡ 0)
-begun_left bytes frames stop form progress header is capture =
-    let g = good_header bytes frames stop (Ok form) header capture in
-    let same : g.0 ≡ form = cc in
-    let are = subst (λ (f : Form). AreRecords f lead (beginning lead) bytes frames stop) same g.2 in
-    (subst (λ (p : Progress). Leaves p bytes frames stop) (sym is) (leaves_all form lead bytes frames stop are), ap (λ (p : Progress). p.reach.count) is)
-
--- a capture can't be begun again only for want of memory, or by a failed read
-pub writes_none : (bytes : List ℕ) (frames : List Frame) (stop : Stop) (asked : List TimedDatagram) (old : Option (List ℕ)) (fault : PcapFault) → BeginsAs bytes (Err fault) → IsFirstFault fault
-    → IsCapture bytes frames stop → (text : List ℕ) × IsText frames stop asked text × AddsFront old old text → Writes frames stop asked old old (status_of fault)
-writes_none bytes frames stop asked old Read header kind capture front = front
-writes_none bytes frames stop asked old OutOfMemory header kind capture front = refl
-writes_none bytes frames stop asked old Magic header kind capture front = absurd (let g = good_header bytes frames stop (Err Magic) header capture in let e = g.1 in cc)
-writes_none bytes frames stop asked old Version header kind capture front = absurd (let g = good_header bytes frames stop (Err Version) header capture in let e = g.1 in cc)
-writes_none bytes frames stop asked old LinkType header kind capture front = absurd (let g = good_header bytes frames stop (Err LinkType) header capture in let e = g.1 in cc)
-writes_none bytes frames stop asked old (Included at) header kind capture front = absurd kind
-writes_none bytes frames stop asked old (Original at) header kind capture front = absurd kind
-writes_none bytes frames stop asked old (Late at) header kind capture front = absurd kind
-writes_none bytes frames stop asked old TooMany header kind capture front = absurd kind
-
--- the two files judged, the capture first
-pub first_refused : (c r : Held) (cs cs' rs rs' : ℕ) (status : Status) → JudgesCapture {T = Unit {0}} c cs cs' (Err status) → rs ≤ rs' → JudgesFiles c r (cs + rs) (cs' + rs') (Err status)
-first_refused c r cs cs' rs rs' (BadCapture at) h le = h
-first_refused c r cs cs' rs rs' TooLong h le = inl h
-first_refused c r cs cs' rs rs' ReadFault h le = omega arith
-first_refused c r cs cs' rs rs' NoMemory h le = tt
-first_refused c r cs cs' rs rs' Done h le = absurd h
-first_refused c r cs cs' rs rs' Usage h le = absurd h
-first_refused c r cs cs' rs rs' (BadRequests line) h le = absurd h
-first_refused c r cs cs' rs rs' WriteFault h le = absurd h
-first_refused c r cs cs' rs rs' LinkFault h le = absurd h
-
--- a fact of both files, where the octets of the request file were read
-both_of : (c r : Held) (read : List ℕ) (P : List Frame → Stop → List TimedDatagram → Type 0) → OfFile c IsCaptureFile → OfFile r (λ bytes. read ≡ bytes) → IsRequestFile read
-    → ((bytes : List ℕ) (frames : List Frame) (stop : Stop) (asked : List TimedDatagram) → c ≡ File bytes → IsCapture bytes frames stop → AreRequests read asked → P frames stop asked) → OfBoth c r P
-both_of c r read P form same are p = (form, of_read r IsRequestFile are same, of_told c IsCaptureFile _ (λ bytes is good. of_read r (λ lines. (frames : List Frame) (stop : Stop) (asked : List TimedDatagram) → IsCapture bytes frames stop → AreRequests lines asked → P frames stop asked) (λ frames stop asked. p bytes frames stop asked is) same) form)
-  where
-    of_read : (r : Held) (Q : List ℕ → Type 0) → Q read → OfFile r (λ bytes. read ≡ bytes) → OfFile r Q
-    of_read Untold Q q e = tt
-    of_read Absent Q q e = e
-    of_read (File bytes) Q q e = subst Q e q
-
--- how the run itself ends
-pub written : (c r : Held) (reads reads' writes writes' : ℕ) (old new : Option (List ℕ)) (read : List ℕ) (status : Status)
-    → OfFile c IsCaptureFile → OfFile r (λ bytes. read ≡ bytes) → IsOk (requests_of read) → length read ≤ 16777216
-    → ((bytes : List ℕ) (frames : List Frame) (stop : Stop) (asked : List TimedDatagram) → c ≡ File bytes → IsCapture bytes frames stop → AreRequests read asked → Writes frames stop asked old new status)
-    → (status ≡ ReadFault → Rose reads reads') → (status ≡ WriteFault → Rose writes writes') → (IsSilent status → status ≡ NoMemory) → (IsSilent status → new ≡ old)
-    → Ends c r reads reads' writes writes' old new status
-written c r reads reads' writes writes' old new read status form same ok short text risen cut kinds silent = go status (some_requests (requests_of read) ok) text risen cut kinds silent
-  where
-    some_requests : (o : Result (List TimedDatagram) ℕ) → IsOk o → (asked : List TimedDatagram) × (o ≡ Ok asked)
-    some_requests (Ok asked) e = (asked, refl)
-    some_requests (Err line) e = absurd cc
-
-    never : (status : Status) (P : List ℕ → Type 0) → (asked : List TimedDatagram) × (requests_of read ≡ Ok asked)
-        → ((bytes : List ℕ) (frames : List Frame) (stop : Stop) (asked : List TimedDatagram) → c ≡ File bytes → IsCapture bytes frames stop → AreRequests read asked → ⊥) → OfFile c P
-    never status P are none = of_told c IsCaptureFile P (λ bytes is good. absurd (none bytes good.0 good.1 are.0 is good.2 (record { short = short; are = are.1 }))) form
-
-    go : (status : Status) → (asked : List TimedDatagram) × (requests_of read ≡ Ok asked)
-        → ((bytes : List ℕ) (frames : List Frame) (stop : Stop) (asked : List TimedDatagram) → c ≡ File bytes → IsCapture bytes frames stop → AreRequests read asked → Writes frames stop asked old new status)
-        → (status ≡ ReadFault → Rose reads reads') → (status ≡ WriteFault → Rose writes writes') → (IsSilent status → status ≡ NoMemory) → (IsSilent status → new ≡ old)
-        → Ends c r reads reads' writes writes' old new status
-    go Done are text risen cut kinds silent = both_of c r read _ form same (are.0, record { short = short; are = are.1 }) text
-    go WriteFault are text risen cut kinds silent = (cut refl, both_of c r read _ form same (are.0, record { short = short; are = are.1 }) text)
-    go ReadFault are text risen cut kinds silent = (risen refl, inr (both_of c r read _ form same (are.0, record { short = short; are = are.1 }) text))
-    go (BadCapture at) are text risen cut kinds silent = never (BadCapture at) (λ bytes. CallsFor (BadCapture at) bytes × (new ≡ old)) are text
-    go TooLong are text risen cut kinds silent = inl (never TooLong (λ bytes. CallsFor TooLong bytes × (new ≡ old)) are text)
-    go NoMemory are text risen cut kinds silent = silent tt
-    go Usage are text risen cut kinds silent = absurd (let e = kinds tt in cc)
-    go (BadRequests line) are text risen cut kinds silent = absurd (let e = kinds tt in cc)
-    go LinkFault are text risen cut kinds silent = absurd (let e = kinds tt in cc)
-
--- a file reads in one way
-abbrev pub OneReading : Type 0
-OneReading = (lead : ℕ) (bytes : List ℕ) (frames others : List Frame) (stop last : Stop) → ReadsAs lead bytes frames stop → ReadsAs lead bytes others last → (frames ≡ others) × (stop ≡ last)
-
--- a fact of a file that is told
-told : (held : Held) (bytes : List ℕ) (P : List ℕ → Type 0) → held ≡ File bytes → OfFile held P → P bytes
-told held bytes P is p = subst (λ (h : Held). OfFile h P) is p
-
--- a capture has no fault
-not_broken : OneReading → (bytes : List ℕ) (fault : PcapFault) → IsBroken fault bytes → IsCaptureFile bytes → ⊥
-not_broken one bytes fault broken good =
-    subst (λ (s : Stop). IsFaultless s) (one lead bytes good.0 broken.0 good.1 (Broken fault) good.2.reads broken.1).1 good.2.faultless
-
--- the first fault of a file is one
-same_fault : OneReading → (bytes : List ℕ) (fault other : PcapFault) → IsBroken fault bytes → IsBroken other bytes → fault ≡ other
-same_fault one bytes fault other broken again = let e = (one lead bytes broken.0 again.0 (Broken fault) (Broken other) broken.1 again.1).1 in cc
-
-not_long : (lines : List ℕ) → IsLong lines → IsRequestFile lines → ⊥
-not_long lines long are = omega (arith, long, are.1.short)
-
-not_wrong : (lines : List ℕ) (line : ℕ) → IsWrongAt line lines → IsRequestFile lines → ⊥
-not_wrong lines line wrong are = let e : Err line ≡ Ok are.0 = sym wrong.1 ∙ are.1.are in cc
-
-same_line : (lines : List ℕ) (m n : ℕ) → requests_of lines ≡ Err m → requests_of lines ≡ Err n → m ≡ n
-same_line lines m n first second = let e = sym first ∙ second in cc
-
--- where both files are of the form, nothing else is called for
-of_forms : OneReading → (c r : Held) (status : Status) → OfFile c IsCaptureFile → OfFile r IsRequestFile → IsExact c r status
-of_forms one c r status form are = record {
-  bad_capture = λ bytes fault is broken. absurd (not_broken one bytes fault broken (told c bytes IsCaptureFile is form));
-  long_requests = λ bytes lines is good isr long. absurd (not_long lines long (told r lines IsRequestFile isr are));
-  bad_requests = λ bytes lines line is good isr wrong. absurd (not_wrong lines line wrong (told r lines IsRequestFile isr are));
-}
-
--- where the capture has that fault, nothing is asked of the request file
-of_fault : OneReading → (c r : Held) (status : Status) → ((bytes : List ℕ) → c ≡ File bytes → CallsFor status bytes) → IsExact c r status
-of_fault one c r status called = record {
-  bad_capture = λ bytes fault is broken. let k = called bytes is in inl (k.2 ∙ ap status_of (same_fault one bytes k.0 fault k.1 broken));
-  long_requests = λ bytes lines is good isr long. absurd (let k = called bytes is in not_broken one bytes k.0 k.1 good);
-  bad_requests = λ bytes lines line is good isr wrong. absurd (let k = called bytes is in not_broken one bytes k.0 k.1 good);
-}
-
--- one of the statuses that may come in place of every other
-of_free : (c r : Held) (status : Status) → ((other : Status) → Comes other status) → IsExact c r status
-of_free c r status free = record {
-  bad_capture = λ bytes fault is broken. free (status_of fault);
-  long_requests = λ bytes lines is good isr long. free TooLong;
-  bad_requests = λ bytes lines line is good isr wrong. free (BadRequests line);
-}
-
-pub is_exact : OneReading → (c r : Held) (reads reads' writes writes' : ℕ) (old new : Option (List ℕ)) (status : Status) → Ends c r reads reads' writes writes' old new status → IsExact c r status
-is_exact one c r reads reads' writes writes' old new Done ends = of_forms one c r Done ends.0 ends.1
-is_exact one c r reads reads' writes writes' old new WriteFault ends = of_forms one c r WriteFault ends.1.0 ends.1.1
-is_exact one c r reads reads' writes writes' old new (BadCapture at) ends =
-    of_fault one c r (BadCapture at) (λ bytes is. (told c bytes (λ b. CallsFor (BadCapture at) b × (new ≡ old)) is ends).0)
-is_exact one c r reads reads' writes writes' old new (BadRequests at) ends = record {
-  bad_capture = λ bytes fault is broken. absurd (not_broken one bytes fault broken (told c bytes IsCaptureFile is ends.0));
-  long_requests = λ bytes lines is good isr long. absurd (let w = told r lines (IsWrongAt at) isr ends.1 in omega (arith, long, w.0));
-  bad_requests = λ bytes lines line is good isr wrong. inl (ap BadRequests (let w = told r lines (IsWrongAt at) isr ends.1 in same_line lines at line w.1 wrong.1));
-}
-is_exact one c r reads reads' writes writes' old new TooLong (inl called) =
-    of_fault one c r TooLong (λ bytes is. (told c bytes (λ b. CallsFor TooLong b × (new ≡ old)) is called).0)
-is_exact one c r reads reads' writes writes' old new TooLong (inr long) = record {
-  bad_capture = λ bytes fault is broken. absurd (not_broken one bytes fault broken (told c bytes IsCaptureFile is long.0));
-  long_requests = λ bytes lines is good isr much. inl refl;
-  bad_requests = λ bytes lines line is good isr wrong. absurd (let l = told r lines IsLong isr long.1 in omega (arith, l, wrong.0));
-}
-is_exact one c r reads reads' writes writes' old new ReadFault ends = of_free c r ReadFault (λ other. inr (inr refl))
-is_exact one c r reads reads' writes writes' old new NoMemory ends = of_free c r NoMemory (λ other. inr (inl refl))
-is_exact one c r reads reads' writes writes' old new Usage ends = absurd ends
-is_exact one c r reads reads' writes writes' old new LinkFault ends = absurd ends
-
-pub is_complete : OneReading → (c r : Held) (reads reads' writes writes' : ℕ) (old new : Option (List ℕ)) (status : Status) → Ends c r reads reads' writes writes' old new status
-    → IsComplete c r reads reads' writes writes' status
-is_complete one c r reads reads' writes writes' old new Done ends bytes lines is isr good are unread unput = inl refl
-is_complete one c r reads reads' writes writes' old new NoMemory ends bytes lines is isr good are unread unput = inr refl
-is_complete one c r reads reads' writes writes' old new WriteFault ends bytes lines is isr good are unread unput = absurd (unput ends.0)
-is_complete one c r reads reads' writes writes' old new ReadFault ends bytes lines is isr good are unread unput = absurd (unread ends.0)
-is_complete one c r reads reads' writes writes' old new (BadCapture at) ends bytes lines is isr good are unread unput =
-    absurd (let k = (told c bytes (λ b. CallsFor (BadCapture at) b × (new ≡ old)) is ends).0 in not_broken one bytes k.0 k.1 good)
-is_complete one c r reads reads' writes writes' old new (BadRequests at) ends bytes lines is isr good are unread unput =
-    absurd (not_wrong lines at (told r lines (IsWrongAt at) isr ends.1) are)
-is_complete one c r reads reads' writes writes' old new TooLong (inl called) bytes lines is isr good are unread unput =
-    absurd (let k = (told c bytes (λ b. CallsFor TooLong b × (new ≡ old)) is called).0 in not_broken one bytes k.0 k.1 good)
-is_complete one c r reads reads' writes writes' old new TooLong (inr long) bytes lines is isr good are unread unput =
-    absurd (not_long lines (told r lines IsLong isr long.1) are)
-is_complete one c r reads reads' writes writes' old new Usage ends bytes lines is isr good are unread unput = absurd ends
-is_complete one c r reads reads' writes writes' old new LinkFault ends bytes lines is isr good are unread unput = absurd ends
+pub writes_fault : (settings : Settings) (frames : List Frame) (stop : Stop) (asked : List TimedDatagram) (old new : Option (List ℕ)) (fault : PcapFault) → IsFaultless stop
+    → ((fault ≡ Read → ⊥) → stop ≡ Broken fault) → (text : List ℕ) × IsText settings frames stop asked text × AddsFront old new text → Writes settings frames stop asked old new (status_of fault)
+writes_fault settings frames stop asked old new Read faultless is front = front
+writes_fault settings frames stop asked old new Magic faultless is front = absurd (subst (λ (s : Stop). IsFaultless s) (is (λ e. cc)) faultless)
+writes_fault settings frames stop asked old new Version faultless is front = absurd (subst (λ (s : Stop). IsFaultless s) (is (λ e. cc)) faultless)
+writes_fault settings frames stop asked old new LinkType faultless is front = absurd (subst (λ (s : Stop). IsFaultless s) (is (λ e. cc)) faultless)
+writes_fault settings frames stop asked old new (Included at) faultless is front = absurd (subst (λ (s : Stop). IsFaultless s) (is (λ e. cc)) faultless)
+writes_fault settings frames stop asked old new (Original at) faultless is front = absurd (subst (λ (s : Stop). IsFaultless s) (is (λ e. cc)) faultless)
+writes_fault settings frames stop asked old new (Late at) faultless is front = absurd (subst (λ (s : Stop). IsFaultless s) (is (λ e. cc)) faultless)
+writes_fault settings frames stop asked old new TooMany faultless is front = absurd (subst (λ (s : Stop). IsFaultless s) (is (λ e. cc)) faultless)
+writes_fault settings frames stop asked old new OutOfMemory faultless is front = absurd (subst (λ (s : Stop). IsFaultless s) (is (λ e. cc)) faultless)
 
 -- words give one pair of names
 pub same_names : (names : Option (List ℕ × List ℕ)) (a b x y : List ℕ) → names ≡ Some (a, b) → names ≡ Some (x, y) → (a ≡ x) × (b ≡ y)
@@ -214,12 +44,184 @@ same_names names a b x y first second =
     unwrap_or_empty None = ([], [])
     unwrap_or_empty (Some names) = names
 
--- a line of the request file is wrong
-pub bad_requests : (c r : Held) (reads reads' : ℕ) (read : List ℕ) (line : ℕ) → OfFile c IsCaptureFile → OfFile r (λ bytes. read ≡ bytes) → length read ≤ 16777216 → requests_of read ≡ Err line
-    → JudgesFiles c r reads reads' (Err (BadRequests line))
-bad_requests c r reads reads' read line form same short are = (form, of_read r same)
-  where
-    of_read : (r : Held) → OfFile r (λ bytes. read ≡ bytes) → OfFile r (IsWrongAt line)
-    of_read Untold e = tt
-    of_read Absent e = e
-    of_read (File bytes) e = subst (IsWrongAt line) e (short, are)
+module _ (lead : ℕ) where
+  -- the header of a capture has no fault
+  good_header : (bytes : List ℕ) (frames : List Frame) (stop : Stop) (header : Result Form PcapFault) → header_of bytes ≡ header → IsCapture lead bytes frames stop
+      → (form : Form) × (header ≡ Ok form) × AreRecords form lead (beginning lead) bytes frames stop
+  unfolding ReadsAs
+  good_header bytes frames stop (Ok form) is capture = (form, refl, rw is at capture.reads)
+  good_header bytes frames stop (Err fault) is capture =
+      let r = rw is at capture.reads in absurd (subst (λ (s : Stop). IsFaultless s) r.1 capture.faultless)
+
+  -- a capture that was begun has all its frames left
+  pub begun_left : (bytes : List ℕ) (frames : List Frame) (stop : Stop) (form : Form) (progress : Progress) → header_of bytes ≡ Ok form → progress ≡ begun form lead → IsCapture lead bytes frames stop
+      → Leaves progress bytes frames stop × (progress.reach.count ≡ 0)
+  begun_left bytes frames stop form progress header is capture =
+      let g = good_header bytes frames stop (Ok form) header capture in
+      let same : g.0 ≡ form = cc in
+      let are = subst (λ (f : Form). AreRecords f lead (beginning lead) bytes frames stop) same g.2 in
+      (subst (λ (p : Progress). Leaves p bytes frames stop) (sym is) (leaves_all form lead bytes frames stop are), ap (λ (p : Progress). p.reach.count) is)
+
+  -- a capture can't be begun again only for want of memory, or by a failed read
+  pub writes_none : (settings : Settings) (bytes : List ℕ) (frames : List Frame) (stop : Stop) (asked : List TimedDatagram) (old : Option (List ℕ)) (fault : PcapFault) → BeginsAs bytes (Err fault) → IsFirstFault fault
+      → IsCapture lead bytes frames stop → (text : List ℕ) × IsText settings frames stop asked text × AddsFront old old text → Writes settings frames stop asked old old (status_of fault)
+  writes_none settings bytes frames stop asked old Read header kind capture front = front
+  writes_none settings bytes frames stop asked old OutOfMemory header kind capture front = refl
+  writes_none settings bytes frames stop asked old Magic header kind capture front = absurd (let g = good_header bytes frames stop (Err Magic) header capture in let e = g.1 in cc)
+  writes_none settings bytes frames stop asked old Version header kind capture front = absurd (let g = good_header bytes frames stop (Err Version) header capture in let e = g.1 in cc)
+  writes_none settings bytes frames stop asked old LinkType header kind capture front = absurd (let g = good_header bytes frames stop (Err LinkType) header capture in let e = g.1 in cc)
+  writes_none settings bytes frames stop asked old (Included at) header kind capture front = absurd kind
+  writes_none settings bytes frames stop asked old (Original at) header kind capture front = absurd kind
+  writes_none settings bytes frames stop asked old (Late at) header kind capture front = absurd kind
+  writes_none settings bytes frames stop asked old TooMany header kind capture front = absurd kind
+
+  -- the two files judged, the capture first
+  pub first_refused : (c r : Held) (cs cs' rs rs' : ℕ) (status : Status) → JudgesCapture {T = Unit {0}} lead c cs cs' (Err status) → rs ≤ rs' → JudgesFiles lead c r (cs + rs) (cs' + rs') (Err status)
+  first_refused c r cs cs' rs rs' (BadCapture at) h le = h
+  first_refused c r cs cs' rs rs' TooLong h le = inl h
+  first_refused c r cs cs' rs rs' ReadFault h le = omega arith
+  first_refused c r cs cs' rs rs' NoMemory h le = tt
+  first_refused c r cs cs' rs rs' Done h le = absurd h
+  first_refused c r cs cs' rs rs' Usage h le = absurd h
+  first_refused c r cs cs' rs rs' (BadRequests line) h le = absurd h
+  first_refused c r cs cs' rs rs' WriteFault h le = absurd h
+  first_refused c r cs cs' rs rs' LinkFault h le = absurd h
+
+  -- a fact of both files, where the octets of the request file were read
+  both_of : (c r : Held) (read : List ℕ) (P : List Frame → Stop → List TimedDatagram → Type 0) → OfFile c (IsCaptureFile lead) → OfFile r (λ bytes. read ≡ bytes) → IsRequestFile read
+      → ((bytes : List ℕ) (frames : List Frame) (stop : Stop) (asked : List TimedDatagram) → c ≡ File bytes → IsCapture lead bytes frames stop → AreRequests read asked → P frames stop asked) → OfBoth lead c r P
+  both_of c r read P form same are p = (form, of_read r IsRequestFile are same, of_told c (IsCaptureFile lead) _ (λ bytes is good. of_read r (λ lines. (frames : List Frame) (stop : Stop) (asked : List TimedDatagram) → IsCapture lead bytes frames stop → AreRequests lines asked → P frames stop asked) (λ frames stop asked. p bytes frames stop asked is) same) form)
+    where
+      of_read : (r : Held) (Q : List ℕ → Type 0) → Q read → OfFile r (λ bytes. read ≡ bytes) → OfFile r Q
+      of_read Untold Q q e = tt
+      of_read Absent Q q e = e
+      of_read (File bytes) Q q e = subst Q e q
+
+  -- how the run itself ends
+  pub written : (settings : Settings) (c r : Held) (reads reads' writes writes' : ℕ) (old new : Option (List ℕ)) (read : List ℕ) (status : Status)
+      → OfFile c (IsCaptureFile lead) → OfFile r (λ bytes. read ≡ bytes) → IsOk (requests_of read) → length read ≤ 16777216
+      → ((bytes : List ℕ) (frames : List Frame) (stop : Stop) (asked : List TimedDatagram) → c ≡ File bytes → IsCapture lead bytes frames stop → AreRequests read asked → Writes settings frames stop asked old new status)
+      → (status ≡ ReadFault → Rose reads reads') → (status ≡ WriteFault → Rose writes writes') → (IsSilent status → status ≡ NoMemory) → (IsSilent status → new ≡ old)
+      → Ends settings lead c r reads reads' writes writes' old new status
+  written settings c r reads reads' writes writes' old new read status form same ok short text risen cut kinds silent = go status (some_requests (requests_of read) ok) text risen cut kinds silent
+    where
+      some_requests : (o : Result (List TimedDatagram) ℕ) → IsOk o → (asked : List TimedDatagram) × (o ≡ Ok asked)
+      some_requests (Ok asked) e = (asked, refl)
+      some_requests (Err line) e = absurd cc
+
+      never : (status : Status) (P : List ℕ → Type 0) → (asked : List TimedDatagram) × (requests_of read ≡ Ok asked)
+          → ((bytes : List ℕ) (frames : List Frame) (stop : Stop) (asked : List TimedDatagram) → c ≡ File bytes → IsCapture lead bytes frames stop → AreRequests read asked → ⊥) → OfFile c P
+      never status P are none = of_told c (IsCaptureFile lead) P (λ bytes is good. absurd (none bytes good.0 good.1 are.0 is good.2 (record { short = short; are = are.1 }))) form
+
+      go : (status : Status) → (asked : List TimedDatagram) × (requests_of read ≡ Ok asked)
+          → ((bytes : List ℕ) (frames : List Frame) (stop : Stop) (asked : List TimedDatagram) → c ≡ File bytes → IsCapture lead bytes frames stop → AreRequests read asked → Writes settings frames stop asked old new status)
+          → (status ≡ ReadFault → Rose reads reads') → (status ≡ WriteFault → Rose writes writes') → (IsSilent status → status ≡ NoMemory) → (IsSilent status → new ≡ old)
+          → Ends settings lead c r reads reads' writes writes' old new status
+      go Done are text risen cut kinds silent = both_of c r read _ form same (are.0, record { short = short; are = are.1 }) text
+      go WriteFault are text risen cut kinds silent = (cut refl, both_of c r read _ form same (are.0, record { short = short; are = are.1 }) text)
+      go ReadFault are text risen cut kinds silent = (risen refl, inr (both_of c r read _ form same (are.0, record { short = short; are = are.1 }) text))
+      go (BadCapture at) are text risen cut kinds silent = never (BadCapture at) (λ bytes. CallsFor lead (BadCapture at) bytes × (new ≡ old)) are text
+      go TooLong are text risen cut kinds silent = inl (never TooLong (λ bytes. CallsFor lead TooLong bytes × (new ≡ old)) are text)
+      go NoMemory are text risen cut kinds silent = silent tt
+      go Usage are text risen cut kinds silent = absurd (let e = kinds tt in cc)
+      go (BadRequests line) are text risen cut kinds silent = absurd (let e = kinds tt in cc)
+      go LinkFault are text risen cut kinds silent = absurd (let e = kinds tt in cc)
+
+  -- a file reads in one way
+  abbrev pub OneReading : Type 0
+  OneReading = (first : ℕ) (bytes : List ℕ) (frames others : List Frame) (stop last : Stop) → ReadsAs first bytes frames stop → ReadsAs first bytes others last → (frames ≡ others) × (stop ≡ last)
+
+  -- a fact of a file that is told
+  told : (held : Held) (bytes : List ℕ) (P : List ℕ → Type 0) → held ≡ File bytes → OfFile held P → P bytes
+  told held bytes P is p = subst (λ (h : Held). OfFile h P) is p
+
+  -- a capture has no fault
+  not_broken : OneReading → (bytes : List ℕ) (fault : PcapFault) → IsBroken lead fault bytes → IsCaptureFile lead bytes → ⊥
+  not_broken one bytes fault broken good =
+      subst (λ (s : Stop). IsFaultless s) (one lead bytes good.0 broken.0 good.1 (Broken fault) good.2.reads broken.1).1 good.2.faultless
+
+  -- the first fault of a file is one
+  same_fault : OneReading → (bytes : List ℕ) (fault other : PcapFault) → IsBroken lead fault bytes → IsBroken lead other bytes → fault ≡ other
+  same_fault one bytes fault other broken again = let e = (one lead bytes broken.0 again.0 (Broken fault) (Broken other) broken.1 again.1).1 in cc
+
+  not_long : (lines : List ℕ) → IsLong lines → IsRequestFile lines → ⊥
+  not_long lines long are = omega (arith, long, are.1.short)
+
+  not_wrong : (lines : List ℕ) (line : ℕ) → IsWrongAt line lines → IsRequestFile lines → ⊥
+  not_wrong lines line wrong are = let e : Err line ≡ Ok are.0 = sym wrong.1 ∙ are.1.are in cc
+
+  same_line : (lines : List ℕ) (m n : ℕ) → requests_of lines ≡ Err m → requests_of lines ≡ Err n → m ≡ n
+  same_line lines m n first second = let e = sym first ∙ second in cc
+
+  -- where both files are of the form, nothing else is called for
+  of_forms : OneReading → (c r : Held) (status : Status) → OfFile c (IsCaptureFile lead) → OfFile r IsRequestFile → IsExact lead c r status
+  of_forms one c r status form are = record {
+    bad_capture = λ bytes fault is broken. absurd (not_broken one bytes fault broken (told c bytes (IsCaptureFile lead) is form));
+    long_requests = λ bytes lines is good isr long. absurd (not_long lines long (told r lines IsRequestFile isr are));
+    bad_requests = λ bytes lines line is good isr wrong. absurd (not_wrong lines line wrong (told r lines IsRequestFile isr are));
+  }
+
+  -- where the capture has that fault, nothing is asked of the request file
+  of_fault : OneReading → (c r : Held) (status : Status) → ((bytes : List ℕ) → c ≡ File bytes → CallsFor lead status bytes) → IsExact lead c r status
+  of_fault one c r status called = record {
+    bad_capture = λ bytes fault is broken. let k = called bytes is in inl (k.2 ∙ ap status_of (same_fault one bytes k.0 fault k.1 broken));
+    long_requests = λ bytes lines is good isr long. absurd (let k = called bytes is in not_broken one bytes k.0 k.1 good);
+    bad_requests = λ bytes lines line is good isr wrong. absurd (let k = called bytes is in not_broken one bytes k.0 k.1 good);
+  }
+
+  -- one of the statuses that may come in place of every other
+  of_free : (c r : Held) (status : Status) → ((other : Status) → Comes other status) → IsExact lead c r status
+  of_free c r status free = record {
+    bad_capture = λ bytes fault is broken. free (status_of fault);
+    long_requests = λ bytes lines is good isr long. free TooLong;
+    bad_requests = λ bytes lines line is good isr wrong. free (BadRequests line);
+  }
+
+  pub is_exact : (settings : Settings) → OneReading → (c r : Held) (reads reads' writes writes' : ℕ) (old new : Option (List ℕ)) (status : Status) → Ends settings lead c r reads reads' writes writes' old new status → IsExact lead c r status
+  is_exact settings one c r reads reads' writes writes' old new Done ends = of_forms one c r Done ends.0 ends.1
+  is_exact settings one c r reads reads' writes writes' old new WriteFault ends = of_forms one c r WriteFault ends.1.0 ends.1.1
+  is_exact settings one c r reads reads' writes writes' old new (BadCapture at) ends =
+      of_fault one c r (BadCapture at) (λ bytes is. (told c bytes (λ b. CallsFor lead (BadCapture at) b × (new ≡ old)) is ends).0)
+  is_exact settings one c r reads reads' writes writes' old new (BadRequests at) ends = record {
+    bad_capture = λ bytes fault is broken. absurd (not_broken one bytes fault broken (told c bytes (IsCaptureFile lead) is ends.0));
+    long_requests = λ bytes lines is good isr long. absurd (let w = told r lines (IsWrongAt at) isr ends.1 in omega (arith, long, w.0));
+    bad_requests = λ bytes lines line is good isr wrong. inl (ap BadRequests (let w = told r lines (IsWrongAt at) isr ends.1 in same_line lines at line w.1 wrong.1));
+  }
+  is_exact settings one c r reads reads' writes writes' old new TooLong (inl called) =
+      of_fault one c r TooLong (λ bytes is. (told c bytes (λ b. CallsFor lead TooLong b × (new ≡ old)) is called).0)
+  is_exact settings one c r reads reads' writes writes' old new TooLong (inr long) = record {
+    bad_capture = λ bytes fault is broken. absurd (not_broken one bytes fault broken (told c bytes (IsCaptureFile lead) is long.0));
+    long_requests = λ bytes lines is good isr much. inl refl;
+    bad_requests = λ bytes lines line is good isr wrong. absurd (let l = told r lines IsLong isr long.1 in omega (arith, l, wrong.0));
+  }
+  is_exact settings one c r reads reads' writes writes' old new ReadFault ends = of_free c r ReadFault (λ other. inr (inr refl))
+  is_exact settings one c r reads reads' writes writes' old new NoMemory ends = of_free c r NoMemory (λ other. inr (inl refl))
+  is_exact settings one c r reads reads' writes writes' old new Usage ends = absurd ends
+  is_exact settings one c r reads reads' writes writes' old new LinkFault ends = absurd ends
+
+  pub is_complete : (settings : Settings) → OneReading → (c r : Held) (reads reads' writes writes' : ℕ) (old new : Option (List ℕ)) (status : Status) → Ends settings lead c r reads reads' writes writes' old new status
+      → IsComplete lead c r reads reads' writes writes' status
+  is_complete settings one c r reads reads' writes writes' old new Done ends bytes lines is isr good are unread unput = inl refl
+  is_complete settings one c r reads reads' writes writes' old new NoMemory ends bytes lines is isr good are unread unput = inr refl
+  is_complete settings one c r reads reads' writes writes' old new WriteFault ends bytes lines is isr good are unread unput = absurd (unput ends.0)
+  is_complete settings one c r reads reads' writes writes' old new ReadFault ends bytes lines is isr good are unread unput = absurd (unread ends.0)
+  is_complete settings one c r reads reads' writes writes' old new (BadCapture at) ends bytes lines is isr good are unread unput =
+      absurd (let k = (told c bytes (λ b. CallsFor lead (BadCapture at) b × (new ≡ old)) is ends).0 in not_broken one bytes k.0 k.1 good)
+  is_complete settings one c r reads reads' writes writes' old new (BadRequests at) ends bytes lines is isr good are unread unput =
+      absurd (not_wrong lines at (told r lines (IsWrongAt at) isr ends.1) are)
+  is_complete settings one c r reads reads' writes writes' old new TooLong (inl called) bytes lines is isr good are unread unput =
+      absurd (let k = (told c bytes (λ b. CallsFor lead TooLong b × (new ≡ old)) is called).0 in not_broken one bytes k.0 k.1 good)
+  is_complete settings one c r reads reads' writes writes' old new TooLong (inr long) bytes lines is isr good are unread unput =
+      absurd (not_long lines (told r lines IsLong isr long.1) are)
+  is_complete settings one c r reads reads' writes writes' old new Usage ends bytes lines is isr good are unread unput = absurd ends
+  is_complete settings one c r reads reads' writes writes' old new LinkFault ends bytes lines is isr good are unread unput = absurd ends
+
+  -- a line of the request file is wrong
+  pub bad_requests : (c r : Held) (reads reads' : ℕ) (read : List ℕ) (line : ℕ) → OfFile c (IsCaptureFile lead) → OfFile r (λ bytes. read ≡ bytes) → length read ≤ 16777216 → requests_of read ≡ Err line
+      → JudgesFiles lead c r reads reads' (Err (BadRequests line))
+  bad_requests c r reads reads' read line form same short are = (form, of_read r same)
+    where
+      of_read : (r : Held) → OfFile r (λ bytes. read ≡ bytes) → OfFile r (IsWrongAt line)
+      of_read Untold e = tt
+      of_read Absent e = e
+      of_read (File bytes) e = subst (IsWrongAt line) e (short, are)

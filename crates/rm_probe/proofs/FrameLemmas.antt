@@ -1,5 +1,5 @@
 -- Frames that pass up to a moment.
-use Rattle.std.proofs.Common.{◌≡◌, ℕ, suc, ◌+◌, ◌<◌, ◌≤◌, true, false, List, [], ◌∷◌, ◌++◌, length, take, drop, Some, None, Err, inl, inr, refl, sym, ap, subst, ◌∙◌, arith, take_while, append_assoc}
+use Rattle.std.proofs.Common.{◌≡◌, ℕ, suc, ◌+◌, ◌<◌, ◌≤◌, true, false, List, [], ◌∷◌, ◌++◌, length, take, drop, Option, Some, None, Err, inl, inr, refl, sym, ap, subst, ◌∙◌, arith, take_while, append_assoc}
 use Rattle.std.specs.Prelude.{⊤}
 use Rattle.std.specs.List.{prefix_len}
 use Rattle.std.proofs.lemmas.List.{append-nil}
@@ -7,7 +7,7 @@ use Rattle.std.proofs.lemmas.Bool.Decides.{nat_tests}
 use Rattle.rm_edge.specs.Outside.{Held, File}
 use Rattle.rm_model.specs.Journal.{Frame, Journal, passes, after_frames}
 use Rattle.rm_pcap.specs.Records.{Stop, Broken, Found, Whole, Stops as StopsAt}
-use Rattle.rm_pcap.specs.Progress.{Progress, next_in, moment_found, Shows, frame_of}
+use Rattle.rm_pcap.specs.Progress.{Progress, next_in, moment_found, passing, Shows, frame_of, IsLawfulFind}
 use Rattle.rm_pcap.specs.Calls.{Looks, Passes, Fails, IsBroken}
 use Rattle.rm_pcap.specs.declared.frame.Frame.{Frame as Lent}
 use Rattle.rm_pcap.specs.declared.frame.Step.{Step}
@@ -16,10 +16,10 @@ use Rattle.rm_pcap.specs.declared.fault.PcapFault.{PcapFault}
 use Rattle.rm_pcap.specs.declared.fault.PcapFault.TheVariants.{Magic, Version, LinkType, Included, Original, Late, TooMany, Read, NoMemory}
 use Rattle.rm_pcap.specs.declared.reach.Reach.{Reach}
 use Rattle.rm_probe.specs.Events.{is_by, frames_after}
-use Rattle.rm_probe.specs.Counted.{StandsFor}
-use Rattle.rm_probe.specs.Steps.{Advanced, Advances, Finishes, Leaves}
+use Rattle.rm_probe.specs.Probe.{settings_of, last_given, frames_given, Stands}
+use Rattle.rm_probe.specs.Steps.{Advanced, Advances, Finishes, IsNotBefore, Keeps, Leaves}
 use Rattle.rm_probe.specs.Text.{last_line}
-use Rattle.rm_probe.specs.declared.counts.Counts.{Counts}
+use Rattle.rm_probe.specs.declared.probe.Probe.{Probe}
 use Rattle.rm_probe.proofs.RecordLemmas.{leaves_looking, leaves_passing, leaves_first, leaves_none}
 
 -- frames that pass, and then others
@@ -28,18 +28,18 @@ after_frames-append [] others journal = refl
 after_frames-append (frame ∷ more) others journal = after_frames-append more others (passes frame ∷ journal)
 
 -- of the frames left, so many have passed
-pub record Passed (moment : ℕ) (bytes : List ℕ) (progress : Progress) (counts : Counts) (before : ℕ) (frames : List Frame) (stop : Stop) (journal : Journal) : Type 0 where
+pub record Passed (moment : ℕ) (bytes : List ℕ) (progress : Progress) (probe : Probe) (before : ℕ) (frames : List Frame) (stop : Stop) (journal : Journal) : Type 0 where
   pub passed : List Frame
   pub left : List Frame
   pub leaves : Leaves progress bytes left stop
-  pub stands : StandsFor counts (after_frames passed journal)
+  pub stands : Stands probe (after_frames passed journal)
   pub taken : take_while (is_by moment) frames ≡ passed ++ take_while (is_by moment) left
   pub after : frames_after moment frames ≡ frames_after moment left
   pub count : progress.reach.count + length left ≡ before + length frames
 
-pub passed_none : (moment : ℕ) (bytes : List ℕ) (progress : Progress) (counts : Counts) (frames : List Frame) (stop : Stop) (journal : Journal)
-    → Leaves progress bytes frames stop → StandsFor counts journal → Passed moment bytes progress counts progress.reach.count frames stop journal
-passed_none moment bytes progress counts frames stop journal left stands =
+pub passed_none : (moment : ℕ) (bytes : List ℕ) (progress : Progress) (probe : Probe) (frames : List Frame) (stop : Stop) (journal : Journal)
+    → Leaves progress bytes frames stop → Stands probe journal → Passed moment bytes progress probe progress.reach.count frames stop journal
+passed_none moment bytes progress probe frames stop journal left stands =
     record { passed = []; left = frames; leaves = left; stands = stands; taken = refl; after = refl; count = refl }
 
 one_longer : (m : ℕ) (f : Frame) (fs : List Frame) → is_by m f ≡ true → prefix_len (is_by m) (f ∷ fs) ≡ suc (prefix_len (is_by m) fs)
@@ -58,10 +58,10 @@ after_no : (m : ℕ) (f : Frame) (fs : List Frame) → is_by m f ≡ false → f
 after_no m f fs late = rw late refl
 
 -- the next one was looked at
-pub passed_looking : (m : ℕ) (held : Held) (bytes : List ℕ) (old new : Progress) (counts : Counts) (before : ℕ) (frames : List Frame) (stop : Stop) (journal : Journal) (found : Found)
+pub passed_looking : (m : ℕ) (held : Held) (bytes : List ℕ) (old new : Progress) (probe : Probe) (before : ℕ) (frames : List Frame) (stop : Stop) (journal : Journal) (found : Found)
     → held ≡ File bytes → Looks held old new found
-    → Passed m bytes old counts before frames stop journal → Passed m bytes new counts before frames stop journal
-passed_looking m held bytes old new counts before frames stop journal found is looks p = record {
+    → Passed m bytes old probe before frames stop journal → Passed m bytes new probe before frames stop journal
+passed_looking m held bytes old new probe before frames stop journal found is looks p = record {
   passed = p.passed;
   left = p.left;
   leaves = leaves_looking held old new bytes p.left stop found is looks p.leaves;
@@ -72,11 +72,11 @@ passed_looking m held bytes old new counts before frames stop journal found is l
 }
 
 -- one more frame passes
-passed_one : (m : ℕ) (held : Held) (bytes : List ℕ) (old new : Progress) (counts next : Counts) (before : ℕ) (frames : List Frame) (stop : Stop) (journal : Journal) (frame : Frame) (after : Reach)
+passed_one : (m : ℕ) (held : Held) (bytes : List ℕ) (old new : Progress) (probe next : Probe) (before : ℕ) (frames : List Frame) (stop : Stop) (journal : Journal) (frame : Frame) (after : Reach)
     → held ≡ File bytes → Passes held old new (Whole frame after) → frame.moment ≤ m
-    → ((j : Journal) → StandsFor counts j → StandsFor next (passes frame ∷ j))
-    → Passed m bytes old counts before frames stop journal → Passed m bytes new next before frames stop journal
-passed_one m held bytes old new counts next before frames stop journal frame after is found le counted p =
+    → ((j : Journal) → Stands probe j → Stands next (passes frame ∷ j))
+    → Passed m bytes old probe before frames stop journal → Passed m bytes new next before frames stop journal
+passed_one m held bytes old new probe next before frames stop journal frame after is found le counted p =
     let o = leaves_passing held old new bytes p.left stop frame after is found p.leaves in
     let early : is_by m frame ≡ true = grind (arith, nat_tests) in
     let one : new.reach.count ≡ old.reach.count + 1 = ap (λ (q : Progress). q.reach.count) found.place ∙ found.finds.lawful.count ∙ found.finds.lawful.number in
@@ -84,7 +84,7 @@ passed_one m held bytes old new counts next before frames stop journal frame aft
       passed = p.passed ++ frame ∷ [];
       left = o.more;
       leaves = o.left;
-      stands = subst (λ (j : Journal). StandsFor next j) (sym (after_frames-append p.passed (frame ∷ []) journal)) (counted (after_frames p.passed journal) p.stands);
+      stands = subst (λ (j : Journal). Stands next j) (sym (after_frames-append p.passed (frame ∷ []) journal)) (counted (after_frames p.passed journal) p.stands);
       taken = p.taken ∙ ap (λ (xs : List Frame). p.passed ++ take_while (is_by m) xs) o.is ∙ ap (λ (xs : List Frame). p.passed ++ xs) (take_one m frame o.more early) ∙ sym (append_assoc p.passed (frame ∷ []) (take_while (is_by m) o.more));
       after = p.after ∙ ap (frames_after m) o.is ∙ after_one m frame o.more early;
       count = omega (arith, p.count, one, ap length o.is);
@@ -116,12 +116,12 @@ halts_found m bytes progress left stop (StopsAt at) is later leaves =
     halts_none m left (leaves_none progress bytes left stop at is leaves).none
 
 -- the frames up to the moment have passed
-pub halt : (m : ℕ) (held : Held) (bytes : List ℕ) (old new : Progress) (counts : Counts) (before : ℕ) (frames : List Frame) (stop : Stop) (journal : Journal) (found : Found)
+pub halt : (m : ℕ) (held : Held) (bytes : List ℕ) (old new : Progress) (probe : Probe) (before : ℕ) (frames : List Frame) (stop : Stop) (journal : Journal) (found : Found)
     → held ≡ File bytes → Looks held old new found → IsLater m found
-    → Passed m bytes old counts before frames stop journal → Advanced m bytes new counts before frames stop journal
-halt m held bytes old new counts before frames stop journal found is looks later p =
+    → Passed m bytes old probe before frames stop journal → Advanced m bytes new probe before frames stop journal
+halt m held bytes old new probe before frames stop journal found is looks later p =
     let s = halts_found m bytes old p.left stop found (looks.finds.stands bytes is p.leaves.agrees) later p.leaves in
-    let q = passed_looking m held bytes old new counts before frames stop journal found is looks p in
+    let q = passed_looking m held bytes old new probe before frames stop journal found is looks p in
     let after : frames_after m frames ≡ p.left = p.after ∙ s.after in
     let taken : take_while (is_by m) frames ≡ p.passed = p.taken ∙ ap (λ (xs : List Frame). p.passed ++ xs) s.taken ∙ append-nil p.passed in
     record {
@@ -141,19 +141,19 @@ no_moment m (Whole frame after) is = absurd cc
 no_moment m (StopsAt at) is = (tt, at, refl)
 
 -- a frame is looked at, and passes
-pub passed_found : (m : ℕ) (held held' : Held) (bytes : List ℕ) (old looked new : Progress) (counts counts' : Counts) (before : ℕ) (frames : List Frame) (stop : Stop) (journal : Journal)
+pub passed_found : (m : ℕ) (held held' : Held) (bytes : List ℕ) (old looked new : Progress) (probe probe' : Probe) (before : ℕ) (frames : List Frame) (stop : Stop) (journal : Journal)
     (found found' : Found) (next : ℕ) (frame : Lent)
     → held ≡ File bytes → held' ≡ held → Looks held old looked found → Some next ≡ moment_found found → next ≤ m
-    → Passes held' looked new found' → Shows (Next frame) found' → ((j : Journal) → StandsFor counts j → StandsFor counts' (passes (frame_of frame) ∷ j))
-    → Passed m bytes old counts before frames stop journal → Passed m bytes new counts' before frames stop journal
-passed_found m held held' bytes old looked new counts counts' before frames stop journal found (StopsAt at) next frame is same looks next_is early found_so shows counted p =
+    → Passes held' looked new found' → Shows (Next frame) found' → ((j : Journal) → Stands probe j → Stands probe' (passes (frame_of frame) ∷ j))
+    → Passed m bytes old probe before frames stop journal → Passed m bytes new probe' before frames stop journal
+passed_found m held held' bytes old looked new probe probe' before frames stop journal found (StopsAt at) next frame is same looks next_is early found_so shows counted p =
     absurd shows
-passed_found m held held' bytes old looked new counts counts' before frames stop journal found (Whole passed after) next frame is same looks next_is early found_so shows counted p =
+passed_found m held held' bytes old looked new probe probe' before frames stop journal found (Whole passed after) next frame is same looks next_is early found_so shows counted p =
     let again : Whole passed after ≡ found = found_so.finds.again found (ap (λ (q : Progress). q.ahead) looks.place) in
     let moment : next ≡ passed.moment = let e : Some next ≡ Some passed.moment = next_is ∙ ap moment_found (sym again) in cc in
-    let q = passed_looking m held bytes old looked counts before frames stop journal found is looks p in
-    passed_one m held' bytes looked new counts counts' before frames stop journal passed after (same ∙ is) found_so (omega (arith, moment, early))
-    (subst (λ (f : Frame). (j : Journal) → StandsFor counts j → StandsFor counts' (passes f ∷ j)) (sym shows) counted) q
+    let q = passed_looking m held bytes old looked probe before frames stop journal found is looks p in
+    passed_one m held' bytes looked new probe probe' before frames stop journal passed after (same ∙ is) found_so (omega (arith, moment, early))
+    (subst (λ (f : Frame). (j : Journal) → Stands probe j → Stands probe' (passes f ∷ j)) (sym shows) counted) q
 
 -- one record more was passed
 pub one_more : (held held' : Held) (old looked new : Progress) (found found' : Found) (next : ℕ) → Looks held old looked found → Some next ≡ moment_found found → Passes held' looked new found'
@@ -184,59 +184,122 @@ broken held bytes progress left stop fault other is (inr breaks) leaves =
     (leaves_none progress bytes left stop (Broken fault) (sym (breaks.stands bytes is)) leaves).stop_is
 
 -- the capture has a fault where it is now
-pub advances_fault : (m : ℕ) (held : Held) (bytes : List ℕ) (old now new : Progress) (counts counts' counts'' : Counts) (fault : PcapFault) → held ≡ File bytes → Fails held now fault
-    → ((frames : List Frame) (stop : Stop) (journal : Journal) → Leaves old bytes frames stop → StandsFor counts journal → Passed m bytes now counts' old.reach.count frames stop journal)
-    → Advances {T = Unit {0}} m bytes old new counts counts'' (Err fault)
-advances_fault m held bytes old now new counts counts' counts'' Read is fails p = tt
-advances_fault m held bytes old now new counts counts' counts'' Magic is fails p = λ frames stop journal left stands. let q = p frames stop journal left stands in broken held bytes now q.left stop Magic (λ e. cc) is fails.cause q.leaves
-advances_fault m held bytes old now new counts counts' counts'' Version is fails p = λ frames stop journal left stands. let q = p frames stop journal left stands in broken held bytes now q.left stop Version (λ e. cc) is fails.cause q.leaves
-advances_fault m held bytes old now new counts counts' counts'' LinkType is fails p = λ frames stop journal left stands. let q = p frames stop journal left stands in broken held bytes now q.left stop LinkType (λ e. cc) is fails.cause q.leaves
-advances_fault m held bytes old now new counts counts' counts'' (Included at) is fails p = λ frames stop journal left stands. let q = p frames stop journal left stands in broken held bytes now q.left stop (Included at) (λ e. cc) is fails.cause q.leaves
-advances_fault m held bytes old now new counts counts' counts'' (Original at) is fails p = λ frames stop journal left stands. let q = p frames stop journal left stands in broken held bytes now q.left stop (Original at) (λ e. cc) is fails.cause q.leaves
-advances_fault m held bytes old now new counts counts' counts'' (Late at) is fails p = λ frames stop journal left stands. let q = p frames stop journal left stands in broken held bytes now q.left stop (Late at) (λ e. cc) is fails.cause q.leaves
-advances_fault m held bytes old now new counts counts' counts'' TooMany is fails p = λ frames stop journal left stands. let q = p frames stop journal left stands in broken held bytes now q.left stop TooMany (λ e. cc) is fails.cause q.leaves
-advances_fault m held bytes old now new counts counts' counts'' NoMemory is fails p = λ frames stop journal left stands. let q = p frames stop journal left stands in broken held bytes now q.left stop NoMemory (λ e. cc) is fails.cause q.leaves
+pub advances_fault : (m : ℕ) (held : Held) (bytes : List ℕ) (old now new : Progress) (probe probe' probe'' : Probe) (fault : PcapFault) → held ≡ File bytes → Fails held now fault
+    → ((frames : List Frame) (stop : Stop) (journal : Journal) → Leaves old bytes frames stop → Stands probe journal → Passed m bytes now probe' old.reach.count frames stop journal)
+    → Advances {T = Unit {0}} m bytes old new probe probe'' (Err fault)
+advances_fault m held bytes old now new probe probe' probe'' Read is fails p = tt
+advances_fault m held bytes old now new probe probe' probe'' Magic is fails p = λ frames stop journal left stands. let q = p frames stop journal left stands in broken held bytes now q.left stop Magic (λ e. cc) is fails.cause q.leaves
+advances_fault m held bytes old now new probe probe' probe'' Version is fails p = λ frames stop journal left stands. let q = p frames stop journal left stands in broken held bytes now q.left stop Version (λ e. cc) is fails.cause q.leaves
+advances_fault m held bytes old now new probe probe' probe'' LinkType is fails p = λ frames stop journal left stands. let q = p frames stop journal left stands in broken held bytes now q.left stop LinkType (λ e. cc) is fails.cause q.leaves
+advances_fault m held bytes old now new probe probe' probe'' (Included at) is fails p = λ frames stop journal left stands. let q = p frames stop journal left stands in broken held bytes now q.left stop (Included at) (λ e. cc) is fails.cause q.leaves
+advances_fault m held bytes old now new probe probe' probe'' (Original at) is fails p = λ frames stop journal left stands. let q = p frames stop journal left stands in broken held bytes now q.left stop (Original at) (λ e. cc) is fails.cause q.leaves
+advances_fault m held bytes old now new probe probe' probe'' (Late at) is fails p = λ frames stop journal left stands. let q = p frames stop journal left stands in broken held bytes now q.left stop (Late at) (λ e. cc) is fails.cause q.leaves
+advances_fault m held bytes old now new probe probe' probe'' TooMany is fails p = λ frames stop journal left stands. let q = p frames stop journal left stands in broken held bytes now q.left stop TooMany (λ e. cc) is fails.cause q.leaves
+advances_fault m held bytes old now new probe probe' probe'' NoMemory is fails p = λ frames stop journal left stands. let q = p frames stop journal left stands in broken held bytes now q.left stop NoMemory (λ e. cc) is fails.cause q.leaves
+
+-- what stands next isn't before the last moment given, where a look found it
+pub keeps_looking : (held : Held) (moment : ℕ) (probe : Probe) (old new : Progress) (found : Found) → Looks held old new found → Keeps moment probe old → Keeps moment probe new
+keeps_looking held moment probe old new found looks keeps =
+    subst (λ (p : Progress). Keeps moment probe p) (sym looks.place)
+    (record { last = keeps.last; next = next_found found old.ahead refl (λ was e. looks.finds.again was e) looks.finds.lawful keeps.next; count = keeps.count })
+  where
+    next_found : (found : Found) (ahead : Option Found) → ahead ≡ old.ahead → ((was : Found) → old.ahead ≡ Some was → found ≡ was) → IsLawfulFind old.reach found → IsNotBefore moment old.reach ahead → IsNotBefore moment old.reach (Some found)
+    next_found (StopsAt at) ahead is again lawful before = tt
+    next_found (Whole frame after) None is again lawful before = omega (arith, before, lawful.moment)
+    next_found (Whole frame after) (Some was) is again lawful before = subst (λ (f : Found). IsNotBefore moment old.reach (Some f)) (sym (again was (sym is))) before
+
+-- the frame that stands next is later than a moment, or there is none
+pub keeps_halting : (held : Held) (moment : ℕ) (probe : Probe) (old new : Progress) (found : Found) → Looks held old new found → IsLater moment found → last_given probe ≤ moment
+    → Keeps (last_given probe) probe old → Keeps moment probe new
+keeps_halting held moment probe old new found looks later early keeps =
+    subst (λ (p : Progress). Keeps moment probe p) (sym looks.place) (record { last = early; next = next_found found later; count = keeps.count })
+  where
+    next_found : (found : Found) → IsLater moment found → IsNotBefore moment old.reach (Some found)
+    next_found (Whole frame after) later = omega (arith, later)
+    next_found (StopsAt at) later = tt
+
+-- the frame that stands next may pass
+pub record MayPass (probe : Probe) (frame : Lent) (new : Progress) (now : ℕ) : Type 0 where
+  pub later : last_given probe ≤ frame.moment
+  pub early : frame.moment ≤ now
+  pub room : frames_given probe < 400000000
+  pub keeps : (probe' : Probe) → last_given probe' ≡ frame.moment → frames_given probe' ≡ frames_given probe + 1 → Keeps (last_given probe') probe' new
+
+pub may_pass : (held held' : Held) (probe : Probe) (now : ℕ) (old looked new : Progress) (found found' : Found) (next : ℕ) (frame : Lent) → Looks held old looked found → Some next ≡ moment_found found → next ≤ now
+    → Passes held' looked new found' → Shows (Next frame) found' → Keeps (last_given probe) probe old → MayPass probe frame new now
+may_pass held held' probe now old looked new found found' next frame looks next_is early found_so shows keeps =
+    let ahead : looked.ahead ≡ Some found = ap (λ (p : Progress). p.ahead) looks.place in
+    let there = keeps_looking held (last_given probe) probe old looked found looks keeps in
+    passing_on found' (found_so.finds.again found ahead) found_so.place found_so.finds.lawful shows (subst (λ (a : Option Found). IsNotBefore (last_given probe) looked.reach a) ahead there.next) there.count
+  where
+    passing_on : (found' : Found) → found' ≡ found → new ≡ passing looked found' → IsLawfulFind looked.reach found' → Shows (Next frame) found' → IsNotBefore (last_given probe) looked.reach (Some found)
+        → frames_given probe ≡ looked.reach.count → MayPass probe frame new now
+    passing_on (StopsAt at) again place lawful shows before count = absurd shows
+    passing_on (Whole passed after) again place lawful shows before count =
+        let moment : next ≡ passed.moment = let e : Some next ≡ Some passed.moment = next_is ∙ ap moment_found (sym again) in cc in
+        let shown : passed.moment ≡ frame.moment = ap (λ (f : Frame). f.moment) shows in
+        let here : IsNotBefore (last_given probe) looked.reach (Some (Whole passed after)) = subst (λ (f : Found). IsNotBefore (last_given probe) looked.reach (Some f)) (sym again) before in
+        record {
+          later = omega (arith, here, shown);
+          early = omega (arith, early, moment, shown);
+          room = omega (arith, count, lawful.number, lawful.few);
+          keeps = λ probe' last frames.
+              subst (λ (p : Progress). Keeps (last_given probe') probe' p) (sym place)
+              (record { last = omega arith; next = omega (arith, last, shown, lawful.last); count = omega (arith, frames, count, lawful.number, lawful.count) });
+        }
+
+-- a probe to which nothing came can take any frame
+pub keeps_begun : (probe : Probe) (progress : Progress) → last_given probe ≡ 0 → Keeps 0 probe progress → Keeps (last_given probe) probe progress
+keeps_begun probe progress first keeps = subst (λ (m : ℕ). Keeps m probe progress) (sym first) keeps
+
+-- a moment was given, up to which all frames passed
+pub keeps_given : (moment : ℕ) (probe probe' : Probe) (progress : Progress) → last_given probe' ≡ moment → frames_given probe' ≡ frames_given probe → Keeps moment probe progress → Keeps (last_given probe') probe' progress
+keeps_given moment probe probe' progress last frames keeps =
+    subst (λ (m : ℕ). Keeps m probe' progress) (sym last) (record { last = omega (arith, last); next = keeps.next; count = frames ∙ keeps.count })
 
 -- a capture whose frames pass up to a moment
-pub record Advancing {F : Type 0} (held : F → List ℕ → Held) (faults : F → List ℕ → ℕ) (first now : F) (name : List ℕ) (moment : ℕ) (old progress : Progress) (counts counts' : Counts) : Type 0 where
+pub record Advancing {F : Type 0} (held : F → List ℕ → Held) (faults : F → List ℕ → ℕ) (first now : F) (name : List ℕ) (moment : ℕ) (old progress : Progress) (probe probe' : Probe) : Type 0 where
   pub same : (each : List ℕ) → held now each ≡ held first each
   pub later : (each : List ℕ) → faults first each ≤ faults now each
-  pub passed : (bytes : List ℕ) → held first name ≡ File bytes → (frames : List Frame) (stop : Stop) (journal : Journal) → Leaves old bytes frames stop → StandsFor counts journal
-      → Passed moment bytes progress counts' old.reach.count frames stop journal
+  pub settings : settings_of probe' ≡ settings_of probe
+  pub early : last_given probe' ≤ moment
+  pub keeps : Keeps (last_given probe') probe' progress
+  pub passed : (bytes : List ℕ) → held first name ≡ File bytes → (frames : List Frame) (stop : Stop) (journal : Journal) → Leaves old bytes frames stop → Stands probe journal
+      → Passed moment bytes progress probe' old.reach.count frames stop journal
 
 -- a fault other than of a read, by what advancing answered
-pub advanced_so : (m : ℕ) (bytes : List ℕ) (old new : Progress) (counts counts' : Counts) (fault : PcapFault) → Advances {T = Unit {0}} m bytes old new counts counts' (Err fault) → (fault ≡ Read → ⊥)
-    → (frames : List Frame) (stop : Stop) (journal : Journal) → Leaves old bytes frames stop → StandsFor counts journal → stop ≡ Broken fault
-advanced_so m bytes old new counts counts' Read h other = absurd (other refl)
-advanced_so m bytes old new counts counts' Magic h other = h
-advanced_so m bytes old new counts counts' Version h other = h
-advanced_so m bytes old new counts counts' LinkType h other = h
-advanced_so m bytes old new counts counts' (Included at) h other = h
-advanced_so m bytes old new counts counts' (Original at) h other = h
-advanced_so m bytes old new counts counts' (Late at) h other = h
-advanced_so m bytes old new counts counts' TooMany h other = h
-advanced_so m bytes old new counts counts' NoMemory h other = h
+pub advanced_so : (m : ℕ) (bytes : List ℕ) (old new : Progress) (probe probe' : Probe) (fault : PcapFault) → Advances {T = Unit {0}} m bytes old new probe probe' (Err fault) → (fault ≡ Read → ⊥)
+    → (frames : List Frame) (stop : Stop) (journal : Journal) → Leaves old bytes frames stop → Stands probe journal → stop ≡ Broken fault
+advanced_so m bytes old new probe probe' Read h other = absurd (other refl)
+advanced_so m bytes old new probe probe' Magic h other = h
+advanced_so m bytes old new probe probe' Version h other = h
+advanced_so m bytes old new probe probe' LinkType h other = h
+advanced_so m bytes old new probe probe' (Included at) h other = h
+advanced_so m bytes old new probe probe' (Original at) h other = h
+advanced_so m bytes old new probe probe' (Late at) h other = h
+advanced_so m bytes old new probe probe' TooMany h other = h
+advanced_so m bytes old new probe probe' NoMemory h other = h
 
 -- the same, by what finishing answered
-pub finished_so : (bytes : List ℕ) (progress : Progress) (counts : Counts) (requests : ℕ) (line : List ℕ) (fault : PcapFault) → Finishes {T = Unit {0}} bytes progress counts requests line (Err fault) → (fault ≡ Read → ⊥)
-    → (frames : List Frame) (stop : Stop) (journal : Journal) → Leaves progress bytes frames stop → StandsFor counts journal → stop ≡ Broken fault
-finished_so bytes progress counts requests line Read h other = absurd (other refl)
-finished_so bytes progress counts requests line Magic h other = h
-finished_so bytes progress counts requests line Version h other = h
-finished_so bytes progress counts requests line LinkType h other = h
-finished_so bytes progress counts requests line (Included at) h other = h
-finished_so bytes progress counts requests line (Original at) h other = h
-finished_so bytes progress counts requests line (Late at) h other = h
-finished_so bytes progress counts requests line TooMany h other = h
-finished_so bytes progress counts requests line NoMemory h other = h
+pub finished_so : (bytes : List ℕ) (progress : Progress) (probe : Probe) (requests : ℕ) (line : List ℕ) (fault : PcapFault) → Finishes {T = Unit {0}} bytes progress probe requests line (Err fault) → (fault ≡ Read → ⊥)
+    → (frames : List Frame) (stop : Stop) (journal : Journal) → Leaves progress bytes frames stop → Stands probe journal → stop ≡ Broken fault
+finished_so bytes progress probe requests line Read h other = absurd (other refl)
+finished_so bytes progress probe requests line Magic h other = h
+finished_so bytes progress probe requests line Version h other = h
+finished_so bytes progress probe requests line LinkType h other = h
+finished_so bytes progress probe requests line (Included at) h other = h
+finished_so bytes progress probe requests line (Original at) h other = h
+finished_so bytes progress probe requests line (Late at) h other = h
+finished_so bytes progress probe requests line TooMany h other = h
+finished_so bytes progress probe requests line NoMemory h other = h
 
 -- all frames have passed, and the step says how the records stop
-pub finish_last : (held' : Held) (bytes : List ℕ) (old looked new : Progress) (counts counts' : Counts) (requests taken : ℕ) (line : List ℕ) (step : Step) (found : Found) (at : Stop)
-    → ((frames : List Frame) (stop : Stop) (journal : Journal) → Leaves old bytes frames stop → StandsFor counts journal → Advanced 4294967295 bytes looked counts' old.reach.count frames stop journal)
+pub finish_last : (held' : Held) (bytes : List ℕ) (old looked new : Progress) (probe probe' : Probe) (requests taken : ℕ) (line : List ℕ) (step : Step) (found : Found) (at : Stop)
+    → ((frames : List Frame) (stop : Stop) (journal : Journal) → Leaves old bytes frames stop → Stands probe journal → Advanced 4294967295 bytes looked probe' old.reach.count frames stop journal)
     → looked.ahead ≡ Some (StopsAt at) → Passes held' looked new found → Shows step found → taken ≡ looked.reach.count
     → ((stop : Stop) → Shows step (StopsAt stop) → line ≡ last_line stop taken requests)
-    → (frames : List Frame) (stop : Stop) (journal : Journal) → Leaves old bytes frames stop → StandsFor counts journal → line ≡ last_line stop (old.reach.count + length frames) requests
-finish_last held' bytes old looked new counts counts' requests taken line step found at advances ahead found_so shows count last frames stop journal left stands =
+    → (frames : List Frame) (stop : Stop) (journal : Journal) → Leaves old bytes frames stop → Stands probe journal → line ≡ last_line stop (old.reach.count + length frames) requests
+finish_last held' bytes old looked new probe probe' requests taken line step found at advances ahead found_so shows count last frames stop journal left stands =
     let a = advances frames stop journal left stands in
     let same : StopsAt at ≡ found = sym (found_so.finds.again (StopsAt at) ahead) in
     let none = leaves_none looked bytes (frames_after 4294967295 frames) stop at (a.left.agrees (StopsAt at) ahead) a.left in

@@ -3,6 +3,6 @@ pub mod LineLemmas
 pub mod JudgeLemmas
 pub mod FrameLemmas
 pub mod WholeLemmas
-pub mod ReplyLemmas
+pub mod AnswerLemmas
 pub mod RunLemmas
 pub mod EndLemmas

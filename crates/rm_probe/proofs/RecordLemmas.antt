@@ -15,7 +15,7 @@ use Rattle.rm_pcap.specs.declared.frame.Frame.{Frame as Lent}
 use Rattle.rm_pcap.specs.declared.frame.Step.{Step}
 use Rattle.rm_pcap.specs.declared.frame.Step.TheVariants.{Next, End, Cut}
 use Rattle.rm_pcap.specs.View.{progress_of}
-use Rattle.rm_probe.specs.Capture.{lead as the_lead, status_of, CallsFor, IsCaptureFile}
+use Rattle.rm_probe.specs.Capture.{status_of, CallsFor, IsCaptureFile}
 use Rattle.rm_probe.specs.Steps.{Leaves, JudgesCapture}
 
 -- none is left
@@ -143,70 +143,70 @@ of_told Absent P Q to p = absurd p
 of_told (File bytes) P Q to p = to bytes refl p
 
 -- where a capture was begun, nothing of it is passed yet
-pub judged_begins : (held : Held) (progress : Progress) (result : Result Capture PcapFault) (capture : Capture) → result ≡ Ok capture → (held ≡ Absent → result ≡ Err Read)
-    → progress_of capture ≡ begun (progress_of capture).form the_lead → ((bytes : List ℕ) → held ≡ File bytes → BeginsAs bytes (Ok (progress_of capture).form))
-    → OfFile held (λ bytes. Judging the_lead bytes (progress_of capture))
-judged_begins Untold progress result capture ok absent is header = tt
-judged_begins Absent progress result capture ok absent is header = let e = sym ok ∙ absent refl in cc
-judged_begins (File bytes) progress result capture ok absent is header = judging_begins (progress_of capture).form the_lead bytes (progress_of capture) (header bytes refl) is
+pub judged_begins : (lead : ℕ) (held : Held) (progress : Progress) (result : Result Capture PcapFault) (capture : Capture) → result ≡ Ok capture → (held ≡ Absent → result ≡ Err Read)
+    → progress_of capture ≡ begun (progress_of capture).form lead → ((bytes : List ℕ) → held ≡ File bytes → BeginsAs bytes (Ok (progress_of capture).form))
+    → OfFile held (λ bytes. Judging lead bytes (progress_of capture))
+judged_begins lead Untold progress result capture ok absent is header = tt
+judged_begins lead Absent progress result capture ok absent is header = let e = sym ok ∙ absent refl in cc
+judged_begins lead (File bytes) progress result capture ok absent is header = judging_begins (progress_of capture).form lead bytes (progress_of capture) (header bytes refl) is
 
 -- a file whose header has a fault
-header_fault : (held : Held) (fault : PcapFault) → (held ≡ Absent → ⊥) → ((bytes : List ℕ) → held ≡ File bytes → header_of bytes ≡ Err fault) → OfFile held (CallsFor (status_of fault))
-header_fault Untold fault there header = tt
-header_fault Absent fault there header = there refl
-header_fault (File bytes) fault there header = (fault, ([], reads_header_fault the_lead bytes fault (header bytes refl)), refl)
+header_fault : (lead : ℕ) (held : Held) (fault : PcapFault) → (held ≡ Absent → ⊥) → ((bytes : List ℕ) → held ≡ File bytes → header_of bytes ≡ Err fault) → OfFile held (CallsFor lead (status_of fault))
+header_fault lead Untold fault there header = tt
+header_fault lead Absent fault there header = there refl
+header_fault lead (File bytes) fault there header = (fault, ([], reads_header_fault lead bytes fault (header bytes refl)), refl)
 
 -- a capture that could not be begun
-pub refused_begin : (held : Held) (before now : ℕ) (fault : PcapFault) → (fault ≡ Read → Rose before now) → (held ≡ Absent → fault ≡ Read) → ((bytes : List ℕ) → held ≡ File bytes → BeginsAs bytes (Err fault))
-    → IsFirstFault fault → JudgesCapture {T = Unit {0}} held before now (Err (status_of fault))
-refused_begin held before now Read rose absent header kind = rose refl
-refused_begin held before now OutOfMemory rose absent header kind = tt
-refused_begin held before now Magic rose absent header kind = header_fault held Magic (λ e. let f : Magic ≡ Read = absent e in cc) header
-refused_begin held before now Version rose absent header kind = header_fault held Version (λ e. let f : Version ≡ Read = absent e in cc) header
-refused_begin held before now LinkType rose absent header kind = header_fault held LinkType (λ e. let f : LinkType ≡ Read = absent e in cc) header
-refused_begin held before now (Included at) rose absent header kind = absurd kind
-refused_begin held before now (Original at) rose absent header kind = absurd kind
-refused_begin held before now (Late at) rose absent header kind = absurd kind
-refused_begin held before now TooMany rose absent header kind = absurd kind
+pub refused_begin : (lead : ℕ) (held : Held) (before now : ℕ) (fault : PcapFault) → (fault ≡ Read → Rose before now) → (held ≡ Absent → fault ≡ Read) → ((bytes : List ℕ) → held ≡ File bytes → BeginsAs bytes (Err fault))
+    → IsFirstFault fault → JudgesCapture {T = Unit {0}} lead held before now (Err (status_of fault))
+refused_begin lead held before now Read rose absent header kind = rose refl
+refused_begin lead held before now OutOfMemory rose absent header kind = tt
+refused_begin lead held before now Magic rose absent header kind = header_fault lead held Magic (λ e. let f : Magic ≡ Read = absent e in cc) header
+refused_begin lead held before now Version rose absent header kind = header_fault lead held Version (λ e. let f : Version ≡ Read = absent e in cc) header
+refused_begin lead held before now LinkType rose absent header kind = header_fault lead held LinkType (λ e. let f : LinkType ≡ Read = absent e in cc) header
+refused_begin lead held before now (Included at) rose absent header kind = absurd kind
+refused_begin lead held before now (Original at) rose absent header kind = absurd kind
+refused_begin lead held before now (Late at) rose absent header kind = absurd kind
+refused_begin lead held before now TooMany rose absent header kind = absurd kind
 
 -- the records of a file stop where nothing more was found
-pub judged_stops : (held : Held) (old new : Progress) (found : Found) (step : Step) → Passes held old new found → Shows step found → ((frame : Lent) → step ≡ Next frame → ⊥)
-    → OfFile held (λ bytes. Judging the_lead bytes old) → OfFile held IsCaptureFile
-judged_stops held old new found (Next frame) passes shows other judging = absurd (other frame refl)
-judged_stops held old new (StopsAt Ended) End passes shows other judging =
-    of_told held (λ bytes. Judging the_lead bytes old) IsCaptureFile (λ bytes is j. let r = judging_stops old the_lead bytes Ended (sym (passes.finds.stands bytes is j.agrees)) j in (r.0, Ended, record { reads = r.1; faultless = tt })) judging
-judged_stops held old new (StopsAt (CutAt place)) (Cut at) passes shows other judging =
-    of_told held (λ bytes. Judging the_lead bytes old) IsCaptureFile (λ bytes is j. let r = judging_stops old the_lead bytes (CutAt place) (sym (passes.finds.stands bytes is j.agrees)) j in (r.0, CutAt place, record { reads = r.1; faultless = tt })) judging
-judged_stops held old new (Whole frame after) End passes shows other judging = absurd shows
-judged_stops held old new (StopsAt (CutAt place)) End passes shows other judging = absurd shows
-judged_stops held old new (StopsAt (Broken fault)) End passes shows other judging = absurd shows
-judged_stops held old new (Whole frame after) (Cut at) passes shows other judging = absurd shows
-judged_stops held old new (StopsAt Ended) (Cut at) passes shows other judging = absurd shows
-judged_stops held old new (StopsAt (Broken fault)) (Cut at) passes shows other judging = absurd shows
+pub judged_stops : (lead : ℕ) (held : Held) (old new : Progress) (found : Found) (step : Step) → Passes held old new found → Shows step found → ((frame : Lent) → step ≡ Next frame → ⊥)
+    → OfFile held (λ bytes. Judging lead bytes old) → OfFile held (IsCaptureFile lead)
+judged_stops lead held old new found (Next frame) passes shows other judging = absurd (other frame refl)
+judged_stops lead held old new (StopsAt Ended) End passes shows other judging =
+    of_told held (λ bytes. Judging lead bytes old) (IsCaptureFile lead) (λ bytes is j. let r = judging_stops old lead bytes Ended (sym (passes.finds.stands bytes is j.agrees)) j in (r.0, Ended, record { reads = r.1; faultless = tt })) judging
+judged_stops lead held old new (StopsAt (CutAt place)) (Cut at) passes shows other judging =
+    of_told held (λ bytes. Judging lead bytes old) (IsCaptureFile lead) (λ bytes is j. let r = judging_stops old lead bytes (CutAt place) (sym (passes.finds.stands bytes is j.agrees)) j in (r.0, CutAt place, record { reads = r.1; faultless = tt })) judging
+judged_stops lead held old new (Whole frame after) End passes shows other judging = absurd shows
+judged_stops lead held old new (StopsAt (CutAt place)) End passes shows other judging = absurd shows
+judged_stops lead held old new (StopsAt (Broken fault)) End passes shows other judging = absurd shows
+judged_stops lead held old new (Whole frame after) (Cut at) passes shows other judging = absurd shows
+judged_stops lead held old new (StopsAt Ended) (Cut at) passes shows other judging = absurd shows
+judged_stops lead held old new (StopsAt (Broken fault)) (Cut at) passes shows other judging = absurd shows
 
 -- one record more was judged
-pub judged_more : (held : Held) (old new : Progress) (found : Found) (frame : Lent) → Passes held old new found → Shows (Next frame) found
-    → OfFile held (λ bytes. Judging the_lead bytes old) → OfFile held (λ bytes. Judging the_lead bytes new)
-judged_more held old new (StopsAt stop) frame passes shows judging = absurd shows
-judged_more held old new (Whole passed after) frame passes shows judging =
-    of_told held (λ bytes. Judging the_lead bytes old) (λ bytes. Judging the_lead bytes new) (λ bytes is j. judging_more held old new the_lead bytes passed after is passes j) judging
+pub judged_more : (lead : ℕ) (held : Held) (old new : Progress) (found : Found) (frame : Lent) → Passes held old new found → Shows (Next frame) found
+    → OfFile held (λ bytes. Judging lead bytes old) → OfFile held (λ bytes. Judging lead bytes new)
+judged_more lead held old new (StopsAt stop) frame passes shows judging = absurd shows
+judged_more lead held old new (Whole passed after) frame passes shows judging =
+    of_told held (λ bytes. Judging lead bytes old) (λ bytes. Judging lead bytes new) (λ bytes is j. judging_more held old new lead bytes passed after is passes j) judging
 
 -- a record has a fault
-pub refused_record : (held : Held) (before now : ℕ) (progress : Progress) (fault : PcapFault) → (fault ≡ Read → Rose before now) → Fails held progress fault
-    → OfFile held (λ bytes. Judging the_lead bytes progress) → JudgesCapture {T = Unit {0}} held before now (Err (status_of fault))
-refused_record held before now progress fault rose fails judging = go fault rose fails.cause
+pub refused_record : (lead : ℕ) (held : Held) (before now : ℕ) (progress : Progress) (fault : PcapFault) → (fault ≡ Read → Rose before now) → Fails held progress fault
+    → OfFile held (λ bytes. Judging lead bytes progress) → JudgesCapture {T = Unit {0}} lead held before now (Err (status_of fault))
+refused_record lead held before now progress fault rose fails judging = go fault rose fails.cause
   where
-    found : (fault : PcapFault) → IsBroken held progress.form progress.lead progress.reach fault → (fault ≡ Read → ⊥) → OfFile held (CallsFor (status_of fault))
+    found : (fault : PcapFault) → IsBroken held progress.form progress.lead progress.reach fault → (fault ≡ Read → ⊥) → OfFile held (CallsFor lead (status_of fault))
     found fault (inl read) other = absurd (other read)
     found fault (inr breaks) other =
-        of_told held (λ bytes. Judging the_lead bytes progress) (CallsFor (status_of fault))
-        (λ bytes is j. (fault, judging_stops progress the_lead bytes (Broken fault) (breaks.stands bytes is) j, refl)) judging
+        of_told held (λ bytes. Judging lead bytes progress) (CallsFor lead (status_of fault))
+        (λ bytes is j. (fault, judging_stops progress lead bytes (Broken fault) (breaks.stands bytes is) j, refl)) judging
 
     never : (fault : PcapFault) → IsBroken held progress.form progress.lead progress.reach fault → (fault ≡ Read → ⊥) → IsFaultAt progress.reach fault
     never fault (inl read) other = absurd (other read)
     never fault (inr breaks) other = breaks.place
 
-    go : (fault : PcapFault) → (fault ≡ Read → Rose before now) → IsBroken held progress.form progress.lead progress.reach fault → JudgesCapture {T = Unit {0}} held before now (Err (status_of fault))
+    go : (fault : PcapFault) → (fault ≡ Read → Rose before now) → IsBroken held progress.form progress.lead progress.reach fault → JudgesCapture {T = Unit {0}} lead held before now (Err (status_of fault))
     go Read rose cause = rose refl
     go (Included at) rose cause = found (Included at) cause (λ e. cc)
     go (Original at) rose cause = found (Original at) cause (λ e. cc)

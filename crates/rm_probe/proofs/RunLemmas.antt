@@ -6,257 +6,292 @@ use Rattle.std.proofs.lemmas.Bool.{cases_lt}
 use Rattle.std.specs.Str.Lines.{lines}
 use Rattle.rm_edge.specs.Outside.{Adds, AddsFront, Held, File}
 use Rattle.rm_model.specs.Journal.{Frame, Journal, passes, after_frames}
-use Rattle.rm_pdu.specs.Verdict.{Verdict, IsVerdict}
+use Rattle.rm_pdu.specs.Message.{Message}
+use Rattle.rm_pdu.specs.Verdict.{Verdict, too_long, malformed, other_version, not_request, message, IsVerdict}
 use Rattle.rm_probe.specs.Lines.{TimedDatagram, requests_from, requests_of, AreRequests, with_first}
 use Rattle.rm_pcap.specs.Records.{Stop}
 use Rattle.rm_pcap.specs.Progress.{Progress}
 use Rattle.rm_probe.specs.Events.{Event, Comes, Asks, is_by, frames_after, events, comings}
-use Rattle.rm_probe.specs.Text.{IsAnswer, AreLines, IsText, last_line}
-use Rattle.rm_probe.specs.Counted.{StandsFor}
-use Rattle.rm_probe.specs.Steps.{Advanced, Leaves}
-use Rattle.rm_probe.specs.declared.counts.Counts.{Counts}
+use Rattle.rm_probe.specs.Text.{reason_text, IsAnswered, dropped, replied, answer_line, IsAnswer, AreLines, IsText, last_line}
+use Rattle.rm_agent.specs.declared.settings.Settings.{Settings}
+use Rattle.rm_agent.specs.Answers.{reason_for}
+use Rattle.rm_agent.specs.Agent.{cells, objects}
+use Rattle.rm_agent.specs.Replies.{IsReply}
+use Rattle.rm_agent.specs.declared.answer.Reason.{Reason}
+use Rattle.rm_probe.specs.Probe.{settings_of, last_given, Stands}
+use Rattle.rm_probe.specs.Steps.{Advanced, Keeps, Leaves}
+use Rattle.rm_probe.specs.declared.probe.Probe.{Probe}
 use Rattle.rm_probe.proofs.JudgeLemmas.{SameJudged}
 
--- frames that come, and what follows them
-lines_after : (journal : Journal) (frames : List Frame) (es : List Event) (text : List ℕ) → AreLines (after_frames frames journal) es text → AreLines journal (comings frames ++ es) text
-unfolding AreLines
-lines_after journal [] es text h = h
-lines_after journal (f ∷ fs) es text h = lines_after (passes f ∷ journal) fs es text h
+-- each datagram is something, and has a reply if it isn't dropped
+pub record EveryDatagram : Type 0 where
+  pub verdict : (requests : Bool) (bytes : List ℕ) → (v : Verdict) × IsVerdict requests bytes v
+  pub reply : (settings : Settings) (journal : Journal) (now : ℕ) (datagram : List ℕ) (request : Message) → IsVerdict true datagram (message request)
+      → reason_for settings (message request) ≡ None → (reply : Message) × IsReply (cells settings journal now) objects request reply
 
--- Each datagram has an answer, so that any events have lines.
-abbrev pub EveryVerdict : Type 0
-EveryVerdict = (requests : Bool) (bytes : List ℕ) → (v : Verdict) × IsVerdict requests bytes v
+what_is_said : EveryDatagram → (settings : Settings) (journal : Journal) (moment : ℕ) (datagram : List ℕ) (v : Verdict) (reason : Option Reason) → IsVerdict true datagram v → reason_for settings v ≡ reason
+    → (text : List ℕ) × IsAnswered settings journal moment datagram text journal
+what_is_said every settings journal moment datagram v (Some reason) is why = (_, dropped v reason is why refl refl)
+what_is_said every settings journal moment datagram (message request) None is why =
+    let (reply, replies) = every.reply settings journal moment datagram request is why in
+    (_, replied request reply is why replies refl refl)
+what_is_said every settings journal moment datagram too_long None is why = absurd cc
+what_is_said every settings journal moment datagram (malformed at) None is why = absurd cc
+what_is_said every settings journal moment datagram (other_version z) None is why = absurd cc
+what_is_said every settings journal moment datagram (not_request tag) None is why = absurd cc
 
-an_answer : EveryVerdict → (journal : Journal) (number : ℕ) (request : TimedDatagram) → (line : List ℕ) × (after : Journal) × IsAnswer journal number request line after
+-- so each has a line
+a_line : EveryDatagram → (settings : Settings) (journal : Journal) (number : ℕ) (request : TimedDatagram) → (line : List ℕ) × IsAnswer settings journal number request line journal
 unfolding IsAnswer
-an_answer every journal number request = let v = every true request.datagram in (_, journal, (v.0, v.1, refl, refl))
+a_line every settings journal number request =
+    let (v, is) = every.verdict true request.datagram in
+    let (text, said) = what_is_said every settings journal request.moment request.datagram v (reason_for settings v) is refl in
+    (_, (text, said, refl))
 
-some_lines : EveryVerdict → (journal : Journal) (es : List Event) → (text : List ℕ) × AreLines journal es text
-unfolding AreLines
-some_lines every journal [] = ([], refl)
-some_lines every journal (Comes f ∷ es) = some_lines every (passes f ∷ journal) es
-some_lines every journal (Asks number request ∷ es) =
-    let a = an_answer every journal number request in
-    let r = some_lines every a.1 es in
-    (a.0 ++ r.0, (a.0, r.0, a.1, a.2, refl, r.1))
+-- an answer by what the probe was set to, which stays
+pub answers_by : (settings other : Settings) (probe probe' : Probe) (number : ℕ) (request : TimedDatagram) (line : List ℕ) → other ≡ settings
+    → ((journal : Journal) → Stands probe journal → (after : Journal) × IsAnswer other journal number request line after × Stands probe' after)
+    → (journal : Journal) → Stands probe journal → (after : Journal) × IsAnswer settings journal number request line after × Stands probe' after
+answers_by settings other probe probe' number request line same answers =
+    subst (λ (s : Settings). (journal : Journal) → Stands probe journal → (after : Journal) × IsAnswer s journal number request line after × Stands probe' after) same answers
 
--- The octets so far, and whatever may be written for what is left, may be written for all.
-pub record InRun (old new : Option (List ℕ)) (bytes : List ℕ) (frames : List Frame) (stop : Stop) (requests : List TimedDatagram) (progress : Progress) (number last : ℕ) (lines_left : List ℕ) (counts : Counts) : Type 0 where
-  pub sofar : List ℕ
-  pub journal : Journal
-  pub left : List Frame
-  pub asked : List TimedDatagram
-  pub records_left : Leaves progress bytes left stop
-  pub requests_left : requests_from number last (lines lines_left) ≡ Ok asked
-  pub stands : StandsFor counts journal
-  pub added : Adds old new sofar
-  pub goes : (text : List ℕ) → AreLines journal (events number left asked) text → AreLines [] (events 1 frames requests) (sofar ++ text)
-  pub frame_count : progress.reach.count + length left ≡ length frames
-  pub request_count : number + length asked ≡ 1 + length requests
+module _ (settings : Settings) where
+  -- frames that come, and what follows them
+  lines_after : (journal : Journal) (frames : List Frame) (es : List Event) (text : List ℕ) → AreLines settings (after_frames frames journal) es text → AreLines settings journal (comings frames ++ es) text
+  unfolding AreLines
+  lines_after journal [] es text h = h
+  lines_after journal (f ∷ fs) es text h = lines_after (passes f ∷ journal) fs es text h
 
-adds_then : (a b c : Option (List ℕ)) (x y : List ℕ) → Adds a b x → Adds b c y → Adds a c (x ++ y)
-adds_then None b c x y p q = tt
-adds_then (Some old) b c x y p q =
-    let e : Adds (Some (old ++ x)) c y = rw p at q in
-    e ∙ ap (λ (t : List ℕ). Some t) (append_assoc old x y)
+  some_lines : EveryDatagram → (journal : Journal) (es : List Event) → (text : List ℕ) × AreLines settings journal es text
+  unfolding AreLines
+  some_lines every journal [] = ([], refl)
+  some_lines every journal (Comes f ∷ es) = some_lines every (passes f ∷ journal) es
+  some_lines every journal (Asks number request ∷ es) =
+      let a = a_line every settings journal number request in
+      let r = some_lines every journal es in
+      (a.0 ++ r.0, (a.0, r.0, journal, a.1, refl, r.1))
 
-with_first_ok : (request : TimedDatagram) (o : Result (List TimedDatagram) ℕ) (asked : List TimedDatagram) → with_first request o ≡ Ok asked → (more : List TimedDatagram) × (o ≡ Ok more) × (asked ≡ request ∷ more)
-with_first_ok request (Ok more) asked e = (more, refl, cc)
-with_first_ok request (Err n) asked e = absurd cc
+  -- The octets so far, and whatever may be written for what is left, may be written for all.
+  pub record InRun (old new : Option (List ℕ)) (bytes : List ℕ) (frames : List Frame) (stop : Stop) (requests : List TimedDatagram) (progress : Progress) (number last : ℕ) (lines_left : List ℕ) (probe : Probe) : Type 0 where
+    pub sofar : List ℕ
+    pub journal : Journal
+    pub left : List Frame
+    pub asked : List TimedDatagram
+    pub records_left : Leaves progress bytes left stop
+    pub requests_left : requests_from number last (lines lines_left) ≡ Ok asked
+    pub stands : Stands probe journal
+    pub added : Adds old new sofar
+    pub goes : (text : List ℕ) → AreLines settings journal (events number left asked) text → AreLines settings [] (events 1 frames requests) (sofar ++ text)
+    pub frame_count : progress.reach.count + length left ≡ length frames
+    pub request_count : number + length asked ≡ 1 + length requests
 
--- a line more, before it is put
-pub record NextLine (old new : Option (List ℕ)) (bytes : List ℕ) (frames : List Frame) (stop : Stop) (requests : List TimedDatagram) (progress : Progress) (number last : ℕ) (lines_left : List ℕ) (counts : Counts) (line : List ℕ) : Type 0 where
-  pub sofar : List ℕ
-  pub journal : Journal
-  pub left : List Frame
-  pub asked : List TimedDatagram
-  pub records_left : Leaves progress bytes left stop
-  pub requests_left : requests_from number last (lines lines_left) ≡ Ok asked
-  pub stands : StandsFor counts journal
-  pub added : Adds old new sofar
-  pub goes : (text : List ℕ) → AreLines journal (events number left asked) text → AreLines [] (events 1 frames requests) ((sofar ++ line) ++ text)
-  pub frame_count : progress.reach.count + length left ≡ length frames
-  pub request_count : number + length asked ≡ 1 + length requests
+  adds_then : (a b c : Option (List ℕ)) (x y : List ℕ) → Adds a b x → Adds b c y → Adds a c (x ++ y)
+  adds_then None b c x y p q = tt
+  adds_then (Some old) b c x y p q =
+      let e : Adds (Some (old ++ x)) c y = rw p at q in
+      e ∙ ap (λ (t : List ℕ). Some t) (append_assoc old x y)
 
-pub next_line : (old new : Option (List ℕ)) (bytes : List ℕ) (frames : List Frame) (stop : Stop) (requests : List TimedDatagram) (progress : Progress) (number last : ℕ) (lines_left : List ℕ) (counts : Counts)
-    (request : TimedDatagram) (number' last' : ℕ) (lines_left' : List ℕ) (progress' : Progress) (counts' counts'' : Counts) (line : List ℕ)
-    → (r : InRun old new bytes frames stop requests progress number last lines_left counts)
-    → requests_from number last (lines lines_left) ≡ with_first request (requests_from number' last' (lines lines_left')) → number' ≡ number + 1
-    → ((left : List Frame) (journal : Journal) → Leaves progress bytes left stop → StandsFor counts journal → Advanced request.moment bytes progress' counts' progress.reach.count left stop journal)
-    → ((journal : Journal) → StandsFor counts' journal → (after : Journal) × IsAnswer journal number request line after × StandsFor counts'' after)
-    → NextLine old new bytes frames stop requests progress' number' last' lines_left' counts'' line
-unfolding AreLines events
-next_line old new bytes frames stop requests progress number last lines_left counts request number' last' lines_left' progress' counts' counts'' line r takes one advances answers =
-    let w = with_first_ok request (requests_from number' last' (lines lines_left')) r.asked (sym takes ∙ r.requests_left) in
-    let a = advances r.left r.journal r.records_left r.stands in
-    let j : Journal = after_frames (take_while (is_by request.moment) r.left) r.journal in
-    let s = answers j a.stands in
-    record {
-      sofar = r.sofar;
-      journal = s.0;
-      left = frames_after request.moment r.left;
-      asked = w.0;
-      records_left = a.left;
-      requests_left = w.1;
-      stands = s.2;
-      added = r.added;
-      goes = λ text h.
-          let here : AreLines j (Asks number request ∷ events (number + 1) (frames_after request.moment r.left) w.0) (line ++ text) =
-          (line, text, s.0, s.1, refl, subst (λ (n : ℕ). AreLines s.0 (events n (frames_after request.moment r.left) w.0) text) one h) in
-          let before : AreLines r.journal (events number r.left (request ∷ w.0)) (line ++ text) =
-          lines_after r.journal (take_while (is_by request.moment) r.left) (Asks number request ∷ events (number + 1) (frames_after request.moment r.left) w.0) (line ++ text) here in
-          let all = r.goes (line ++ text) (subst (λ (rs : List TimedDatagram). AreLines r.journal (events number r.left rs) (line ++ text)) (sym w.2) before) in
-          subst (λ (t : List ℕ). AreLines [] (events 1 frames requests) t) (sym (append_assoc r.sofar line text)) all;
-      frame_count = a.count ∙ r.frame_count;
-      request_count = omega (arith, one, r.request_count, ap length w.2);
-    }
+  with_first_ok : (request : TimedDatagram) (o : Result (List TimedDatagram) ℕ) (asked : List TimedDatagram) → with_first request o ≡ Ok asked → (more : List TimedDatagram) × (o ≡ Ok more) × (asked ≡ request ∷ more)
+  with_first_ok request (Ok more) asked e = (more, refl, cc)
+  with_first_ok request (Err n) asked e = absurd cc
 
--- the line is put
-pub line_put : (old new next : Option (List ℕ)) (bytes : List ℕ) (frames : List Frame) (stop : Stop) (requests : List TimedDatagram) (progress : Progress) (number last : ℕ) (lines_left : List ℕ) (counts : Counts) (line : List ℕ)
-    → NextLine old new bytes frames stop requests progress number last lines_left counts line → Adds new next line
-    → InRun old next bytes frames stop requests progress number last lines_left counts
-line_put old new next bytes frames stop requests progress number last lines_left counts line n put =
-    record {
-      sofar = n.sofar ++ line;
-      journal = n.journal;
-      left = n.left;
-      asked = n.asked;
-      records_left = n.records_left;
-      requests_left = n.requests_left;
-      stands = n.stands;
-      added = adds_then old new next n.sofar line n.added put;
-      goes = n.goes;
-      frame_count = n.frame_count;
-      request_count = n.request_count;
-    }
+  -- a line more, before it is put
+  pub record NextLine (old new : Option (List ℕ)) (bytes : List ℕ) (frames : List Frame) (stop : Stop) (requests : List TimedDatagram) (progress : Progress) (number last : ℕ) (lines_left : List ℕ) (probe : Probe) (line : List ℕ) : Type 0 where
+    pub sofar : List ℕ
+    pub journal : Journal
+    pub left : List Frame
+    pub asked : List TimedDatagram
+    pub records_left : Leaves progress bytes left stop
+    pub requests_left : requests_from number last (lines lines_left) ≡ Ok asked
+    pub stands : Stands probe journal
+    pub added : Adds old new sofar
+    pub goes : (text : List ℕ) → AreLines settings journal (events number left asked) text → AreLines settings [] (events 1 frames requests) ((sofar ++ line) ++ text)
+    pub frame_count : progress.reach.count + length left ≡ length frames
+    pub request_count : number + length asked ≡ 1 + length requests
 
-front_of : (k : ℕ) (xs ys zs : List ℕ) → take (length xs + min k (length ys)) (xs ++ (ys ++ zs)) ≡ xs ++ take k ys
-front_of k xs ys zs =
-    take-append-add xs (ys ++ zs) (min k (length ys)) ∙ ap (λ (t : List ℕ). xs ++ t) (take-append-le (min k (length ys)) ys zs (omega arith) ∙ short k ys)
-  where
-    short : (k : ℕ) (ys : List ℕ) → take (min k (length ys)) ys ≡ take k ys
-    short k ys = elim (cases_lt k (length ys)) [
-      | inl lt ↦ let e : min k (length ys) ≡ k = omega arith in rw e refl
-      | inr le ↦ let e : min k (length ys) ≡ length ys = omega arith in rw (e, take_all k ys le) (take-length ys)
-    ]
+  pub next_line : (old new : Option (List ℕ)) (bytes : List ℕ) (frames : List Frame) (stop : Stop) (requests : List TimedDatagram) (progress : Progress) (number last : ℕ) (lines_left : List ℕ) (probe : Probe)
+      (request : TimedDatagram) (number' last' : ℕ) (lines_left' : List ℕ) (progress' : Progress) (probe' probe'' : Probe) (line : List ℕ)
+      → (r : InRun old new bytes frames stop requests progress number last lines_left probe)
+      → requests_from number last (lines lines_left) ≡ with_first request (requests_from number' last' (lines lines_left')) → number' ≡ number + 1
+      → ((left : List Frame) (journal : Journal) → Leaves progress bytes left stop → Stands probe journal → Advanced request.moment bytes progress' probe' progress.reach.count left stop journal)
+      → ((journal : Journal) → Stands probe' journal → (after : Journal) × IsAnswer settings journal number request line after × Stands probe'' after)
+      → NextLine old new bytes frames stop requests progress' number' last' lines_left' probe'' line
+  unfolding AreLines events
+  next_line old new bytes frames stop requests progress number last lines_left probe request number' last' lines_left' progress' probe' probe'' line r takes one advances answers =
+      let w = with_first_ok request (requests_from number' last' (lines lines_left')) r.asked (sym takes ∙ r.requests_left) in
+      let a = advances r.left r.journal r.records_left r.stands in
+      let j : Journal = after_frames (take_while (is_by request.moment) r.left) r.journal in
+      let s = answers j a.stands in
+      record {
+        sofar = r.sofar;
+        journal = s.0;
+        left = frames_after request.moment r.left;
+        asked = w.0;
+        records_left = a.left;
+        requests_left = w.1;
+        stands = s.2;
+        added = r.added;
+        goes = λ text h.
+            let here : AreLines settings j (Asks number request ∷ events (number + 1) (frames_after request.moment r.left) w.0) (line ++ text) =
+            (line, text, s.0, s.1, refl, subst (λ (n : ℕ). AreLines settings s.0 (events n (frames_after request.moment r.left) w.0) text) one h) in
+            let before : AreLines settings r.journal (events number r.left (request ∷ w.0)) (line ++ text) =
+            lines_after r.journal (take_while (is_by request.moment) r.left) (Asks number request ∷ events (number + 1) (frames_after request.moment r.left) w.0) (line ++ text) here in
+            let all = r.goes (line ++ text) (subst (λ (rs : List TimedDatagram). AreLines settings r.journal (events number r.left rs) (line ++ text)) (sym w.2) before) in
+            subst (λ (t : List ℕ). AreLines settings [] (events 1 frames requests) t) (sym (append_assoc r.sofar line text)) all;
+        frame_count = a.count ∙ r.frame_count;
+        request_count = omega (arith, one, r.request_count, ap length w.2);
+      }
 
--- the line is put in part
-pub line_cut : EveryVerdict → (old new next : Option (List ℕ)) (bytes : List ℕ) (frames : List Frame) (stop : Stop) (requests : List TimedDatagram) (progress : Progress) (number last : ℕ) (lines_left : List ℕ) (counts : Counts) (line : List ℕ)
-    → NextLine old new bytes frames stop requests progress number last lines_left counts line → AddsFront new next line
-    → (text : List ℕ) × IsText frames stop requests text × AddsFront old next text
-line_cut every old new next bytes frames stop requests progress number last lines_left counts line n put =
-    let m = some_lines every n.journal (events number n.left n.asked) in
-    let e = last_line stop (length frames) (length requests) in
-    let text : List ℕ = ((n.sofar ++ line) ++ m.0) ++ e in
-    let parts : text ≡ n.sofar ++ (line ++ (m.0 ++ e)) = simp append_assoc in (
-      text,
-      record { lines = (n.sofar ++ line) ++ m.0; are_lines = n.goes m.0 m.1; whole = refl },
-      (
-        length n.sofar + min put.0 (length line),
-        rw (parts, front_of put.0 n.sofar line (m.0 ++ e)) (adds_then old new next n.sofar (take put.0 line) n.added put.1),
-      ),
-    )
+  -- the line is put
+  pub line_put : (old new next : Option (List ℕ)) (bytes : List ℕ) (frames : List Frame) (stop : Stop) (requests : List TimedDatagram) (progress : Progress) (number last : ℕ) (lines_left : List ℕ) (probe : Probe) (line : List ℕ)
+      → NextLine old new bytes frames stop requests progress number last lines_left probe line → Adds new next line
+      → InRun old next bytes frames stop requests progress number last lines_left probe
+  line_put old new next bytes frames stop requests progress number last lines_left probe line n put =
+      record {
+        sofar = n.sofar ++ line;
+        journal = n.journal;
+        left = n.left;
+        asked = n.asked;
+        records_left = n.records_left;
+        requests_left = n.requests_left;
+        stands = n.stands;
+        added = adds_then old new next n.sofar line n.added put;
+        goes = n.goes;
+        frame_count = n.frame_count;
+        request_count = n.request_count;
+      }
 
-no_lines : (journal : Journal) (frames : List Frame) → AreLines journal (comings frames) []
-unfolding AreLines
-no_lines journal [] = refl
-no_lines journal (f ∷ fs) = no_lines (passes f ∷ journal) fs
+  front_of : (k : ℕ) (xs ys zs : List ℕ) → take (length xs + min k (length ys)) (xs ++ (ys ++ zs)) ≡ xs ++ take k ys
+  front_of k xs ys zs =
+      take-append-add xs (ys ++ zs) (min k (length ys)) ∙ ap (λ (t : List ℕ). xs ++ t) (take-append-le (min k (length ys)) ys zs (omega arith) ∙ short k ys)
+    where
+      short : (k : ℕ) (ys : List ℕ) → take (min k (length ys)) ys ≡ take k ys
+      short k ys = elim (cases_lt k (length ys)) [
+        | inl lt ↦ let e : min k (length ys) ≡ k = omega arith in rw e refl
+        | inr le ↦ let e : min k (length ys) ≡ length ys = omega arith in rw (e, take_all k ys le) (take-length ys)
+      ]
 
--- the lines of all requests are put
-pub record AllPut (old new : Option (List ℕ)) (frames : List Frame) (requests : List TimedDatagram) (number : ℕ) : Type 0 where
-  pub lines : List ℕ
-  pub are_lines : AreLines [] (events 1 frames requests) lines
-  pub added : Adds old new lines
-  pub request_count : number ≡ 1 + length requests
+  -- the line is put in part
+  pub line_cut : EveryDatagram → (old new next : Option (List ℕ)) (bytes : List ℕ) (frames : List Frame) (stop : Stop) (requests : List TimedDatagram) (progress : Progress) (number last : ℕ) (lines_left : List ℕ) (probe : Probe) (line : List ℕ)
+      → NextLine old new bytes frames stop requests progress number last lines_left probe line → AddsFront new next line
+      → (text : List ℕ) × IsText settings frames stop requests text × AddsFront old next text
+  line_cut every old new next bytes frames stop requests progress number last lines_left probe line n put =
+      let m = some_lines every n.journal (events number n.left n.asked) in
+      let e = last_line stop (length frames) (length requests) in
+      let text : List ℕ = ((n.sofar ++ line) ++ m.0) ++ e in
+      let parts : text ≡ n.sofar ++ (line ++ (m.0 ++ e)) = simp append_assoc in (
+        text,
+        record { lines = (n.sofar ++ line) ++ m.0; are_lines = n.goes m.0 m.1; whole = refl },
+        (
+          length n.sofar + min put.0 (length line),
+          rw (parts, front_of put.0 n.sofar line (m.0 ++ e)) (adds_then old new next n.sofar (take put.0 line) n.added put.1),
+        ),
+      )
 
-pub all_put : (old new : Option (List ℕ)) (bytes : List ℕ) (frames : List Frame) (stop : Stop) (requests : List TimedDatagram) (progress : Progress) (number last : ℕ) (lines_left : List ℕ) (counts : Counts)
-    → InRun old new bytes frames stop requests progress number last lines_left counts
-    → requests_from number last (lines lines_left) ≡ Ok [] → AllPut old new frames requests number
-unfolding events
-all_put old new bytes frames stop requests progress number last lines_left counts r none =
-    let asked : r.asked ≡ [] = let e = sym none ∙ r.requests_left in cc in
-    let here : AreLines r.journal (events number r.left r.asked) [] = rw asked (no_lines r.journal r.left) in
-    record {
-      lines = r.sofar ++ [];
-      are_lines = r.goes [] here;
-      added = rw append-nil r.added;
-      request_count = omega (arith, r.request_count, ap length asked);
-    }
+  no_lines : (journal : Journal) (frames : List Frame) → AreLines settings journal (comings frames) []
+  unfolding AreLines
+  no_lines journal [] = refl
+  no_lines journal (f ∷ fs) = no_lines (passes f ∷ journal) fs
 
--- the last line is put
-pub text_put : (old new next : Option (List ℕ)) (frames : List Frame) (stop : Stop) (requests : List TimedDatagram) (taken number : ℕ) (line : List ℕ)
-    → AllPut old new frames requests number → taken ≡ length frames → line ≡ last_line stop taken (number - 1) → Adds new next line
-    → (text : List ℕ) × IsText frames stop requests text × Adds old next text
-text_put old new next frames stop requests taken number line a all is put =
-    let n : number - 1 ≡ length requests = omega (arith, a.request_count) in (
-      a.lines ++ line,
-      record { lines = a.lines; are_lines = a.are_lines; whole = ap (λ (t : List ℕ). a.lines ++ t) (is ∙ ap (λ (k : ℕ). last_line stop taken k) n ∙ ap (λ (k : ℕ). last_line stop k (length requests)) all) },
-      adds_then old new next a.lines line a.added put,
-    )
+  -- the lines of all requests are put
+  pub record AllPut (old new : Option (List ℕ)) (frames : List Frame) (requests : List TimedDatagram) (number : ℕ) : Type 0 where
+    pub lines : List ℕ
+    pub are_lines : AreLines settings [] (events 1 frames requests) lines
+    pub added : Adds old new lines
+    pub request_count : number ≡ 1 + length requests
 
--- the last line is put in part
-pub text_cut : (old new next : Option (List ℕ)) (frames : List Frame) (stop : Stop) (requests : List TimedDatagram) (taken number : ℕ) (line : List ℕ)
-    → AllPut old new frames requests number → taken ≡ length frames → line ≡ last_line stop taken (number - 1) → AddsFront new next line
-    → (text : List ℕ) × IsText frames stop requests text × AddsFront old next text
-text_cut old new next frames stop requests taken number line a all is put =
-    let n : number - 1 ≡ length requests = omega (arith, a.request_count) in
-    let parts : a.lines ++ line ≡ a.lines ++ (line ++ []) = ap (λ (t : List ℕ). a.lines ++ t) (sym (append-nil line)) in (
-      a.lines ++ line,
-      record { lines = a.lines; are_lines = a.are_lines; whole = ap (λ (t : List ℕ). a.lines ++ t) (is ∙ ap (λ (k : ℕ). last_line stop taken k) n ∙ ap (λ (k : ℕ). last_line stop k (length requests)) all) },
-      (
-        length a.lines + min put.0 (length line),
-        rw (parts, front_of put.0 a.lines line []) (adds_then old new next a.lines (take put.0 line) a.added put.1),
-      ),
-    )
+  pub all_put : (old new : Option (List ℕ)) (bytes : List ℕ) (frames : List Frame) (stop : Stop) (requests : List TimedDatagram) (progress : Progress) (number last : ℕ) (lines_left : List ℕ) (probe : Probe)
+      → InRun old new bytes frames stop requests progress number last lines_left probe
+      → requests_from number last (lines lines_left) ≡ Ok [] → AllPut old new frames requests number
+  unfolding events
+  all_put old new bytes frames stop requests progress number last lines_left probe r none =
+      let asked : r.asked ≡ [] = let e = sym none ∙ r.requests_left in cc in
+      let here : AreLines settings r.journal (events number r.left r.asked) [] = rw asked (no_lines r.journal r.left) in
+      record {
+        lines = r.sofar ++ [];
+        are_lines = r.goes [] here;
+        added = rw append-nil r.added;
+        request_count = omega (arith, r.request_count, ap length asked);
+      }
 
--- a run that stops after so many lines has written a front
-pub text_stopped : EveryVerdict → (old new : Option (List ℕ)) (bytes : List ℕ) (frames : List Frame) (stop : Stop) (requests : List TimedDatagram) (progress : Progress) (number last : ℕ) (lines_left : List ℕ) (counts : Counts)
-    → InRun old new bytes frames stop requests progress number last lines_left counts
-    → (text : List ℕ) × IsText frames stop requests text × AddsFront old new text
-text_stopped every old new bytes frames stop requests progress number last lines_left counts r =
-    let m = some_lines every r.journal (events number r.left r.asked) in
-    let e = last_line stop (length frames) (length requests) in (
-      (r.sofar ++ m.0) ++ e,
-      record { lines = r.sofar ++ m.0; are_lines = r.goes m.0 m.1; whole = refl },
-      (length r.sofar, rw (append_assoc r.sofar m.0 e, take-append-le (length r.sofar) r.sofar (m.0 ++ e) (omega arith), take-length r.sofar) r.added),
-    )
+  -- the last line is put
+  pub text_put : (old new next : Option (List ℕ)) (frames : List Frame) (stop : Stop) (requests : List TimedDatagram) (taken number : ℕ) (line : List ℕ)
+      → AllPut old new frames requests number → taken ≡ length frames → line ≡ last_line stop taken (number - 1) → Adds new next line
+      → (text : List ℕ) × IsText settings frames stop requests text × Adds old next text
+  text_put old new next frames stop requests taken number line a all is put =
+      let n : number - 1 ≡ length requests = omega (arith, a.request_count) in (
+        a.lines ++ line,
+        record { lines = a.lines; are_lines = a.are_lines; whole = ap (λ (t : List ℕ). a.lines ++ t) (is ∙ ap (λ (k : ℕ). last_line stop taken k) n ∙ ap (λ (k : ℕ). last_line stop k (length requests)) all) },
+        adds_then old new next a.lines line a.added put,
+      )
 
-adds_none : (o : Option (List ℕ)) → Adds o o []
-adds_none None = tt
-adds_none (Some t) = ap (λ (x : List ℕ). Some x) (sym (append-nil t))
+  -- the last line is put in part
+  pub text_cut : (old new next : Option (List ℕ)) (frames : List Frame) (stop : Stop) (requests : List TimedDatagram) (taken number : ℕ) (line : List ℕ)
+      → AllPut old new frames requests number → taken ≡ length frames → line ≡ last_line stop taken (number - 1) → AddsFront new next line
+      → (text : List ℕ) × IsText settings frames stop requests text × AddsFront old next text
+  text_cut old new next frames stop requests taken number line a all is put =
+      let n : number - 1 ≡ length requests = omega (arith, a.request_count) in
+      let parts : a.lines ++ line ≡ a.lines ++ (line ++ []) = ap (λ (t : List ℕ). a.lines ++ t) (sym (append-nil line)) in (
+        a.lines ++ line,
+        record { lines = a.lines; are_lines = a.are_lines; whole = ap (λ (t : List ℕ). a.lines ++ t) (is ∙ ap (λ (k : ℕ). last_line stop taken k) n ∙ ap (λ (k : ℕ). last_line stop k (length requests)) all) },
+        (
+          length a.lines + min put.0 (length line),
+          rw (parts, front_of put.0 a.lines line []) (adds_then old new next a.lines (take put.0 line) a.added put.1),
+        ),
+      )
 
--- a run that has written nothing has written a front
-pub text_none : EveryVerdict → (old : Option (List ℕ)) (frames : List Frame) (stop : Stop) (requests : List TimedDatagram) → (text : List ℕ) × IsText frames stop requests text × AddsFront old old text
-text_none every old frames stop requests =
-    let m = some_lines every [] (events 1 frames requests) in
-    (m.0 ++ last_line stop (length frames) (length requests), record { lines = m.0; are_lines = m.1; whole = refl }, (0, adds_none old))
+  -- a run that stops after so many lines has written a front
+  pub text_stopped : EveryDatagram → (old new : Option (List ℕ)) (bytes : List ℕ) (frames : List Frame) (stop : Stop) (requests : List TimedDatagram) (progress : Progress) (number last : ℕ) (lines_left : List ℕ) (probe : Probe)
+      → InRun old new bytes frames stop requests progress number last lines_left probe
+      → (text : List ℕ) × IsText settings frames stop requests text × AddsFront old new text
+  text_stopped every old new bytes frames stop requests progress number last lines_left probe r =
+      let m = some_lines every r.journal (events number r.left r.asked) in
+      let e = last_line stop (length frames) (length requests) in (
+        (r.sofar ++ m.0) ++ e,
+        record { lines = r.sofar ++ m.0; are_lines = r.goes m.0 m.1; whole = refl },
+        (length r.sofar, rw (append_assoc r.sofar m.0 e, take-append-le (length r.sofar) r.sofar (m.0 ++ e) (omega arith), take-length r.sofar) r.added),
+      )
 
-pub run_begin : (old : Option (List ℕ)) (bytes : List ℕ) (frames : List Frame) (stop : Stop) (asked : List TimedDatagram) (progress : Progress) (requests : List ℕ) (counts : Counts)
-    → Leaves progress bytes frames stop → progress.reach.count ≡ 0 → AreRequests requests asked → StandsFor counts []
-    → InRun old old bytes frames stop asked progress 1 0 requests counts
-run_begin old bytes frames stop asked progress requests counts left none are stands =
-    record {
-      sofar = [];
-      journal = [];
-      left = frames;
-      asked = asked;
-      records_left = left;
-      requests_left = are.are;
-      stands = stands;
-      added = adds_none old;
-      goes = λ text h. h;
-      frame_count = omega (arith, none);
-      request_count = omega arith;
-    }
+  adds_none : (o : Option (List ℕ)) → Adds o o []
+  adds_none None = tt
+  adds_none (Some t) = ap (λ (x : List ℕ). Some x) (sym (append-nil t))
 
--- how far a run is
-pub record Running {F K : Type 0} (held : F → List ℕ → Held) (reads : F → List ℕ → ℕ) (shelf shelf' : F) (name : List ℕ) (content : K → Option (List ℕ)) (writes : K → ℕ) (first now : K)
-    (requests : List ℕ) (begun progress : Progress) (number last : ℕ) (lines_left : List ℕ) (counts : Counts) : Type 0 where
-  pub same : (each : List ℕ) → held shelf' each ≡ held shelf each
-  pub reads_later : (each : List ℕ) → reads shelf each ≤ reads shelf' each
-  pub later : writes first ≤ writes now
-  pub few_lines : number + length lines_left < 2 ^ 64
-  pub first_number : 1 ≤ number
-  pub judged : SameJudged (requests_from number last (lines lines_left)) (requests_of requests)
-  pub run : (bytes : List ℕ) (frames : List Frame) (stop : Stop) (asked : List TimedDatagram) → held shelf name ≡ File bytes → Leaves begun bytes frames stop → begun.reach.count ≡ 0
-      → AreRequests requests asked → InRun (content first) (content now) bytes frames stop asked progress number last lines_left counts
+  -- a run that has written nothing has written a front
+  pub text_none : EveryDatagram → (old : Option (List ℕ)) (frames : List Frame) (stop : Stop) (requests : List TimedDatagram) → (text : List ℕ) × IsText settings frames stop requests text × AddsFront old old text
+  text_none every old frames stop requests =
+      let m = some_lines every [] (events 1 frames requests) in
+      (m.0 ++ last_line stop (length frames) (length requests), record { lines = m.0; are_lines = m.1; whole = refl }, (0, adds_none old))
+
+  pub run_begin : (old : Option (List ℕ)) (bytes : List ℕ) (frames : List Frame) (stop : Stop) (asked : List TimedDatagram) (progress : Progress) (requests : List ℕ) (probe : Probe)
+      → Leaves progress bytes frames stop → progress.reach.count ≡ 0 → AreRequests requests asked → Stands probe []
+      → InRun old old bytes frames stop asked progress 1 0 requests probe
+  run_begin old bytes frames stop asked progress requests probe left none are stands =
+      record {
+        sofar = [];
+        journal = [];
+        left = frames;
+        asked = asked;
+        records_left = left;
+        requests_left = are.are;
+        stands = stands;
+        added = adds_none old;
+        goes = λ text h. h;
+        frame_count = omega (arith, none);
+        request_count = omega arith;
+      }
+
+  -- how far a run is
+  pub record Running {F K : Type 0} (held : F → List ℕ → Held) (reads : F → List ℕ → ℕ) (shelf shelf' : F) (name : List ℕ) (content : K → Option (List ℕ)) (writes : K → ℕ) (first now : K)
+      (requests : List ℕ) (begun progress : Progress) (number last : ℕ) (lines_left : List ℕ) (probe : Probe) : Type 0 where
+    pub same : (each : List ℕ) → held shelf' each ≡ held shelf each
+    pub reads_later : (each : List ℕ) → reads shelf each ≤ reads shelf' each
+    pub later : writes first ≤ writes now
+    pub few_lines : number + length lines_left < 2 ^ 64
+    pub first_number : 1 ≤ number
+    pub judged : SameJudged (requests_from number last (lines lines_left)) (requests_of requests)
+    pub settings_same : settings_of probe ≡ settings
+    pub given : last_given probe ≤ last
+    pub in_range : last < 2 ^ 32
+    pub keeps : Keeps (last_given probe) probe progress
+    pub run : (bytes : List ℕ) (frames : List Frame) (stop : Stop) (asked : List TimedDatagram) → held shelf name ≡ File bytes → Leaves begun bytes frames stop → begun.reach.count ≡ 0
+        → AreRequests requests asked → InRun (content first) (content now) bytes frames stop asked progress number last lines_left probe

@@ -7,23 +7,19 @@ use Rattle.rm_pcap.specs.declared.fault.PcapFault.TheVariants.{Magic, Version, L
 use Rattle.rm_probe.specs.declared.status.Status.{Status}
 use Rattle.rm_probe.specs.declared.status.Status.TheVariants.{BadCapture, ReadFault, NoMemory, TooLong}
 
--- the moment of the first frame, in milliseconds
-abbrev pub lead : ℕ
-lead = 1000
-
 -- the records stop at the end of the file, or where it cuts one short
 abbrev pub IsFaultless : Stop → Type 0
 IsFaultless (Broken fault) = ⊥
 IsFaultless stop = ⊤
 
--- the octets are a capture with these frames, and its records stop so
-pub record IsCapture (bytes : List ℕ) (frames : List Frame) (stop : Stop) : Type 0 where
+-- the octets are a capture with these frames, the first one at the moment `lead`, and its records stop so
+pub record IsCapture (lead : ℕ) (bytes : List ℕ) (frames : List Frame) (stop : Stop) : Type 0 where
   pub reads : ReadsAs lead bytes frames stop
   pub faultless : IsFaultless stop
 
 -- the octets are a capture
-abbrev pub IsCaptureFile : List ℕ → Type 0
-IsCaptureFile bytes = (frames : List Frame) × (stop : Stop) × IsCapture bytes frames stop
+abbrev pub IsCaptureFile : ℕ → List ℕ → Type 0
+IsCaptureFile lead bytes = (frames : List Frame) × (stop : Stop) × IsCapture lead bytes frames stop
 
 -- how a run ends by a fault of its capture: at the offset that breaks a rule, or by one record too many
 abbrev pub status_of : PcapFault → Status
@@ -38,9 +34,9 @@ status_of Read = ReadFault
 status_of OutOfMemory = NoMemory
 
 -- the octets aren't a capture, and their first fault is this one
-abbrev pub IsBroken : PcapFault → List ℕ → Type 0
-IsBroken fault bytes = (frames : List Frame) × ReadsAs lead bytes frames (Broken fault)
+abbrev pub IsBroken : ℕ → PcapFault → List ℕ → Type 0
+IsBroken lead fault bytes = (frames : List Frame) × ReadsAs lead bytes frames (Broken fault)
 
 -- the octets aren't a capture, and for their first fault a run ends so
-abbrev pub CallsFor : Status → List ℕ → Type 0
-CallsFor status bytes = (fault : PcapFault) × IsBroken fault bytes × (status ≡ status_of fault)
+abbrev pub CallsFor : ℕ → Status → List ℕ → Type 0
+CallsFor lead status bytes = (fault : PcapFault) × IsBroken lead fault bytes × (status ≡ status_of fault)

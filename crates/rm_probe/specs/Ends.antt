@@ -9,7 +9,8 @@ use Rattle.rm_probe.specs.Whole.{IsLong}
 use Rattle.rm_probe.specs.Capture.{IsCapture, IsCaptureFile, IsBroken, CallsFor, status_of}
 use Rattle.rm_probe.specs.Lines.{TimedDatagram, requests_of, AreRequests, IsRequestFile}
 use Rattle.rm_probe.specs.Text.{IsText}
-use Rattle.rm_probe.specs.declared.entry.Judged.{Judged}
+use Rattle.rm_agent.specs.declared.settings.Settings.{Settings}
+use Rattle.rm_probe.specs.declared.judging.Judged.{Judged}
 use Rattle.rm_probe.specs.declared.status.Status.{Status}
 use Rattle.rm_probe.specs.declared.status.Status.TheVariants.{Done, Usage, BadCapture, BadRequests, ReadFault, WriteFault, NoMemory, LinkFault, TooLong}
 
@@ -33,40 +34,40 @@ abbrev pub IsWrongAt : ℕ → List ℕ → Type 0
 IsWrongAt line bytes = (length bytes ≤ 16777216) × (requests_of bytes ≡ Err line)
 
 -- both files are of the form, and P holds of all their frames, of how the records stop, and of all datagrams
-abbrev pub OfBoth : Held → Held → (List Frame → Stop → List TimedDatagram → Type 0) → Type 0
-OfBoth capture requests P = OfFile capture IsCaptureFile × OfFile requests IsRequestFile
+abbrev pub OfBoth : ℕ → Held → Held → (List Frame → Stop → List TimedDatagram → Type 0) → Type 0
+OfBoth lead capture requests P = OfFile capture (IsCaptureFile lead) × OfFile requests IsRequestFile
     × OfFile capture (λ bytes. OfFile requests (λ lines.
-    (frames : List Frame) (stop : Stop) (asked : List TimedDatagram) → IsCapture bytes frames stop → AreRequests lines asked → P frames stop asked))
+    (frames : List Frame) (stop : Stop) (asked : List TimedDatagram) → IsCapture lead bytes frames stop → AreRequests lines asked → P frames stop asked))
 
 -- the octets added are a text of both files
-abbrev pub WritesText : Held → Held → Option (List ℕ) → Option (List ℕ) → Type 0
-WritesText capture requests old new =
-    OfBoth capture requests (λ frames stop asked. (text : List ℕ) × IsText frames stop asked text × Adds old new text)
+abbrev pub WritesText : Settings → ℕ → Held → Held → Option (List ℕ) → Option (List ℕ) → Type 0
+WritesText settings lead capture requests old new =
+    OfBoth lead capture requests (λ frames stop asked. (text : List ℕ) × IsText settings frames stop asked text × Adds old new text)
 
 -- the octets added are a front of such a text
-abbrev pub WritesFront : Held → Held → Option (List ℕ) → Option (List ℕ) → Type 0
-WritesFront capture requests old new =
-    OfBoth capture requests (λ frames stop asked. (text : List ℕ) × IsText frames stop asked text × AddsFront old new text)
+abbrev pub WritesFront : Settings → ℕ → Held → Held → Option (List ℕ) → Option (List ℕ) → Type 0
+WritesFront settings lead capture requests old new =
+    OfBoth lead capture requests (λ frames stop asked. (text : List ℕ) × IsText settings frames stop asked text × AddsFront old new text)
 
 -- What a status says: of what is held under the two names, of the counts of failed reads and of failed puts
 -- before and after, and of the octets put before and after. The capture is read again while the lines are written: a
 -- read may fail then, and a shelf that doesn't tell what it holds may then have another capture.
-abbrev pub Ends : Held → Held → ℕ → ℕ → ℕ → ℕ → Option (List ℕ) → Option (List ℕ) → Status → Type 0
-Ends capture requests reads reads' writes writes' old new Done = WritesText capture requests old new
-Ends capture requests reads reads' writes writes' old new (BadCapture at) =
-    OfFile capture (λ bytes. CallsFor (BadCapture at) bytes × (new ≡ old))
-Ends capture requests reads reads' writes writes' old new (BadRequests line) =
-    OfFile capture IsCaptureFile × OfFile requests (IsWrongAt line) × (new ≡ old)
-Ends capture requests reads reads' writes writes' old new TooLong =
-    OfFile capture (λ bytes. CallsFor TooLong bytes × (new ≡ old))
-    ⊎ (OfFile capture IsCaptureFile × OfFile requests IsLong × (new ≡ old))
-Ends capture requests reads reads' writes writes' old new ReadFault =
-    Rose reads reads' × ((new ≡ old) ⊎ WritesFront capture requests old new)
-Ends capture requests reads reads' writes writes' old new WriteFault =
-    Rose writes writes' × WritesFront capture requests old new
-Ends capture requests reads reads' writes writes' old new NoMemory = new ≡ old
-Ends capture requests reads reads' writes writes' old new Usage = ⊥
-Ends capture requests reads reads' writes writes' old new LinkFault = ⊥
+abbrev pub Ends : Settings → ℕ → Held → Held → ℕ → ℕ → ℕ → ℕ → Option (List ℕ) → Option (List ℕ) → Status → Type 0
+Ends settings lead capture requests reads reads' writes writes' old new Done = WritesText settings lead capture requests old new
+Ends settings lead capture requests reads reads' writes writes' old new (BadCapture at) =
+    OfFile capture (λ bytes. CallsFor lead (BadCapture at) bytes × (new ≡ old))
+Ends settings lead capture requests reads reads' writes writes' old new (BadRequests line) =
+    OfFile capture (IsCaptureFile lead) × OfFile requests (IsWrongAt line) × (new ≡ old)
+Ends settings lead capture requests reads reads' writes writes' old new TooLong =
+    OfFile capture (λ bytes. CallsFor lead TooLong bytes × (new ≡ old))
+    ⊎ (OfFile capture (IsCaptureFile lead) × OfFile requests IsLong × (new ≡ old))
+Ends settings lead capture requests reads reads' writes writes' old new ReadFault =
+    Rose reads reads' × ((new ≡ old) ⊎ WritesFront settings lead capture requests old new)
+Ends settings lead capture requests reads reads' writes writes' old new WriteFault =
+    Rose writes writes' × WritesFront settings lead capture requests old new
+Ends settings lead capture requests reads reads' writes writes' old new NoMemory = new ≡ old
+Ends settings lead capture requests reads reads' writes writes' old new Usage = ⊥
+Ends settings lead capture requests reads reads' writes writes' old new LinkFault = ⊥
 
 -- with these nothing was written, whatever the shelf tells
 abbrev pub IsSilent : Status → Type 0
@@ -82,28 +83,28 @@ Comes status result = (result ≡ status) ⊎ (result ≡ NoMemory) ⊎ (result 
 
 -- Each status comes wherever the files call for it, the capture judged before the request file, and the request file's
 -- length before its form.
-pub record IsExact (capture requests : Held) (result : Status) : Type 0 where
-  pub bad_capture : (bytes : List ℕ) (fault : PcapFault) → capture ≡ File bytes → IsBroken fault bytes → Comes (status_of fault) result
-  pub long_requests : (bytes lines : List ℕ) → capture ≡ File bytes → IsCaptureFile bytes → requests ≡ File lines → IsLong lines → Comes TooLong result
-  pub bad_requests : (bytes lines : List ℕ) (line : ℕ) → capture ≡ File bytes → IsCaptureFile bytes → requests ≡ File lines → IsWrongAt line lines
+pub record IsExact (lead : ℕ) (capture requests : Held) (result : Status) : Type 0 where
+  pub bad_capture : (bytes : List ℕ) (fault : PcapFault) → capture ≡ File bytes → IsBroken lead fault bytes → Comes (status_of fault) result
+  pub long_requests : (bytes lines : List ℕ) → capture ≡ File bytes → IsCaptureFile lead bytes → requests ≡ File lines → IsLong lines → Comes TooLong result
+  pub bad_requests : (bytes lines : List ℕ) (line : ℕ) → capture ≡ File bytes → IsCaptureFile lead bytes → requests ≡ File lines → IsWrongAt line lines
       → Comes (BadRequests line) result
 
 -- Where both files are of the form and no call failed, the run is done, or found no memory.
-abbrev pub IsComplete : Held → Held → ℕ → ℕ → ℕ → ℕ → Status → Type 0
-IsComplete capture requests reads reads' writes writes' result =
+abbrev pub IsComplete : ℕ → Held → Held → ℕ → ℕ → ℕ → ℕ → Status → Type 0
+IsComplete lead capture requests reads reads' writes writes' result =
     (bytes lines : List ℕ) → capture ≡ File bytes → requests ≡ File lines
-    → IsCaptureFile bytes → IsRequestFile lines → (Rose reads reads' → ⊥) → (Rose writes writes' → ⊥)
+    → IsCaptureFile lead bytes → IsRequestFile lines → (Rose reads reads' → ⊥) → (Rose writes writes' → ⊥)
     → (result ≡ Done) ⊎ (result ≡ NoMemory)
 
 -- What judging both files answers: the octets of the request file, or for what a run ends before anything is written.
-abbrev pub JudgesFiles : Held → Held → ℕ → ℕ → Result Judged Status → Type 0
-JudgesFiles capture requests reads reads' (Ok judged) =
-    OfFile capture IsCaptureFile × OfFile requests (λ bytes. judged.requests.items ≡ bytes)
+abbrev pub JudgesFiles : ℕ → Held → Held → ℕ → ℕ → Result Judged Status → Type 0
+JudgesFiles lead capture requests reads reads' (Ok judged) =
+    OfFile capture (IsCaptureFile lead) × OfFile requests (λ bytes. judged.requests.items ≡ bytes)
     × IsOk (requests_of judged.requests.items) × (length judged.requests.items ≤ 16777216) × (length judged.datagram.items ≡ 65535)
-JudgesFiles capture requests reads reads' (Err (BadCapture at)) = OfFile capture (CallsFor (BadCapture at))
-JudgesFiles capture requests reads reads' (Err (BadRequests line)) = OfFile capture IsCaptureFile × OfFile requests (IsWrongAt line)
-JudgesFiles capture requests reads reads' (Err TooLong) =
-    OfFile capture (CallsFor TooLong) ⊎ (OfFile capture IsCaptureFile × OfFile requests IsLong)
-JudgesFiles capture requests reads reads' (Err ReadFault) = Rose reads reads'
-JudgesFiles capture requests reads reads' (Err NoMemory) = ⊤
-JudgesFiles capture requests reads reads' (Err other) = ⊥
+JudgesFiles lead capture requests reads reads' (Err (BadCapture at)) = OfFile capture (CallsFor lead (BadCapture at))
+JudgesFiles lead capture requests reads reads' (Err (BadRequests line)) = OfFile capture (IsCaptureFile lead) × OfFile requests (IsWrongAt line)
+JudgesFiles lead capture requests reads reads' (Err TooLong) =
+    OfFile capture (CallsFor lead TooLong) ⊎ (OfFile capture (IsCaptureFile lead) × OfFile requests IsLong)
+JudgesFiles lead capture requests reads reads' (Err ReadFault) = Rose reads reads'
+JudgesFiles lead capture requests reads reads' (Err NoMemory) = ⊤
+JudgesFiles lead capture requests reads reads' (Err other) = ⊥

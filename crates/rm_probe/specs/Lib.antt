@@ -1,13 +1,11 @@
+pub mod Defaults
 pub mod Capture
 pub mod Lines
 pub mod Taking
 pub mod Whole
 pub mod Events
-pub mod Values
-pub mod Replies
 pub mod Text
-pub mod Counted
-pub mod Answers
+pub mod Probe
 pub mod Steps
 pub mod Status
 pub mod Ends

@@ -1,17 +1,19 @@
 -- What the steps of a run do.
-use Rattle.std.specs.Prelude.{◌≡◌, ℕ, ◌+◌, List, length, take_while, Option, Result, Ok, Err, ⊤}
+use Rattle.std.specs.Prelude.{◌≡◌, ℕ, ◌+◌, ◌≤◌, List, length, take_while, Option, Some, None, Result, Ok, Err, ⊤}
 use Rattle.rm_edge.specs.Outside.{Adds, AddsFront, Held, OfFile, Rose}
 use Rattle.rm_model.specs.Journal.{Frame, Journal, after_frames}
-use Rattle.rm_pcap.specs.Records.{Stop, Broken, AreRecords}
+use Rattle.rm_pcap.specs.Records.{Stop, Broken, Found, Whole, Stops, AreRecords}
 use Rattle.rm_pcap.specs.Progress.{Progress, Agrees}
+use Rattle.rm_pcap.specs.declared.reach.Reach.{Reach}
 use Rattle.rm_pcap.specs.declared.fault.PcapFault.{PcapFault}
 use Rattle.rm_pcap.specs.declared.fault.PcapFault.TheVariants.{Included, Original, Late, TooMany, Read}
 use Rattle.rm_probe.specs.Capture.{IsCaptureFile, CallsFor}
 use Rattle.rm_probe.specs.Lines.{TimedDatagram}
 use Rattle.rm_probe.specs.Events.{is_by, frames_after}
 use Rattle.rm_probe.specs.Text.{IsAnswer, IsText, last_line}
-use Rattle.rm_probe.specs.Counted.{StandsFor}
-use Rattle.rm_probe.specs.declared.counts.Counts.{Counts}
+use Rattle.rm_probe.specs.Probe.{settings_of, last_given, frames_given, Stands}
+use Rattle.rm_probe.specs.declared.probe.Probe.{Probe}
+use Rattle.rm_agent.specs.declared.settings.Settings.{Settings}
 use Rattle.rm_probe.specs.declared.status.Status.{Status}
 use Rattle.rm_probe.specs.declared.status.Status.TheVariants.{Done, BadCapture, ReadFault, WriteFault, NoMemory, TooLong}
 
@@ -25,53 +27,65 @@ IsOfRecord Read = ⊤
 IsOfRecord fault = ⊥
 
 -- what judging a capture answers
-abbrev pub JudgesCapture : {T : Type 0} → Held → ℕ → ℕ → Result T Status → Type 0
-JudgesCapture held before now (Ok done) = OfFile held IsCaptureFile
-JudgesCapture held before now (Err ReadFault) = Rose before now
-JudgesCapture held before now (Err NoMemory) = ⊤
-JudgesCapture held before now (Err (BadCapture at)) = OfFile held (CallsFor (BadCapture at))
-JudgesCapture held before now (Err TooLong) = OfFile held (CallsFor TooLong)
-JudgesCapture held before now (Err other) = ⊥
+abbrev pub JudgesCapture : {T : Type 0} → ℕ → Held → ℕ → ℕ → Result T Status → Type 0
+JudgesCapture lead held before now (Ok done) = OfFile held (IsCaptureFile lead)
+JudgesCapture lead held before now (Err ReadFault) = Rose before now
+JudgesCapture lead held before now (Err NoMemory) = ⊤
+JudgesCapture lead held before now (Err (BadCapture at)) = OfFile held (CallsFor lead (BadCapture at))
+JudgesCapture lead held before now (Err TooLong) = OfFile held (CallsFor lead TooLong)
+JudgesCapture lead held before now (Err other) = ⊥
 
 -- of a file of these octets, the records that aren't passed yet have these frames, and stop so
 pub record Leaves (progress : Progress) (bytes : List ℕ) (frames : List Frame) (stop : Stop) : Type 0 where
   pub agrees : Agrees progress bytes
   pub records : AreRecords progress.form progress.lead progress.reach bytes frames stop
 
--- what the frames up to a moment leave, and what they have made of the counters and the journal
-pub record Advanced (moment : ℕ) (bytes : List ℕ) (progress : Progress) (counts : Counts) (before : ℕ) (frames : List Frame) (stop : Stop) (journal : Journal) : Type 0 where
+-- the frame that stands next isn't before a moment, whatever the file has
+abbrev pub IsNotBefore : ℕ → Reach → Option Found → Type 0
+IsNotBefore moment reach None = moment ≤ reach.last
+IsNotBefore moment reach (Some (Whole frame after)) = moment ≤ frame.moment
+IsNotBefore moment reach (Some (Stops stop)) = ⊤
+
+-- The probe was given all frames that were passed, and nothing later than a moment, before which no frame is left.
+pub record Keeps (moment : ℕ) (probe : Probe) (progress : Progress) : Type 0 where
+  pub last : last_given probe ≤ moment
+  pub next : IsNotBefore moment progress.reach progress.ahead
+  pub count : frames_given probe ≡ progress.reach.count
+
+-- what the frames up to a moment leave, and what they have made of the probe and the journal
+pub record Advanced (moment : ℕ) (bytes : List ℕ) (progress : Progress) (probe : Probe) (before : ℕ) (frames : List Frame) (stop : Stop) (journal : Journal) : Type 0 where
   pub left : Leaves progress bytes (frames_after moment frames) stop
-  pub stands : StandsFor counts (after_frames (take_while (is_by moment) frames) journal)
+  pub stands : Stands probe (after_frames (take_while (is_by moment) frames) journal)
   pub count : progress.reach.count + length (frames_after moment frames) ≡ before + length frames
 
 -- Whatever the frames left and the journal are, those up to the moment go from the one to the other. A fault is that of a
 -- read, or of the records left.
-abbrev pub Advances : {T : Type 0} → ℕ → List ℕ → Progress → Progress → Counts → Counts → Result T PcapFault → Type 0
-Advances moment bytes old new counts counts' (Ok done) =
-    (frames : List Frame) (stop : Stop) (journal : Journal) → Leaves old bytes frames stop → StandsFor counts journal
-    → Advanced moment bytes new counts' old.reach.count frames stop journal
-Advances moment bytes old new counts counts' (Err Read) = ⊤
-Advances moment bytes old new counts counts' (Err fault) =
-    (frames : List Frame) (stop : Stop) (journal : Journal) → Leaves old bytes frames stop → StandsFor counts journal → stop ≡ Broken fault
+abbrev pub Advances : {T : Type 0} → ℕ → List ℕ → Progress → Progress → Probe → Probe → Result T PcapFault → Type 0
+Advances moment bytes old new probe probe' (Ok done) =
+    (frames : List Frame) (stop : Stop) (journal : Journal) → Leaves old bytes frames stop → Stands probe journal
+    → Advanced moment bytes new probe' old.reach.count frames stop journal
+Advances moment bytes old new probe probe' (Err Read) = ⊤
+Advances moment bytes old new probe probe' (Err fault) =
+    (frames : List Frame) (stop : Stop) (journal : Journal) → Leaves old bytes frames stop → Stands probe journal → stop ≡ Broken fault
 
--- Whatever the journal is, the line is an answer, and the counters stand for the journal after it.
-abbrev pub Answers : Counts → Counts → ℕ → TimedDatagram → List ℕ → Type 0
+-- Whatever the journal is, the line is an answer, and the probe stands for the journal after it.
+abbrev pub Answers : Probe → Probe → ℕ → TimedDatagram → List ℕ → Type 0
 Answers old new number request line =
-    (journal : Journal) → StandsFor old journal → (after : Journal) × IsAnswer journal number request line after × StandsFor new after
+    (journal : Journal) → Stands old journal → (after : Journal) × IsAnswer (settings_of old) journal number request line after × Stands new after
 
 -- what a run writes: its text, or a front of it where a read or a put failed, or nothing for want of memory
-abbrev pub Writes : List Frame → Stop → List TimedDatagram → Option (List ℕ) → Option (List ℕ) → Status → Type 0
-Writes frames stop requests old new Done = (text : List ℕ) × IsText frames stop requests text × Adds old new text
-Writes frames stop requests old new WriteFault = (text : List ℕ) × IsText frames stop requests text × AddsFront old new text
-Writes frames stop requests old new ReadFault = (text : List ℕ) × IsText frames stop requests text × AddsFront old new text
-Writes frames stop requests old new NoMemory = new ≡ old
-Writes frames stop requests old new other = ⊥
+abbrev pub Writes : Settings → List Frame → Stop → List TimedDatagram → Option (List ℕ) → Option (List ℕ) → Status → Type 0
+Writes settings frames stop requests old new Done = (text : List ℕ) × IsText settings frames stop requests text × Adds old new text
+Writes settings frames stop requests old new WriteFault = (text : List ℕ) × IsText settings frames stop requests text × AddsFront old new text
+Writes settings frames stop requests old new ReadFault = (text : List ℕ) × IsText settings frames stop requests text × AddsFront old new text
+Writes settings frames stop requests old new NoMemory = new ≡ old
+Writes settings frames stop requests old new other = ⊥
 
 -- What the last line says: of all the frames that were passed and are left. A fault is that of a read, or of the records left.
-abbrev pub Finishes : {T : Type 0} → List ℕ → Progress → Counts → ℕ → List ℕ → Result T PcapFault → Type 0
-Finishes bytes progress counts requests line (Ok done) =
-    (frames : List Frame) (stop : Stop) (journal : Journal) → Leaves progress bytes frames stop → StandsFor counts journal
+abbrev pub Finishes : {T : Type 0} → List ℕ → Progress → Probe → ℕ → List ℕ → Result T PcapFault → Type 0
+Finishes bytes progress probe requests line (Ok done) =
+    (frames : List Frame) (stop : Stop) (journal : Journal) → Leaves progress bytes frames stop → Stands probe journal
     → line ≡ last_line stop (progress.reach.count + length frames) requests
-Finishes bytes progress counts requests line (Err Read) = ⊤
-Finishes bytes progress counts requests line (Err fault) =
-    (frames : List Frame) (stop : Stop) (journal : Journal) → Leaves progress bytes frames stop → StandsFor counts journal → stop ≡ Broken fault
+Finishes bytes progress probe requests line (Err Read) = ⊤
+Finishes bytes progress probe requests line (Err fault) =
+    (frames : List Frame) (stop : Stop) (journal : Journal) → Leaves progress bytes frames stop → Stands probe journal → stop ≡ Broken fault

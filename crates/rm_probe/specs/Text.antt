@@ -1,43 +1,59 @@
 -- What a run writes: one line for each datagram, in the order of events, and a last line.
-use Rattle.std.specs.Prelude.{◌≡◌, ℕ, true, if◌then◌else◌, List, [], ◌∷◌, ◌++◌, length, decimal, codes}
+use Rattle.std.specs.Prelude.{◌≡◌, ℕ, true, List, [], ◌∷◌, ◌++◌, length, take, decimal, codes, Some, None}
 use Rattle.hex.specs.Hex.{encode_lower}
 use Rattle.rm_model.specs.Journal.{Frame, Journal, passes}
 use Rattle.rm_pcap.specs.Records.{Stop, CutAt}
-use Rattle.rm_pdu.specs.declared.kind.Kind.{Kind}
-use Rattle.rm_pdu.specs.declared.kind.Kind.TheVariants.{Get}
 use Rattle.rm_pdu.specs.Message.{Message, message_octets}
-use Rattle.rm_pdu.specs.Verdict.{Verdict, too_long, malformed, other_version, not_request, message, IsVerdict}
+use Rattle.rm_pdu.specs.Verdict.{Verdict, message, IsVerdict}
+use Rattle.rm_agent.specs.declared.settings.Settings.{Settings}
+use Rattle.rm_agent.specs.declared.answer.Reason.{Reason}
+use Rattle.rm_agent.specs.declared.answer.Reason.TheVariants.{TooLong, Malformed, Version, NotRequest, Community, Unbuilt}
+use Rattle.rm_agent.specs.declared.answer.Answer.{Answer}
+use Rattle.rm_agent.specs.declared.answer.Answer.TheVariants.{Reply, Drop}
+use Rattle.rm_agent.specs.Answers.{reason_for}
+use Rattle.rm_agent.specs.Agent.{cells, objects}
+use Rattle.rm_agent.specs.Replies.{IsReply}
 use Rattle.rm_probe.specs.Lines.{TimedDatagram}
 use Rattle.rm_probe.specs.Events.{Event, Comes, Asks, events}
-use Rattle.rm_probe.specs.Replies.{is_known, get_reply}
 
--- what is said of a request of a known community
-abbrev pub said_of_kind : Journal → ℕ → Message → Kind → List ℕ
-said_of_kind journal moment request Get = codes "reply " ++ encode_lower (message_octets (get_reply journal moment request))
-said_of_kind journal moment request kind = codes "drop unbuilt"
+-- why there is no reply, in words
+abbrev pub reason_text : Reason → List ℕ
+reason_text TooLong = codes "too-long"
+reason_text (Malformed at) = codes "malformed " ++ decimal at
+reason_text Version = codes "version"
+reason_text NotRequest = codes "not-request"
+reason_text Community = codes "community"
+reason_text Unbuilt = codes "unbuilt"
 
--- What is said of a datagram, by what it is: the reply, or why there is none. A request is judged whole before its
--- community is.
-abbrev pub said : Journal → ℕ → Verdict → List ℕ
-said journal moment too_long = codes "drop too-long"
-said journal moment (malformed at) = codes "drop malformed " ++ decimal at
-said journal moment (other_version z) = codes "drop version"
-said journal moment (not_request tag) = codes "drop not-request"
-said journal moment (message request) =
-    if is_known request.community then said_of_kind journal moment request request.kind else codes "drop community"
+-- what an answer says, where a reply stands at the front of the octets
+abbrev pub answer_text : Answer → List ℕ → List ℕ
+answer_text (Reply count) out = codes "reply " ++ encode_lower (take count out)
+answer_text (Drop reason) out = codes "drop " ++ reason_text reason
+
+-- What may be said of a datagram that comes after a journal, at a moment in milliseconds: that it is dropped, and why, or
+-- its reply in hexadecimal digits. The journal stays.
+pub data IsAnswered (settings : Settings) (journal : Journal) (moment : ℕ) (datagram : List ℕ) (text : List ℕ) (after : Journal) : Type 0 where
+  dropped : (v : Verdict) (reason : Reason) → IsVerdict true datagram v → reason_for settings v ≡ Some reason
+      → text ≡ codes "drop " ++ reason_text reason → after ≡ journal → IsAnswered settings journal moment datagram text after
+  replied : (request reply : Message) → IsVerdict true datagram (message request) → reason_for settings (message request) ≡ None
+      → IsReply (cells settings journal moment) objects request reply
+      → text ≡ codes "reply " ++ encode_lower (message_octets reply) → after ≡ journal → IsAnswered settings journal moment datagram text after
+
+-- the line of a datagram: its moment, its number and what is said of it
+abbrev pub answer_line : ℕ → ℕ → List ℕ → List ℕ
+answer_line moment number text = decimal moment ++ codes " " ++ decimal number ++ codes " " ++ text ++ codes "\n"
 
 -- The line may be written for the datagram, and the journal is then the one after.
-unfoldable pub IsAnswer : Journal → ℕ → TimedDatagram → List ℕ → Journal → Type 0
-IsAnswer journal number request line after = (v : Verdict) × IsVerdict true request.datagram v
-    × (line ≡ decimal request.moment ++ codes " " ++ decimal number ++ codes " " ++ said journal request.moment v ++ codes "\n")
-    × (after ≡ journal)
+unfoldable pub IsAnswer : Settings → Journal → ℕ → TimedDatagram → List ℕ → Journal → Type 0
+IsAnswer settings journal number request line after =
+    (text : List ℕ) × IsAnswered settings journal request.moment request.datagram text after × (line ≡ answer_line request.moment number text)
 
 -- The lines may be written for the events, from a journal on.
-unfoldable pub AreLines : Journal → List Event → List ℕ → Type 0
-AreLines journal [] text = text ≡ []
-AreLines journal (Comes frame ∷ events) text = AreLines (passes frame ∷ journal) events text
-AreLines journal (Asks number request ∷ events) text =
-    (line rest : List ℕ) × (after : Journal) × IsAnswer journal number request line after × (text ≡ line ++ rest) × AreLines after events rest
+unfoldable pub AreLines : Settings → Journal → List Event → List ℕ → Type 0
+AreLines settings journal [] text = text ≡ []
+AreLines settings journal (Comes frame ∷ events) text = AreLines settings (passes frame ∷ journal) events text
+AreLines settings journal (Asks number request ∷ events) text =
+    (line rest : List ℕ) × (after : Journal) × IsAnswer settings journal number request line after × (text ≡ line ++ rest) × AreLines settings after events rest
 
 -- what the last line begins with: whether the capture was cut short
 abbrev pub last_word : Stop → List ℕ
@@ -49,7 +65,7 @@ unfoldable pub last_line : Stop → ℕ → ℕ → List ℕ
 last_line stop frames requests = last_word stop ++ codes " " ++ decimal frames ++ codes " " ++ decimal requests ++ codes "\n"
 
 -- The text may be written for these frames and datagrams, of which nothing is left, where the capture's records stop so.
-pub record IsText (frames : List Frame) (stop : Stop) (requests : List TimedDatagram) (text : List ℕ) : Type 0 where
+pub record IsText (settings : Settings) (frames : List Frame) (stop : Stop) (requests : List TimedDatagram) (text : List ℕ) : Type 0 where
   pub lines : List ℕ
-  pub are_lines : AreLines [] (events 1 frames requests) lines
+  pub are_lines : AreLines settings [] (events 1 frames requests) lines
   pub whole : text ≡ lines ++ last_line stop (length frames) (length requests)

@@ -7,16 +7,14 @@ use rm_edge::Shelf;
 use rm_pcap::{Capture, Step};
 use std::alloc::Global;
 
-/// The moment of the first frame, in milliseconds.
-pub const LEAD: u32 = 1000;
-
-/// Reads a capture to its end, and tells the status of its first fault, if it has one.
-pub fn judge<F: Shelf>(alloc: Global, shelf: &mut F, name: &str) -> Result<(), Status>
+/// Reads a capture, whose first frame stands at the moment `lead`, to its end, and tells the status of its first fault,
+/// if it has one.
+pub fn judge<F: Shelf>(alloc: Global, shelf: &mut F, name: &str, lead: u32) -> Result<(), Status>
     ensures constant { (each : List ℕ) → F.held shelf.new each ≡ F.held shelf.old each }
     ensures later { (each : List ℕ) → F.faults shelf.old each ≤ F.faults shelf.new each }
-    ensures judged { JudgesCapture (F.held shelf.old name.now) (F.faults shelf.old name.now) (F.faults shelf.new name.now) result }
+    ensures judged { JudgesCapture lead (F.held shelf.old name.now) (F.faults shelf.old name.now) (F.faults shelf.new name.now) result }
 {
-    let mut capture = match Capture::begin(alloc, shelf, name, LEAD) {
+    let mut capture = match Capture::begin(alloc, shelf, name, lead) {
         Ok(capture) => capture,
         Err(fault) => return Err(Status::from(fault)),
     };

@@ -1,17 +1,23 @@
-// The top call.
+// The top calls.
 ghost use Rattle.std.specs.Prelude.{◌≡◌, ◌+◌, ◌≤◌, ◌↔◌, ◌∷◌, ℕ, List, length, Some, None, MatchOption};
 ghost use Rattle.rm_edge.specs.Outside.{Held};
-ghost use Rattle.rm_probe.specs.Ends.{Ends, IsComplete, IsExact, IsSilent, JudgesFiles, OfReplay, replay_of, is_operand};
+ghost use Rattle.rm_agent.specs.declared.settings.Settings.{Settings};
+ghost use Rattle.rm_probe.specs.Defaults.{AreDefault, default_lead};
+ghost use Rattle.rm_probe.specs.Ends.{Ends, IsComplete, IsExact, IsSilent, OfReplay, replay_of, is_operand};
 ghost use Rattle.rm_probe.specs.declared.status.Status.TheVariants.{Usage};
 
-use crate::capture;
-use crate::lines::{self, MOST_DATAGRAM};
-use crate::replay::write_run;
+use crate::judging::judge;
+use crate::probe::Probe;
 use crate::status::Status;
-use crate::whole::read_whole;
+use crate::writing::write_run;
+use arrayvec::ArrayVec;
+use rm_agent::Settings;
 use rm_edge::{Clock, Link, Shelf, Sink, Words};
 use rm_pcap::one_reading;
 use std::alloc::Global;
+
+/// The moment of the first frame, in milliseconds.
+const LEAD: u32 = 1000;
 
 /// Runs the words of a command line.
 ///
@@ -35,12 +41,12 @@ pub fn run<F: Shelf, K: Sink, L: Link, T: Clock>(
 
     // The whole truth of each status, `Done` among them: the octets added are exactly a text of both files.
     ensures ends { OfReplay words.now (λ capture requests.
-        Ends (F.held shelf.old capture) (F.held shelf.old requests)
+        (settings : Settings) × AreDefault settings × Ends settings default_lead (F.held shelf.old capture) (F.held shelf.old requests)
         (F.faults shelf.old capture + F.faults shelf.old requests) (F.faults shelf.new capture + F.faults shelf.new requests)
         (K.faults out.old) (K.faults out.new) (K.content out.old) (K.content out.new) result) }
-    ensures exact { OfReplay words.now (λ capture requests. IsExact (F.held shelf.old capture) (F.held shelf.old requests) result) }
+    ensures exact { OfReplay words.now (λ capture requests. IsExact default_lead (F.held shelf.old capture) (F.held shelf.old requests) result) }
     ensures complete { OfReplay words.now (λ capture requests.
-        IsComplete (F.held shelf.old capture) (F.held shelf.old requests)
+        IsComplete default_lead (F.held shelf.old capture) (F.held shelf.old requests)
         (F.faults shelf.old capture + F.faults shelf.old requests) (F.faults shelf.new capture + F.faults shelf.new requests)
         (K.faults out.old) (K.faults out.new) result) }
     ensures silent { IsSilent result → K.content out.new ≡ K.content out.old }
@@ -51,11 +57,43 @@ pub fn run<F: Shelf, K: Sink, L: Link, T: Clock>(
     ensures sent { L.sent link.new ≡ L.sent link.old }
     ensures told { T.told clock.new ≡ T.told clock.old }
 {
-    one_reading();
     match replay_words(words) {
         None => Status::Usage,
-        Some((capture, requests)) => replay(alloc, capture, requests, shelf, out),
+        Some((capture, requests)) => replay(
+            alloc,
+            default_settings(),
+            LEAD,
+            capture,
+            requests,
+            shelf,
+            out,
+        ),
     }
+}
+
+// What the probe is set to where no word says otherwise.
+fn default_settings() -> Settings
+    ensures { AreDefault result }
+{
+    Settings {
+        hosts: 1024,
+        pairs: 1024,
+        upper: 1024,
+        keep_short: false,
+        read: community(b"public"),
+        write: community(b"private"),
+    }
+}
+
+// A community of these octets.
+fn community(octets: &[u8]) -> ArrayVec<u8, 64>
+    requires { length octets.now ≤ 64 }
+    ensures { result.items ≡ octets.now }
+{
+    let mut community = ArrayVec::new();
+    // There is room.
+    let _ = community.try_extend_from_slice(octets);
+    community
 }
 
 fn is_operand(word: &str) -> bool
@@ -84,56 +122,62 @@ fn replay_words(words: &Words) -> Option<(&str, &str)>
     }
 }
 
-/// A request file that was judged, with room for one of its datagrams.
-#[derive(Drop)]
-struct Judged {
-    requests: Vec<u8>,
-    datagram: Vec<u8>,
-}
-
-// Judges both files, the capture first.
-fn judge<F: Shelf>(
+/// Replays a capture, whose first frame stands at the moment `lead` in milliseconds, against the datagrams of a request
+/// file. It writes one line for each datagram, and a last line.
+///
+/// The capture is judged first, a record at a time, and then the request file, its length before its form. Only then
+/// is anything written, and the capture is read again meanwhile. After `WriteFault` and `ReadFault` a front of the
+/// text may have been written. Over a shelf that tells what it holds, nothing was written after the others but `Done`.
+/// Over one that doesn't, the capture may be another one when it is read again, and `BadCapture` and `TooLong` may
+/// come after lines were written. `Usage` and `LinkFault` never come.
+pub fn replay<F: Shelf, K: Sink>(
     alloc: Global,
-    capture: &str,
-    requests: &str,
-    shelf: &mut F,
-) -> Result<Judged, Status>
-    ensures constant { (each : List ℕ) → F.held shelf.new each ≡ F.held shelf.old each }
-    ensures later { (each : List ℕ) → F.faults shelf.old each ≤ F.faults shelf.new each }
-    ensures judged { JudgesFiles (F.held shelf.old capture.now) (F.held shelf.old requests.now)
-        (F.faults shelf.old capture.now + F.faults shelf.old requests.now) (F.faults shelf.new capture.now + F.faults shelf.new requests.now) result }
-{
-    match capture::judge(alloc, shelf, capture) {
-        Ok(()) => (),
-        Err(status) => return Err(status),
-    }
-    let requests = read_whole(alloc, shelf, requests)?;
-    let Ok(mut datagram) = vec![in alloc; 0u8; MOST_DATAGRAM] else {
-        return Err(Status::NoMemory);
-    };
-    match lines::judge(&requests, &mut datagram) {
-        Ok(()) => Ok(Judged { requests, datagram }),
-        Err(line) => Err(Status::BadRequests(line)),
-    }
-}
-
-fn replay<F: Shelf, K: Sink>(
-    alloc: Global,
+    settings: Settings,
+    lead: u32,
     capture: &str,
     requests: &str,
     shelf: &mut F,
     out: &mut K,
 ) -> Status
-    ensures ends { Ends (F.held shelf.old capture.now) (F.held shelf.old requests.now)
+    // The whole truth of each status, `Done` among them: the octets added are exactly a text of both files.
+    ensures ends { Ends settings lead (F.held shelf.old capture.now) (F.held shelf.old requests.now)
+        (F.faults shelf.old capture.now + F.faults shelf.old requests.now) (F.faults shelf.new capture.now + F.faults shelf.new requests.now)
+        (K.faults out.old) (K.faults out.new) (K.content out.old) (K.content out.new) result }
+    ensures exact { IsExact lead (F.held shelf.old capture.now) (F.held shelf.old requests.now) result }
+    ensures complete { IsComplete lead (F.held shelf.old capture.now) (F.held shelf.old requests.now)
+        (F.faults shelf.old capture.now + F.faults shelf.old requests.now) (F.faults shelf.new capture.now + F.faults shelf.new requests.now)
+        (K.faults out.old) (K.faults out.new) result }
+    ensures silent { IsSilent result → K.content out.new ≡ K.content out.old }
+{
+    one_reading();
+    replay_judged(alloc, settings, lead, capture, requests, shelf, out)
+}
+
+// The same, without the clauses that follow.
+fn replay_judged<F: Shelf, K: Sink>(
+    alloc: Global,
+    settings: Settings,
+    lead: u32,
+    capture: &str,
+    requests: &str,
+    shelf: &mut F,
+    out: &mut K,
+) -> Status
+    ensures ends { Ends settings lead (F.held shelf.old capture.now) (F.held shelf.old requests.now)
         (F.faults shelf.old capture.now + F.faults shelf.old requests.now) (F.faults shelf.new capture.now + F.faults shelf.new requests.now)
         (K.faults out.old) (K.faults out.new) (K.content out.old) (K.content out.new) result }
     ensures silent { IsSilent result → K.content out.new ≡ K.content out.old }
 {
-    match judge(alloc, capture, requests, shelf) {
+    let Ok(mut probe) = Probe::new(alloc, settings) else {
+        return Status::NoMemory;
+    };
+    match judge(alloc, lead, capture, requests, shelf) {
         Ok(mut judged) => write_run(
             alloc,
             shelf,
             capture,
+            lead,
+            &mut probe,
             &judged.requests,
             &mut judged.datagram,
             out,

@@ -1,18 +1,18 @@
 //! Replays a capture and answers the datagrams of a request file.
 #![tactic(auto)]
 
-mod answer;
 mod capture;
-mod counts;
 mod entry;
+mod judging;
 mod line;
 mod lines;
-mod names;
-mod replay;
+mod probe;
 mod status;
 #[cfg(test)]
 mod tests;
 mod whole;
+mod writing;
 
-pub use entry::run;
+pub use entry::{replay, run};
+pub use probe::Probe;
 pub use status::Status;

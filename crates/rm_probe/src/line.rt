@@ -1,17 +1,19 @@
 // The lines that are written.
 ghost use Rattle.std.specs.Prelude.{◌≡◌, ◌+◌, ◌≤◌, ◌++◌, [], codes, decimal, length};
 ghost use Rattle.hex.specs.Hex.{encode_lower};
-ghost use Rattle.rm_probe.specs.Answers.{reason_text, answer_text, IsShort};
-ghost use Rattle.rm_probe.specs.Text.{last_line};
+ghost use Rattle.rm_agent.specs.Answers.{IsShort};
+ghost use Rattle.rm_probe.specs.Text.{reason_text, answer_text, last_line};
+ghost use Rattle.rm_probe.specs.Probe.{settings_of, last_given, frames_given};
 ghost use Rattle.rm_probe.specs.Steps.{Answers};
 ghost use Rattle.rm_pcap.specs.Records.{Stop, Stops};
 ghost use Rattle.rm_pcap.specs.Progress.{Shows};
 
-use crate::answer::{self, Answer, MOST_REPLY, Reason};
-use crate::counts::Counts;
+use crate::probe::Probe;
 use arrayvec::ArrayVec;
 use itoa::Buffer;
+use rm_agent::{Answer, MOST_REPLY, Reason};
 use rm_pcap::Step;
+use std::alloc::Global;
 
 /// The octets of a line, its line feed included.
 pub type Line = ArrayVec<u8, 3072>;
@@ -45,20 +47,20 @@ fn push_hex(line: &mut Line, bytes: &[u8])
 }
 
 fn push_reason(line: &mut Line, reason: Reason)
-    requires { length line.old.items ≤ 100 }
+    requires { length line.old.items ≤ 120 }
     ensures text { line.new.items ≡ line.old.items ++ reason_text reason }
     ensures short { length line.new.items ≤ 200 }
 {
     match reason {
-        Reason::TooLong => push(line, b"drop too-long"),
+        Reason::TooLong => push(line, b"too-long"),
         Reason::Malformed(at) => {
-            push(line, b"drop malformed ");
+            push(line, b"malformed ");
             push_number(line, at as u64);
         }
-        Reason::Version => push(line, b"drop version"),
-        Reason::NotRequest => push(line, b"drop not-request"),
-        Reason::Community => push(line, b"drop community"),
-        Reason::Unbuilt => push(line, b"drop unbuilt"),
+        Reason::Version => push(line, b"version"),
+        Reason::NotRequest => push(line, b"not-request"),
+        Reason::Community => push(line, b"community"),
+        Reason::Unbuilt => push(line, b"unbuilt"),
     }
 }
 
@@ -73,22 +75,36 @@ fn push_answer(line: &mut Line, answer: Answer, out: &[u8; MOST_REPLY])
             push(line, b"reply ");
             push_hex(line, &out[..count]);
         }
-        Answer::Drop(reason) => push_reason(line, reason),
+        Answer::Drop(reason) => {
+            push(line, b"drop ");
+            push_reason(line, reason);
+        }
     }
 }
 
-/// Writes the line of a datagram into an empty line.
+/// Answers a datagram, and writes its line into an empty line.
 #[tactic(auto, unfolding(crate::specs::Text::IsAnswer))]
-pub fn push_line(line: &mut Line, counts: &Counts, number: u64, moment: u32, datagram: &[u8])
-    requires { line.old.items ≡ [] }
-    ensures { Answers counts.now counts.now number (record { moment = moment; datagram = datagram.now }) line.new.items }
+pub fn push_line(
+    line: &mut Line,
+    alloc: Global,
+    probe: &mut Probe,
+    number: u64,
+    moment: u32,
+    datagram: &[u8],
+)
+    requires empty { line.old.items ≡ [] }
+    requires later { last_given probe.old ≤ moment }
+    ensures answers { Answers probe.old probe.new number (record { moment = moment; datagram = datagram.now }) line.new.items }
+    ensures settings { settings_of probe.new ≡ settings_of probe.old }
+    ensures last { last_given probe.new ≡ moment }
+    ensures frames { frames_given probe.new ≡ frames_given probe.old }
 {
     push_number(line, u64::from(moment));
     push(line, b" ");
     push_number(line, number);
     push(line, b" ");
     let mut out = [0; MOST_REPLY];
-    let answer = answer::answer_datagram(counts, moment, datagram, &mut out);
+    let answer = probe.datagram(alloc, datagram, moment, &mut out);
     push_answer(line, answer, &out);
     push(line, b"\n");
 }

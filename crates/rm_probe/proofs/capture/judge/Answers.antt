@@ -7,14 +7,14 @@ use Rattle.rm_probe.proofs.capture.judge.Goals as goal
 
 pub returns-in-Err-clause-judged : goal.returns-in-Err-clause-judged
 returns-in-Err-clause-judged g c =
-    rw c.from.ensures (refused_begin (g.F.Shelf.held c.args.shelf.now c.args.name.now) (g.F.Shelf.faults c.args.shelf.now c.args.name.now) (g.F.Shelf.faults c.begin.new.shelf c.args.name.now) c.in-Err.fault
+    rw c.from.ensures (refused_begin c.args.lead (g.F.Shelf.held c.args.shelf.now c.args.name.now) (g.F.Shelf.faults c.args.shelf.now c.args.name.now) (g.F.Shelf.faults c.begin.new.shelf c.args.name.now) c.in-Err.fault
     c.in-Err.ensures.cause (λ absent. let e = sym c.in-Err.is ∙ c.begin.ensures.absent absent in cc) c.in-Err.ensures.header c.in-Err.ensures.kinds)
 
 pub loop-capture-init : goal.loop-capture-init
 loop-capture-init g c = record {
   same = c.in-Ok.ensures.constant;
   later = c.in-Ok.ensures.later;
-  judging = judged_begins (g.F.Shelf.held c.args.shelf.now c.args.name.now) (progress_of c.in-Ok.capture) c.begin.result c.in-Ok.capture c.in-Ok.is c.begin.ensures.absent c.in-Ok.ensures.begun c.in-Ok.ensures.header;
+  judging = judged_begins c.args.lead (g.F.Shelf.held c.args.shelf.now c.args.name.now) (progress_of c.in-Ok.capture) c.begin.result c.in-Ok.capture c.in-Ok.is c.begin.ensures.absent c.in-Ok.ensures.begun c.in-Ok.ensures.header;
 }
 
 pub loop-capture-preserved : goal.loop-capture-preserved
@@ -26,14 +26,14 @@ loop-capture-preserved g c =
     record {
       same = λ each. c.in-Ok-Next.ensures.constant each ∙ i.same each;
       later = λ each. omega (arith, i.later each, c.in-Ok-Next.ensures.later each);
-      judging = judged_more (g.F.Shelf.held c.args.shelf.now c.args.name.now) (progress_of c.loop-capture.capture) (progress_of c.next.follows.lender-at-none) found c.in-Ok-Next.field-0-0
+      judging = judged_more c.args.lead (g.F.Shelf.held c.args.shelf.now c.args.name.now) (progress_of c.loop-capture.capture) (progress_of c.next.follows.lender-at-none) found c.in-Ok-Next.field-0-0
           (rw (i.same c.args.name.now) at passes) shows i.judging;
     }
 
 pub returns-in-Err-next-clause-judged : goal.returns-in-Err-next-clause-judged
 returns-in-Err-next-clause-judged g c =
     let i = c.loop-capture.invariant in
-    rw c.from-in-Err-next.ensures (refused_record (g.F.Shelf.held c.args.shelf.now c.args.name.now) (g.F.Shelf.faults c.args.shelf.now c.args.name.now) (g.F.Shelf.faults c.next.new.shelf c.args.name.now) (progress_of c.loop-capture.capture) c.in-Err-next.fault
+    rw c.from-in-Err-next.ensures (refused_record c.args.lead (g.F.Shelf.held c.args.shelf.now c.args.name.now) (g.F.Shelf.faults c.args.shelf.now c.args.name.now) (g.F.Shelf.faults c.next.new.shelf c.args.name.now) (progress_of c.loop-capture.capture) c.in-Err-next.fault
     (λ e. let rose = c.in-Err-next.ensures.cause e in omega (arith, rose, i.later c.args.name.now)) (rw (i.same c.args.name.now) at c.in-Err-next.ensures.faults) i.judging)
 
 pub returns-in-Ok-End-clause-judged : goal.returns-in-Ok-End-clause-judged
@@ -42,7 +42,7 @@ returns-in-Ok-End-clause-judged g c =
     let steps : Steps (g.F.Shelf.held c.loop-capture.shelf c.args.name.now) (progress_of c.loop-capture.capture) (progress_of c.next.follows.lender-at-none) c.next.result = c.next.follows.holds-at-none in
     let step : c.next.result ≡ Ok End = c.in-Ok-End.is ∙ ap Ok c.in-Ok-End.field-0-is in
     let (found, passes, shows) = rw step at steps in
-    judged_stops (g.F.Shelf.held c.args.shelf.now c.args.name.now) (progress_of c.loop-capture.capture) (progress_of c.next.follows.lender-at-none) found End (rw (i.same c.args.name.now) at passes) shows (λ frame e. cc) i.judging
+    judged_stops c.args.lead (g.F.Shelf.held c.args.shelf.now c.args.name.now) (progress_of c.loop-capture.capture) (progress_of c.next.follows.lender-at-none) found End (rw (i.same c.args.name.now) at passes) shows (λ frame e. cc) i.judging
 
 pub returns-in-Ok-Cut-clause-judged : goal.returns-in-Ok-Cut-clause-judged
 returns-in-Ok-Cut-clause-judged g c =
@@ -50,4 +50,4 @@ returns-in-Ok-Cut-clause-judged g c =
     let steps : Steps (g.F.Shelf.held c.loop-capture.shelf c.args.name.now) (progress_of c.loop-capture.capture) (progress_of c.next.follows.lender-at-none) c.next.result = c.next.follows.holds-at-none in
     let step : c.next.result ≡ Ok (Cut c.in-Ok-Cut.field-0-0) = c.in-Ok-Cut.is ∙ ap Ok c.in-Ok-Cut.field-0-is in
     let (found, passes, shows) = rw step at steps in
-    judged_stops (g.F.Shelf.held c.args.shelf.now c.args.name.now) (progress_of c.loop-capture.capture) (progress_of c.next.follows.lender-at-none) found (Cut c.in-Ok-Cut.field-0-0) (rw (i.same c.args.name.now) at passes) shows (λ frame e. cc) i.judging
+    judged_stops c.args.lead (g.F.Shelf.held c.args.shelf.now c.args.name.now) (progress_of c.loop-capture.capture) (progress_of c.next.follows.lender-at-none) found (Cut c.in-Ok-Cut.field-0-0) (rw (i.same c.args.name.now) at passes) shows (λ frame e. cc) i.judging

@@ -1,11 +1,10 @@
 use Rattle.std.proofs.Common.{◌-◌}
 use Rattle.rm_pcap.specs.View.{progress_of}
-use Rattle.rm_probe.specs.Capture.{lead}
 use Rattle.rm_probe.proofs.RecordLemmas.{JudgedSoFar}
 use Rattle.rm_probe.proofs.capture.judge.Given as goal
 
 abbrev pub invariant-loop-capture : goal.invariant-loop-capture
-invariant-loop-capture g l = JudgedSoFar g.F.Shelf.held g.F.Shelf.faults l.fn.shelf l.shelf l.name lead (progress_of l.capture)
+invariant-loop-capture g l = JudgedSoFar g.F.Shelf.held g.F.Shelf.faults l.fn.shelf l.shelf l.name l.lead (progress_of l.capture)
 
 abbrev pub decreases-loop-capture : goal.decreases-loop-capture
 decreases-loop-capture g l = 100000001 - (progress_of l.capture).reach.count

@@ -1,4 +1,4 @@
-// Replays a capture against the datagrams of a request file, which were judged before.
+// The text of a run: a capture is read again, and the datagrams of a request file are answered, which were judged before.
 ghost use Rattle.std.specs.Prelude.{◌≡◌, ◌+◌, ◌≤◌, ◌<◌, ◌^◌, ℕ, List, length, Some, Ok, Err, OnOk, IsOk, IfErr, []};
 ghost use Rattle.rm_edge.specs.Outside.{Rose, File};
 ghost use Rattle.rm_model.specs.Journal.{Frame};
@@ -7,34 +7,39 @@ ghost use Rattle.rm_pcap.specs.Records.{Stop, Stops};
 ghost use Rattle.rm_pcap.specs.declared.fault.PcapFault.TheVariants.{Read};
 ghost use Rattle.rm_probe.specs.Capture.{IsCapture, IsFaultless};
 ghost use Rattle.rm_probe.specs.Lines.{TimedDatagram, AreRequests, requests_of};
-ghost use Rattle.rm_probe.specs.Steps.{Advances, Finishes, IsOfRecord, Leaves, Writes};
+ghost use Rattle.rm_probe.specs.Probe.{settings_of, last_given, IsFresh};
+ghost use Rattle.rm_probe.specs.Steps.{Advances, Finishes, IsOfRecord, Keeps, Leaves, Writes};
 ghost use Rattle.rm_probe.specs.Ends.{IsSilent};
 ghost use Rattle.rm_probe.specs.declared.status.Status.TheVariants.{BadRequests, ReadFault, WriteFault, NoMemory};
 
-use crate::capture::LEAD;
-use crate::counts::Counts;
 use crate::line::{self, Line};
 use crate::lines;
+use crate::probe::Probe;
 use crate::status::Status;
+use rm_agent::every_reply;
 use rm_edge::{Shelf, Sink};
 use rm_pcap::{Capture, PcapFault, Step};
 use rm_pdu::every_verdict;
 use std::alloc::Global;
 
-/// Counts the frames up to a moment.
+/// Counts the frames up to a moment, which isn't below the last one that the probe was given.
 fn advance<F: Shelf>(
     capture: &mut Capture,
     shelf: &mut F,
     name: &str,
-    counts: &mut Counts,
+    probe: &mut Probe,
     moment: u32,
 ) -> Result<(), PcapFault>
+    requires later { last_given probe.old ≤ moment }
+    requires keeps { Keeps (last_given probe.old) probe.old (progress_of capture.old) }
     ensures constant { (each : List ℕ) → F.held shelf.new each ≡ F.held shelf.old each }
     ensures later { (each : List ℕ) → F.faults shelf.old each ≤ F.faults shelf.new each }
     ensures cause { result ≡ Err Read → Rose (F.faults shelf.old name.now) (F.faults shelf.new name.now) }
     ensures kinds { IfErr result IsOfRecord }
     ensures passed { (bytes : List ℕ) → F.held shelf.old name.now ≡ File bytes
-        → Advances moment bytes (progress_of capture.old) (progress_of capture.new) counts.old counts.new result }
+        → Advances moment bytes (progress_of capture.old) (progress_of capture.new) probe.old probe.new result }
+    ensures settings { settings_of probe.new ≡ settings_of probe.old }
+    ensures keeps { OnOk result (Keeps moment probe.new (progress_of capture.new)) }
     ensures all { moment ≡ 4294967295 → OnOk result ((stop : Stop) × ((progress_of capture.new).ahead ≡ Some (Stops stop))) }
 {
     loop {
@@ -47,7 +52,7 @@ fn advance<F: Shelf>(
             return Ok(());
         }
         match capture.next(shelf, name) {
-            Ok(Step::Next(frame)) => counts.frame(frame),
+            Ok(Step::Next(frame)) => probe.frame(&frame),
             Ok(_) => return Ok(()),
             Err(fault) => return Err(fault),
         }
@@ -59,19 +64,21 @@ fn finish<F: Shelf>(
     capture: &mut Capture,
     shelf: &mut F,
     name: &str,
-    counts: &mut Counts,
+    probe: &mut Probe,
     requests: u64,
     line: &mut Line,
 ) -> Result<(), PcapFault>
-    requires { line.old.items ≡ [] }
+    requires empty { line.old.items ≡ [] }
+    requires moment { last_given probe.old < 2 ^ 32 }
+    requires keeps { Keeps (last_given probe.old) probe.old (progress_of capture.old) }
     ensures constant { (each : List ℕ) → F.held shelf.new each ≡ F.held shelf.old each }
     ensures later { (each : List ℕ) → F.faults shelf.old each ≤ F.faults shelf.new each }
     ensures cause { result ≡ Err Read → Rose (F.faults shelf.old name.now) (F.faults shelf.new name.now) }
     ensures kinds { IfErr result IsOfRecord }
     ensures last { (bytes : List ℕ) → F.held shelf.old name.now ≡ File bytes
-        → Finishes bytes (progress_of capture.old) counts.old requests line.new.items result }
+        → Finishes bytes (progress_of capture.old) probe.old requests line.new.items result }
 {
-    match advance(capture, shelf, name, counts, u32::MAX) {
+    match advance(capture, shelf, name, probe, u32::MAX) {
         Ok(()) => (),
         Err(fault) => return Err(fault),
     }
@@ -87,9 +94,11 @@ fn finish<F: Shelf>(
 
 /// Writes the lines of the datagrams of a request file, and the last one. Each datagram is read into `buffer`.
 fn write_lines<F: Shelf, K: Sink>(
+    alloc: Global,
     capture: &mut Capture,
     shelf: &mut F,
     name: &str,
+    probe: &mut Probe,
     requests: &[u8],
     buffer: &mut [u8],
     out: &mut K,
@@ -97,9 +106,11 @@ fn write_lines<F: Shelf, K: Sink>(
     requires room { 65535 ≤ length buffer.old }
     requires few { length requests.now < 2 ^ 32 }
     requires judged { IsOk (requests_of requests.now) }
+    requires first { IsFresh probe.old }
+    requires begun { Keeps 0 probe.old (progress_of capture.old) }
     ensures text { (bytes : List ℕ) (frames : List Frame) (stop : Stop) (asked : List TimedDatagram) → F.held shelf.old name.now ≡ File bytes
         → Leaves (progress_of capture.old) bytes frames stop → (progress_of capture.old).reach.count ≡ 0 → IsFaultless stop → AreRequests requests.now asked
-        → Writes frames stop asked (K.content out.old) (K.content out.new) result }
+        → Writes (settings_of probe.old) frames stop asked (K.content out.old) (K.content out.new) result }
     ensures later { K.faults out.old ≤ K.faults out.new }
     ensures reads { result ≡ ReadFault → Rose (F.faults shelf.old name.now) (F.faults shelf.new name.now) }
     ensures writes { result ≡ WriteFault → Rose (K.faults out.old) (K.faults out.new) }
@@ -107,8 +118,8 @@ fn write_lines<F: Shelf, K: Sink>(
     ensures loud { IsSilent result → ⊥ }
 {
     every_verdict();
+    every_reply();
     let mut cursor = lines::first_request(requests);
-    let mut counts = Counts::new();
     let mut line = Line::new();
     loop {
         let taken = match lines::next_request(cursor, buffer) {
@@ -116,14 +127,15 @@ fn write_lines<F: Shelf, K: Sink>(
             Ok(None) => break,
             Err(number) => return Status::BadRequests(number),
         };
-        match advance(capture, shelf, name, &mut counts, taken.moment) {
+        match advance(capture, shelf, name, probe, taken.moment) {
             Ok(()) => (),
             Err(fault) => return Status::from(fault),
         }
         line.clear();
         line::push_line(
             &mut line,
-            &counts,
+            alloc,
+            probe,
             cursor.number,
             taken.moment,
             &buffer[..taken.count],
@@ -134,14 +146,7 @@ fn write_lines<F: Shelf, K: Sink>(
         }
     }
     line.clear();
-    match finish(
-        capture,
-        shelf,
-        name,
-        &mut counts,
-        cursor.number - 1,
-        &mut line,
-    ) {
+    match finish(capture, shelf, name, probe, cursor.number - 1, &mut line) {
         Ok(()) => (),
         Err(fault) => return Status::from(fault),
     }
@@ -151,11 +156,13 @@ fn write_lines<F: Shelf, K: Sink>(
     }
 }
 
-/// Reads the capture again, and writes the text of it and of the datagrams of a request file.
+/// Reads the capture again, its first frame at the moment `lead`, and writes the text of it and of the datagrams of a request file.
 pub fn write_run<F: Shelf, K: Sink>(
     alloc: Global,
     shelf: &mut F,
     name: &str,
+    lead: u32,
+    probe: &mut Probe,
     requests: &[u8],
     buffer: &mut [u8],
     out: &mut K,
@@ -163,9 +170,10 @@ pub fn write_run<F: Shelf, K: Sink>(
     requires room { 65535 ≤ length buffer.old }
     requires few { length requests.now < 2 ^ 32 }
     requires judged { IsOk (requests_of requests.now) }
+    requires first { IsFresh probe.old }
     ensures text { (bytes : List ℕ) (frames : List Frame) (stop : Stop) (asked : List TimedDatagram) → F.held shelf.old name.now ≡ File bytes
-        → IsCapture bytes frames stop → AreRequests requests.now asked
-        → Writes frames stop asked (K.content out.old) (K.content out.new) result }
+        → IsCapture lead bytes frames stop → AreRequests requests.now asked
+        → Writes (settings_of probe.old) frames stop asked (K.content out.old) (K.content out.new) result }
     ensures reads { result ≡ ReadFault → Rose (F.faults shelf.old name.now) (F.faults shelf.new name.now) }
     ensures writes { result ≡ WriteFault → Rose (K.faults out.old) (K.faults out.new) }
     ensures silent { IsSilent result → K.content out.new ≡ K.content out.old }
@@ -174,8 +182,18 @@ pub fn write_run<F: Shelf, K: Sink>(
     ensures kinds { IsSilent result → result ≡ NoMemory }
 {
     every_verdict();
-    match Capture::begin(alloc, shelf, name, LEAD) {
-        Ok(mut capture) => write_lines(&mut capture, shelf, name, requests, buffer, out),
+    every_reply();
+    match Capture::begin(alloc, shelf, name, lead) {
+        Ok(mut capture) => write_lines(
+            alloc,
+            &mut capture,
+            shelf,
+            name,
+            probe,
+            requests,
+            buffer,
+            out,
+        ),
         Err(fault) => Status::from(fault),
     }
 }

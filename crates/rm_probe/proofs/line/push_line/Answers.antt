@@ -1,0 +1,9 @@
+use Rattle.std.proofs.Common.{rules}
+use Rattle.rm_probe.specs.Text.{answer_text, answer_line, IsAnswer}
+use Rattle.rm_probe.proofs.line.push_line.Goals as goal
+
+pub returns-clause-answers : goal.returns-clause-answers
+unfolding IsAnswer
+returns-clause-answers c journal stands =
+    let (after, said, goes_on) = c.datagram-answer.ensures.answered journal stands in
+    (after, (answer_text c.datagram-answer.result c.datagram-answer.new.out, said, search rules), goes_on)

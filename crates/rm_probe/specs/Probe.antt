@@ -1,0 +1,28 @@
+-- The probe, as its callers see it.
+use Rattle.std.specs.Prelude.{◌≡◌, ℕ, []}
+use Rattle.rm_model.specs.Journal.{Journal}
+use Rattle.rm_agent.specs.declared.settings.Settings.{Settings}
+use Rattle.rm_agent.specs.Agent.{settings_of as agent_settings, last_given as agent_last, frames_given as agent_frames, Stands as AgentStands}
+use Rattle.rm_probe.specs.declared.probe.Probe.{Probe}
+
+-- what the probe was set to
+abbrev pub settings_of : Probe → Settings
+settings_of probe = agent_settings probe.agent
+
+-- the last moment that it was given, 0 before the first
+abbrev pub last_given : Probe → ℕ
+last_given probe = agent_last probe.agent
+
+-- how many frames it was given
+abbrev pub frames_given : Probe → ℕ
+frames_given probe = agent_frames probe.agent
+
+-- the probe stands for a journal
+abbrev pub Stands : Probe → Journal → Type 0
+Stands probe journal = AgentStands probe.agent journal
+
+-- nothing came to the probe yet
+pub record IsFresh (probe : Probe) : Type 0 where
+  pub stands : Stands probe []
+  pub last : last_given probe ≡ 0
+  pub frames : frames_given probe ≡ 0
