@@ -18,6 +18,7 @@ use Rattle.rm_pcap.specs.declared.reach.Reach.{Reach}
 use Rattle.rm_probe.specs.Events.{is_by, frames_after}
 use Rattle.rm_probe.specs.Probe.{settings_of, last_given, frames_given, Stands}
 use Rattle.rm_probe.specs.Steps.{Advanced, Advances, Finishes, IsNotBefore, Keeps, Leaves}
+use Rattle.rm_probe.specs.Notes.{Note}
 use Rattle.rm_probe.specs.Text.{last_line}
 use Rattle.rm_probe.specs.declared.probe.Probe.{Probe}
 use Rattle.rm_probe.proofs.RecordLemmas.{leaves_looking, leaves_passing, leaves_first, leaves_none}
@@ -258,10 +259,11 @@ keeps_given moment probe probe' progress last frames keeps =
     subst (λ (m : ℕ). Keeps m probe' progress) (sym last) (record { last = omega (arith, last); next = keeps.next; count = frames ∙ keeps.count })
 
 -- a capture whose frames pass up to a moment
-pub record Advancing {F : Type 0} (held : F → List ℕ → Held) (faults : F → List ℕ → ℕ) (first now : F) (name : List ℕ) (moment : ℕ) (old progress : Progress) (probe probe' : Probe) : Type 0 where
+pub record Advancing {F N : Type 0} (held : F → List ℕ → Held) (faults : F → List ℕ → ℕ) (first now : F) (name : List ℕ) (since : N → N → List Note → Type 0) (notes notes' : N) (moment : ℕ) (old progress : Progress) (probe probe' : Probe) : Type 0 where
   pub same : (each : List ℕ) → held now each ≡ held first each
   pub later : (each : List ℕ) → faults first each ≤ faults now each
   pub settings : settings_of probe' ≡ settings_of probe
+  pub noted : (start : N) (sent : List Note) → since start notes sent → since start notes' sent
   pub early : last_given probe' ≤ moment
   pub keeps : Keeps (last_given probe') probe' progress
   pub passed : (bytes : List ℕ) → held first name ≡ File bytes → (frames : List Frame) (stop : Stop) (journal : Journal) → Leaves old bytes frames stop → Stands probe journal

@@ -4,5 +4,7 @@ pub mod JudgeLemmas
 pub mod FrameLemmas
 pub mod WholeLemmas
 pub mod AnswerLemmas
+pub mod NoteLemmas
+pub mod WritingLemmas
 pub mod RunLemmas
 pub mod EndLemmas

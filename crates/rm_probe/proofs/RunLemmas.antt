@@ -11,6 +11,9 @@ use Rattle.rm_pdu.specs.Verdict.{Verdict, too_long, malformed, other_version, no
 use Rattle.rm_probe.specs.Lines.{TimedDatagram, requests_from, requests_of, AreRequests, with_first}
 use Rattle.rm_pcap.specs.Records.{Stop}
 use Rattle.rm_pcap.specs.Progress.{Progress}
+use Rattle.rm_probe.specs.Capture.{IsFaultless}
+use Rattle.rm_probe.specs.declared.status.Status.{Status}
+use Rattle.rm_probe.specs.declared.status.Status.TheVariants.{Done, Usage, BadCapture, BadRequests, ReadFault, WriteFault, NoMemory, LinkFault, TooLong}
 use Rattle.rm_probe.specs.Events.{Event, Comes, Asks, is_by, frames_after, events, comings}
 use Rattle.rm_probe.specs.Text.{reason_text, IsAnswered, dropped, replied, answer_line, IsAnswer, AreLines, IsText, last_line}
 use Rattle.rm_agent.specs.declared.settings.Settings.{Settings}
@@ -19,8 +22,10 @@ use Rattle.rm_agent.specs.Agent.{cells, objects}
 use Rattle.rm_agent.specs.Replies.{IsReply}
 use Rattle.rm_agent.specs.declared.answer.Reason.{Reason}
 use Rattle.rm_probe.specs.Probe.{settings_of, last_given, Stands}
-use Rattle.rm_probe.specs.Steps.{Advanced, Keeps, Leaves}
+use Rattle.rm_probe.specs.Steps.{IsNextLine, Keeps, Leaves, WritesLine, Writes, done}
 use Rattle.rm_probe.specs.declared.probe.Probe.{Probe}
+use Rattle.rm_probe.specs.Notes.{adds_none}
+use Rattle.rm_probe.proofs.NoteLemmas.{adds_then, front_of}
 use Rattle.rm_probe.proofs.JudgeLemmas.{SameJudged}
 
 -- each datagram is something, and has a reply if it isn't dropped
@@ -47,13 +52,6 @@ a_line every settings journal number request =
     let (v, is) = every.verdict true request.datagram in
     let (text, said) = what_is_said every settings journal request.moment request.datagram v (reason_for settings v) is refl in
     (_, (text, said, refl))
-
--- an answer by what the probe was set to, which stays
-pub answers_by : (settings other : Settings) (probe probe' : Probe) (number : ℕ) (request : TimedDatagram) (line : List ℕ) → other ≡ settings
-    → ((journal : Journal) → Stands probe journal → (after : Journal) × IsAnswer other journal number request line after × Stands probe' after)
-    → (journal : Journal) → Stands probe journal → (after : Journal) × IsAnswer settings journal number request line after × Stands probe' after
-answers_by settings other probe probe' number request line same answers =
-    subst (λ (s : Settings). (journal : Journal) → Stands probe journal → (after : Journal) × IsAnswer s journal number request line after × Stands probe' after) same answers
 
 module _ (settings : Settings) where
   -- frames that come, and what follows them
@@ -85,12 +83,6 @@ module _ (settings : Settings) where
     pub frame_count : progress.reach.count + length left ≡ length frames
     pub request_count : number + length asked ≡ 1 + length requests
 
-  adds_then : (a b c : Option (List ℕ)) (x y : List ℕ) → Adds a b x → Adds b c y → Adds a c (x ++ y)
-  adds_then None b c x y p q = tt
-  adds_then (Some old) b c x y p q =
-      let e : Adds (Some (old ++ x)) c y = rw p at q in
-      e ∙ ap (λ (t : List ℕ). Some t) (append_assoc old x y)
-
   with_first_ok : (request : TimedDatagram) (o : Result (List TimedDatagram) ℕ) (asked : List TimedDatagram) → with_first request o ≡ Ok asked → (more : List TimedDatagram) × (o ≡ Ok more) × (asked ≡ request ∷ more)
   with_first_ok request (Ok more) asked e = (more, refl, cc)
   with_first_ok request (Err n) asked e = absurd cc
@@ -110,35 +102,32 @@ module _ (settings : Settings) where
     pub request_count : number + length asked ≡ 1 + length requests
 
   pub next_line : (old new : Option (List ℕ)) (bytes : List ℕ) (frames : List Frame) (stop : Stop) (requests : List TimedDatagram) (progress : Progress) (number last : ℕ) (lines_left : List ℕ) (probe : Probe)
-      (request : TimedDatagram) (number' last' : ℕ) (lines_left' : List ℕ) (progress' : Progress) (probe' probe'' : Probe) (line : List ℕ)
+      (request : TimedDatagram) (number' last' : ℕ) (lines_left' : List ℕ) (progress' : Progress) (probe' : Probe) (line : List ℕ)
       → (r : InRun old new bytes frames stop requests progress number last lines_left probe)
       → requests_from number last (lines lines_left) ≡ with_first request (requests_from number' last' (lines lines_left')) → number' ≡ number + 1
-      → ((left : List Frame) (journal : Journal) → Leaves progress bytes left stop → Stands probe journal → Advanced request.moment bytes progress' probe' progress.reach.count left stop journal)
-      → ((journal : Journal) → Stands probe' journal → (after : Journal) × IsAnswer settings journal number request line after × Stands probe'' after)
-      → NextLine old new bytes frames stop requests progress' number' last' lines_left' probe'' line
+      → IsNextLine bytes progress progress' settings probe' number request r.left stop r.journal line
+      → NextLine old new bytes frames stop requests progress' number' last' lines_left' probe' line
   unfolding AreLines events
-  next_line old new bytes frames stop requests progress number last lines_left probe request number' last' lines_left' progress' probe' probe'' line r takes one advances answers =
+  next_line old new bytes frames stop requests progress number last lines_left probe request number' last' lines_left' progress' probe' line r takes one next =
       let w = with_first_ok request (requests_from number' last' (lines lines_left')) r.asked (sym takes ∙ r.requests_left) in
-      let a = advances r.left r.journal r.records_left r.stands in
       let j : Journal = after_frames (take_while (is_by request.moment) r.left) r.journal in
-      let s = answers j a.stands in
       record {
         sofar = r.sofar;
-        journal = s.0;
+        journal = next.after;
         left = frames_after request.moment r.left;
         asked = w.0;
-        records_left = a.left;
+        records_left = next.left;
         requests_left = w.1;
-        stands = s.2;
+        stands = next.stands;
         added = r.added;
         goes = λ text h.
             let here : AreLines settings j (Asks number request ∷ events (number + 1) (frames_after request.moment r.left) w.0) (line ++ text) =
-            (line, text, s.0, s.1, refl, subst (λ (n : ℕ). AreLines settings s.0 (events n (frames_after request.moment r.left) w.0) text) one h) in
+            (line, text, next.after, next.answer, refl, subst (λ (n : ℕ). AreLines settings next.after (events n (frames_after request.moment r.left) w.0) text) one h) in
             let before : AreLines settings r.journal (events number r.left (request ∷ w.0)) (line ++ text) =
             lines_after r.journal (take_while (is_by request.moment) r.left) (Asks number request ∷ events (number + 1) (frames_after request.moment r.left) w.0) (line ++ text) here in
             let all = r.goes (line ++ text) (subst (λ (rs : List TimedDatagram). AreLines settings r.journal (events number r.left rs) (line ++ text)) (sym w.2) before) in
             subst (λ (t : List ℕ). AreLines settings [] (events 1 frames requests) t) (sym (append_assoc r.sofar line text)) all;
-        frame_count = a.count ∙ r.frame_count;
+        frame_count = next.count ∙ r.frame_count;
         request_count = omega (arith, one, r.request_count, ap length w.2);
       }
 
@@ -160,16 +149,6 @@ module _ (settings : Settings) where
         frame_count = n.frame_count;
         request_count = n.request_count;
       }
-
-  front_of : (k : ℕ) (xs ys zs : List ℕ) → take (length xs + min k (length ys)) (xs ++ (ys ++ zs)) ≡ xs ++ take k ys
-  front_of k xs ys zs =
-      take-append-add xs (ys ++ zs) (min k (length ys)) ∙ ap (λ (t : List ℕ). xs ++ t) (take-append-le (min k (length ys)) ys zs (omega arith) ∙ short k ys)
-    where
-      short : (k : ℕ) (ys : List ℕ) → take (min k (length ys)) ys ≡ take k ys
-      short k ys = elim (cases_lt k (length ys)) [
-        | inl lt ↦ let e : min k (length ys) ≡ k = omega arith in rw e refl
-        | inr le ↦ let e : min k (length ys) ≡ length ys = omega arith in rw (e, take_all k ys le) (take-length ys)
-      ]
 
   -- the line is put in part
   pub line_cut : EveryDatagram → (old new next : Option (List ℕ)) (bytes : List ℕ) (frames : List Frame) (stop : Stop) (requests : List TimedDatagram) (progress : Progress) (number last : ℕ) (lines_left : List ℕ) (probe : Probe) (line : List ℕ)
@@ -241,20 +220,18 @@ module _ (settings : Settings) where
       )
 
   -- a run that stops after so many lines has written a front
-  pub text_stopped : EveryDatagram → (old new : Option (List ℕ)) (bytes : List ℕ) (frames : List Frame) (stop : Stop) (requests : List TimedDatagram) (progress : Progress) (number last : ℕ) (lines_left : List ℕ) (probe : Probe)
-      → InRun old new bytes frames stop requests progress number last lines_left probe
-      → (text : List ℕ) × IsText settings frames stop requests text × AddsFront old new text
-  text_stopped every old new bytes frames stop requests progress number last lines_left probe r =
+  text_stopped : EveryDatagram → (old new next : Option (List ℕ)) (bytes : List ℕ) (frames : List Frame) (stop : Stop) (requests : List TimedDatagram) (progress : Progress) (number last : ℕ) (lines_left : List ℕ) (probe : Probe)
+      → InRun old new bytes frames stop requests progress number last lines_left probe → AddsFront new next []
+      → (text : List ℕ) × IsText settings frames stop requests text × AddsFront old next text
+  text_stopped every old new next bytes frames stop requests progress number last lines_left probe r (n, added) =
       let m = some_lines every r.journal (events number r.left r.asked) in
-      let e = last_line stop (length frames) (length requests) in (
+      let e = last_line stop (length frames) (length requests) in
+      let all = adds_then old new next r.sofar (take n []) r.added added in
+      let whole : r.sofar ++ take {A = ℕ} n [] ≡ take (length r.sofar + min n 0) (r.sofar ++ ([] ++ (m.0 ++ e))) = sym (front_of n r.sofar [] (m.0 ++ e)) in (
         (r.sofar ++ m.0) ++ e,
         record { lines = r.sofar ++ m.0; are_lines = r.goes m.0 m.1; whole = refl },
-        (length r.sofar, rw (append_assoc r.sofar m.0 e, take-append-le (length r.sofar) r.sofar (m.0 ++ e) (omega arith), take-length r.sofar) r.added),
+        (length r.sofar + min n 0, rw (append_assoc r.sofar m.0 e) (subst (λ (t : List ℕ). Adds old next t) whole all)),
       )
-
-  adds_none : (o : Option (List ℕ)) → Adds o o []
-  adds_none None = tt
-  adds_none (Some t) = ap (λ (x : List ℕ). Some x) (sym (append-nil t))
 
   -- a run that has written nothing has written a front
   pub text_none : EveryDatagram → (old : Option (List ℕ)) (frames : List Frame) (stop : Stop) (requests : List TimedDatagram) → (text : List ℕ) × IsText settings frames stop requests text × AddsFront old old text
@@ -279,6 +256,42 @@ module _ (settings : Settings) where
         frame_count = omega (arith, none);
         request_count = omega arith;
       }
+
+  -- the line of a datagram isn't put whole
+  pub answer_stops : EveryDatagram → (old new next : Option (List ℕ)) (bytes : List ℕ) (frames : List Frame) (stop : Stop) (requests : List TimedDatagram) (progress : Progress) (number last : ℕ) (lines_left : List ℕ) (probe : Probe)
+      (request : TimedDatagram) (number' last' : ℕ) (lines_left' : List ℕ) (progress' : Progress) (probe' : Probe)
+      → (r : InRun old new bytes frames stop requests progress number last lines_left probe)
+      → requests_from number last (lines lines_left) ≡ with_first request (requests_from number' last' (lines lines_left')) → number' ≡ number + 1 → IsFaultless stop → (status : Status)
+      → WritesLine {T = Unit {0}} (IsNextLine bytes progress progress' settings probe' number request r.left stop r.journal) stop new next (Err status) → Writes settings frames stop requests old next status
+  answer_stops every old new next bytes frames stop requests progress number last lines_left probe request number' last' lines_left' progress' probe' r takes one faultless WriteFault (line, is, put) =
+      line_cut every old new next bytes frames stop requests progress' number' last' lines_left' probe' line
+      (next_line old new bytes frames stop requests progress number last lines_left probe request number' last' lines_left' progress' probe' line r takes one is) put
+  answer_stops every old new next bytes frames stop requests progress number last lines_left probe request number' last' lines_left' progress' probe' r takes one faultless ReadFault front =
+      text_stopped every old new next bytes frames stop requests progress number last lines_left probe r front
+  answer_stops every old new next bytes frames stop requests progress number last lines_left probe request number' last' lines_left' progress' probe' r takes one faultless Done (fault, is, status) = absurd (subst (λ (s : Stop). IsFaultless s) is faultless)
+  answer_stops every old new next bytes frames stop requests progress number last lines_left probe request number' last' lines_left' progress' probe' r takes one faultless Usage (fault, is, status) = absurd (subst (λ (s : Stop). IsFaultless s) is faultless)
+  answer_stops every old new next bytes frames stop requests progress number last lines_left probe request number' last' lines_left' progress' probe' r takes one faultless (BadCapture at) (fault, is, status) = absurd (subst (λ (s : Stop). IsFaultless s) is faultless)
+  answer_stops every old new next bytes frames stop requests progress number last lines_left probe request number' last' lines_left' progress' probe' r takes one faultless (BadRequests at) (fault, is, status) = absurd (subst (λ (s : Stop). IsFaultless s) is faultless)
+  answer_stops every old new next bytes frames stop requests progress number last lines_left probe request number' last' lines_left' progress' probe' r takes one faultless NoMemory (fault, is, status) = absurd (subst (λ (s : Stop). IsFaultless s) is faultless)
+  answer_stops every old new next bytes frames stop requests progress number last lines_left probe request number' last' lines_left' progress' probe' r takes one faultless LinkFault (fault, is, status) = absurd (subst (λ (s : Stop). IsFaultless s) is faultless)
+  answer_stops every old new next bytes frames stop requests progress number last lines_left probe request number' last' lines_left' progress' probe' r takes one faultless TooLong (fault, is, status) = absurd (subst (λ (s : Stop). IsFaultless s) is faultless)
+
+  -- the last line is put, or isn't put whole
+  pub last_written : EveryDatagram → (old new next : Option (List ℕ)) (bytes : List ℕ) (frames : List Frame) (stop : Stop) (requests : List TimedDatagram) (progress : Progress) (number last : ℕ) (lines_left : List ℕ) (probe : Probe)
+      → (r : InRun old new bytes frames stop requests progress number last lines_left probe) → requests_from number last (lines lines_left) ≡ Ok [] → IsFaultless stop → (status : Status)
+      → WritesLine (λ line. line ≡ last_line stop (progress.reach.count + length r.left) (number - 1)) stop new next (done status) → Writes settings frames stop requests old next status
+  last_written every old new next bytes frames stop requests progress number last lines_left probe r none faultless Done (line, is, put) =
+      text_put old new next frames stop requests (progress.reach.count + length r.left) number line (all_put old new bytes frames stop requests progress number last lines_left probe r none) r.frame_count is put
+  last_written every old new next bytes frames stop requests progress number last lines_left probe r none faultless WriteFault (line, is, put) =
+      text_cut old new next frames stop requests (progress.reach.count + length r.left) number line (all_put old new bytes frames stop requests progress number last lines_left probe r none) r.frame_count is put
+  last_written every old new next bytes frames stop requests progress number last lines_left probe r none faultless ReadFault front =
+      text_stopped every old new next bytes frames stop requests progress number last lines_left probe r front
+  last_written every old new next bytes frames stop requests progress number last lines_left probe r none faultless Usage (fault, is, status) = absurd (subst (λ (s : Stop). IsFaultless s) is faultless)
+  last_written every old new next bytes frames stop requests progress number last lines_left probe r none faultless (BadCapture at) (fault, is, status) = absurd (subst (λ (s : Stop). IsFaultless s) is faultless)
+  last_written every old new next bytes frames stop requests progress number last lines_left probe r none faultless (BadRequests at) (fault, is, status) = absurd (subst (λ (s : Stop). IsFaultless s) is faultless)
+  last_written every old new next bytes frames stop requests progress number last lines_left probe r none faultless NoMemory (fault, is, status) = absurd (subst (λ (s : Stop). IsFaultless s) is faultless)
+  last_written every old new next bytes frames stop requests progress number last lines_left probe r none faultless LinkFault (fault, is, status) = absurd (subst (λ (s : Stop). IsFaultless s) is faultless)
+  last_written every old new next bytes frames stop requests progress number last lines_left probe r none faultless TooLong (fault, is, status) = absurd (subst (λ (s : Stop). IsFaultless s) is faultless)
 
   -- how far a run is
   pub record Running {F K : Type 0} (held : F → List ℕ → Held) (reads : F → List ℕ → ℕ) (shelf shelf' : F) (name : List ℕ) (content : K → Option (List ℕ)) (writes : K → ℕ) (first now : K)

@@ -6,6 +6,7 @@ pub mod Whole
 pub mod Events
 pub mod Text
 pub mod Probe
+pub mod Notes
 pub mod Steps
 pub mod Status
 pub mod Ends

@@ -1,5 +1,5 @@
 -- What the steps of a run do.
-use Rattle.std.specs.Prelude.{◌≡◌, ℕ, ◌+◌, ◌≤◌, List, length, take_while, Option, Some, None, Result, Ok, Err, ⊤}
+use Rattle.std.specs.Prelude.{◌≡◌, ℕ, ◌+◌, ◌≤◌, List, [], length, take_while, Option, Some, None, Result, Ok, Err, ⊤}
 use Rattle.rm_edge.specs.Outside.{Adds, AddsFront, Held, OfFile, Rose}
 use Rattle.rm_model.specs.Journal.{Frame, Journal, after_frames}
 use Rattle.rm_pcap.specs.Records.{Stop, Broken, Found, Whole, Stops, AreRecords}
@@ -7,8 +7,9 @@ use Rattle.rm_pcap.specs.Progress.{Progress, Agrees}
 use Rattle.rm_pcap.specs.declared.reach.Reach.{Reach}
 use Rattle.rm_pcap.specs.declared.fault.PcapFault.{PcapFault}
 use Rattle.rm_pcap.specs.declared.fault.PcapFault.TheVariants.{Included, Original, Late, TooMany, Read}
-use Rattle.rm_probe.specs.Capture.{IsCaptureFile, CallsFor}
+use Rattle.rm_probe.specs.Capture.{IsCaptureFile, CallsFor, status_of}
 use Rattle.rm_probe.specs.Lines.{TimedDatagram}
+use Rattle.rm_probe.specs.declared.lines.Request.{Request}
 use Rattle.rm_probe.specs.Events.{is_by, frames_after}
 use Rattle.rm_probe.specs.Text.{IsAnswer, IsText, last_line}
 use Rattle.rm_probe.specs.Probe.{settings_of, last_given, frames_given, Stands}
@@ -68,18 +69,14 @@ Advances moment bytes old new probe probe' (Err Read) = ⊤
 Advances moment bytes old new probe probe' (Err fault) =
     (frames : List Frame) (stop : Stop) (journal : Journal) → Leaves old bytes frames stop → Stands probe journal → stop ≡ Broken fault
 
+-- the datagram of a request, at its moment
+abbrev pub timed : Request → TimedDatagram
+timed request = record { moment = request.moment; datagram = request.datagram.now }
+
 -- Whatever the journal is, the line is an answer, and the probe stands for the journal after it.
 abbrev pub Answers : Probe → Probe → ℕ → TimedDatagram → List ℕ → Type 0
 Answers old new number request line =
     (journal : Journal) → Stands old journal → (after : Journal) × IsAnswer (settings_of old) journal number request line after × Stands new after
-
--- what a run writes: its text, or a front of it where a read or a put failed, or nothing for want of memory
-abbrev pub Writes : Settings → List Frame → Stop → List TimedDatagram → Option (List ℕ) → Option (List ℕ) → Status → Type 0
-Writes settings frames stop requests old new Done = (text : List ℕ) × IsText settings frames stop requests text × Adds old new text
-Writes settings frames stop requests old new WriteFault = (text : List ℕ) × IsText settings frames stop requests text × AddsFront old new text
-Writes settings frames stop requests old new ReadFault = (text : List ℕ) × IsText settings frames stop requests text × AddsFront old new text
-Writes settings frames stop requests old new NoMemory = new ≡ old
-Writes settings frames stop requests old new other = ⊥
 
 -- What the last line says: of all the frames that were passed and are left. A fault is that of a read, or of the records left.
 abbrev pub Finishes : {T : Type 0} → List ℕ → Progress → Probe → ℕ → List ℕ → Result T PcapFault → Type 0
@@ -89,3 +86,32 @@ Finishes bytes progress probe requests line (Ok done) =
 Finishes bytes progress probe requests line (Err Read) = ⊤
 Finishes bytes progress probe requests line (Err fault) =
     (frames : List Frame) (stop : Stop) (journal : Journal) → Leaves progress bytes frames stop → Stands probe journal → stop ≡ Broken fault
+
+-- The next line: an answer after the frames up to the moment of its datagram, and what it leaves.
+pub record IsNextLine (bytes : List ℕ) (old new : Progress) (settings : Settings) (probe : Probe) (number : ℕ) (request : TimedDatagram) (frames : List Frame) (stop : Stop) (journal : Journal) (line : List ℕ) : Type 0 where
+  pub left : Leaves new bytes (frames_after request.moment frames) stop
+  pub count : new.reach.count + length (frames_after request.moment frames) ≡ old.reach.count + length frames
+  pub after : Journal
+  pub answer : IsAnswer settings (after_frames (take_while (is_by request.moment) frames) journal) number request line after
+  pub stands : Stands probe after
+
+-- a status as a result: Done is no error
+abbrev pub done : Status → Result (Unit {0}) Status
+done Done = Ok tt
+done status = Err status
+
+-- What is written for a line: the whole line, or a front of it where a put failed, or nothing where a read failed. Other
+-- faults are how the records stop.
+abbrev pub WritesLine : {T : Type 0} → (List ℕ → Type 0) → Stop → Option (List ℕ) → Option (List ℕ) → Result T Status → Type 0
+WritesLine IsNext stop content content' (Ok done) = (line : List ℕ) × IsNext line × Adds content content' line
+WritesLine IsNext stop content content' (Err WriteFault) = (line : List ℕ) × IsNext line × AddsFront content content' line
+WritesLine IsNext stop content content' (Err ReadFault) = AddsFront content content' []
+WritesLine IsNext stop content content' (Err status) = (fault : PcapFault) × (stop ≡ Broken fault) × (status ≡ status_of fault)
+
+-- what a run writes: its text, or a front of it where a read or a put failed, or nothing for want of memory
+abbrev pub Writes : Settings → List Frame → Stop → List TimedDatagram → Option (List ℕ) → Option (List ℕ) → Status → Type 0
+Writes settings frames stop requests old new Done = (text : List ℕ) × IsText settings frames stop requests text × Adds old new text
+Writes settings frames stop requests old new WriteFault = (text : List ℕ) × IsText settings frames stop requests text × AddsFront old new text
+Writes settings frames stop requests old new ReadFault = (text : List ℕ) × IsText settings frames stop requests text × AddsFront old new text
+Writes settings frames stop requests old new NoMemory = new ≡ old
+Writes settings frames stop requests old new other = ⊥

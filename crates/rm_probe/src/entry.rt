@@ -8,8 +8,8 @@ ghost use Rattle.rm_probe.specs.declared.status.Status.TheVariants.{Usage};
 
 use crate::judging::judge;
 use crate::probe::Probe;
+use crate::replaying::write_run;
 use crate::status::Status;
-use crate::writing::write_run;
 use arrayvec::ArrayVec;
 use rm_agent::Settings;
 use rm_edge::{Clock, Link, Shelf, Sink, Words};
@@ -168,7 +168,7 @@ fn replay_judged<F: Shelf, K: Sink>(
         (K.faults out.old) (K.faults out.new) (K.content out.old) (K.content out.new) result }
     ensures silent { IsSilent result → K.content out.new ≡ K.content out.old }
 {
-    let Ok(mut probe) = Probe::new(alloc, settings) else {
+    let Ok(probe) = Probe::new(alloc, settings) else {
         return Status::NoMemory;
     };
     match judge(alloc, lead, capture, requests, shelf) {
@@ -177,7 +177,7 @@ fn replay_judged<F: Shelf, K: Sink>(
             shelf,
             capture,
             lead,
-            &mut probe,
+            probe,
             &judged.requests,
             &mut judged.datagram,
             out,

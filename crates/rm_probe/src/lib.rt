@@ -6,13 +6,14 @@ mod entry;
 mod judging;
 mod line;
 mod lines;
+mod notes;
+mod output;
 mod probe;
+mod replaying;
 mod status;
-#[cfg(test)]
-mod tests;
 mod whole;
-mod writing;
 
 pub use entry::{replay, run};
+pub use notes::Notes;
 pub use probe::Probe;
 pub use status::Status;

@@ -1,13 +1,16 @@
 // The lines that are written.
-ghost use Rattle.std.specs.Prelude.{◌≡◌, ◌+◌, ◌≤◌, ◌++◌, [], codes, decimal, length};
+ghost use Rattle.std.specs.Prelude.{◌≡◌, ◌+◌, ◌≤◌, ◌++◌, List, [], codes, decimal, length};
 ghost use Rattle.hex.specs.Hex.{encode_lower};
 ghost use Rattle.rm_agent.specs.Answers.{IsShort};
 ghost use Rattle.rm_probe.specs.Text.{reason_text, answer_text, last_line};
+ghost use Rattle.rm_probe.specs.Notes.{Note, trap_line};
 ghost use Rattle.rm_probe.specs.Probe.{settings_of, last_given, frames_given};
-ghost use Rattle.rm_probe.specs.Steps.{Answers};
+ghost use Rattle.rm_probe.specs.Steps.{Answers, timed};
 ghost use Rattle.rm_pcap.specs.Records.{Stop, Stops};
 ghost use Rattle.rm_pcap.specs.Progress.{Shows};
 
+use crate::lines::Request;
+use crate::notes::Notes;
 use crate::probe::Probe;
 use arrayvec::ArrayVec;
 use itoa::Buffer;
@@ -82,29 +85,41 @@ fn push_answer(line: &mut Line, answer: Answer, out: &[u8; MOST_REPLY])
     }
 }
 
+/// Writes the line of a notification into an empty line.
+pub fn trap_line(moment: u32, message: &[u8], line: &mut Line)
+    requires empty { line.old.items ≡ [] }
+    requires short { length message.now ≤ 1472 }
+    ensures { line.new.items ≡ trap_line (record { moment = moment; message = message.now }) }
+{
+    push_number(line, u64::from(moment));
+    push(line, b" trap ");
+    push_hex(line, message);
+    push(line, b"\n");
+}
+
 /// Answers a datagram, and writes its line into an empty line.
 #[tactic(auto, unfolding(crate::specs::Text::IsAnswer))]
-pub fn push_line(
+pub fn push_line<N: Notes>(
     line: &mut Line,
     alloc: Global,
     probe: &mut Probe,
-    number: u64,
-    moment: u32,
-    datagram: &[u8],
+    request: Request<'_>,
+    notes: &mut N,
 )
     requires empty { line.old.items ≡ [] }
-    requires later { last_given probe.old ≤ moment }
-    ensures answers { Answers probe.old probe.new number (record { moment = moment; datagram = datagram.now }) line.new.items }
+    requires later { last_given probe.old ≤ request.moment }
+    ensures answers { Answers probe.old probe.new request.entry.number (timed request.entry) line.new.items }
     ensures settings { settings_of probe.new ≡ settings_of probe.old }
-    ensures last { last_given probe.new ≡ moment }
+    ensures last { last_given probe.new ≡ request.entry.moment }
     ensures frames { frames_given probe.new ≡ frames_given probe.old }
+    ensures noted { (start : N) (sent : List Note) → N.since start notes.old sent → N.since start notes.new sent }
 {
-    push_number(line, u64::from(moment));
+    push_number(line, u64::from(request.moment));
     push(line, b" ");
-    push_number(line, number);
+    push_number(line, request.number);
     push(line, b" ");
     let mut out = [0; MOST_REPLY];
-    let answer = probe.datagram(alloc, datagram, moment, &mut out);
+    let answer = probe.datagram(alloc, request.datagram, request.moment, &mut out, notes);
     push_answer(line, answer, &out);
     push(line, b"\n");
 }

@@ -85,6 +85,14 @@ fn read_request(line: &[u8], into: &mut [u8]) -> Option<(u32, usize)>
     Some((moment, count))
 }
 
+/// A datagram of a request file, the number of its line from 1, and the moment in milliseconds at which it comes.
+#[derive(Clone, Copy)]
+pub struct Request<'a> {
+    pub number: u64,
+    pub moment: u32,
+    pub datagram: &'a [u8],
+}
+
 /// Where the requests of a file go on: what is left of it, the number of the next line, and the last moment.
 #[derive(Clone, Copy)]
 pub struct Cursor<'a> {

@@ -1,8 +1,10 @@
 // The probe.
-ghost use Rattle.std.specs.Prelude.{◌≡◌, ◌+◌, ◌≤◌, ◌<◌, [], ◌∷◌, length, IfOk};
+ghost use Rattle.std.specs.Prelude.{◌≡◌, ◌+◌, ◌≤◌, ◌<◌, List, [], ◌∷◌, length, IfOk};
 ghost use Rattle.rm_model.specs.Journal.{Journal};
 ghost use Rattle.rm_agent.specs.Answers.{IsShort};
+ghost use Rattle.rm_probe.specs.Notes.{Note};
 
+use crate::notes::Notes;
 use rm_agent::{Agent, Answer, MOST_REPLY, Settings};
 use rm_pcap::Frame;
 use rm_val::NoMemory;
@@ -33,8 +35,8 @@ impl Probe {
     }
 
     /// Counts a frame. Its moment, in milliseconds, isn't below the last one given, it had at most 262,144 octets and was
-    /// captured with no more than it had, and fewer than 400,000,000 frames were given before.
-    pub fn frame(&mut self, frame: &Frame<'_>)
+    /// captured with no more than it had, and fewer than 400,000,000 frames were given before. No notification comes yet.
+    pub fn frame<N: Notes>(&mut self, frame: &Frame<'_>, _notes: &mut N)
         requires later { last_given self.old ≤ frame.now.moment }
         requires captured { length frame.now.bytes.now ≤ frame.now.original }
         requires original { frame.now.original ≤ 262144 }
@@ -43,18 +45,20 @@ impl Probe {
         ensures settings { settings_of self.new ≡ settings_of self.old }
         ensures last { last_given self.new ≡ frame.now.moment }
         ensures frames { frames_given self.new ≡ frames_given self.old + 1 }
+        ensures noted { (start : N) (sent : List Note) → N.since start _notes.old sent → N.since start _notes.new sent }
     {
         self.agent.frame(frame);
     }
 
     /// Answers a datagram at a moment, in milliseconds, which isn't below the last one given. A reply comes to the front of
-    /// `out`. Drop says why there is none.
-    pub fn datagram(
+    /// `out`. Drop says why there is none. No notification comes yet.
+    pub fn datagram<N: Notes>(
         &mut self,
         alloc: Global,
         bytes: &[u8],
         moment: u32,
         out: &mut [u8; MOST_REPLY],
+        _notes: &mut N,
     ) -> Answer
         requires { last_given self.old ≤ moment }
         ensures answered { (journal : Journal) → Stands self.old journal → (after : Journal)
@@ -63,6 +67,7 @@ impl Probe {
         ensures settings { settings_of self.new ≡ settings_of self.old }
         ensures last { last_given self.new ≡ moment }
         ensures frames { frames_given self.new ≡ frames_given self.old }
+        ensures noted { (start : N) (sent : List Note) → N.since start _notes.old sent → N.since start _notes.new sent }
     {
         self.agent.answer(alloc, bytes, moment, out)
     }

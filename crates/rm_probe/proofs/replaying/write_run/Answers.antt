@@ -1,16 +1,17 @@
-use Rattle.std.proofs.Common.{◌∙◌}
+use Rattle.std.proofs.Common.{◌∙◌, subst}
 use Rattle.rm_pcap.specs.View.{progress_of}
 use Rattle.rm_probe.specs.Probe.{settings_of}
+use Rattle.rm_probe.specs.Steps.{Writes}
 use Rattle.rm_probe.proofs.EndLemmas.{begun_left, writes_none}
 use Rattle.rm_probe.proofs.RunLemmas.{text_none}
-use Rattle.rm_probe.proofs.writing.write_run.Goals as goal
+use Rattle.rm_probe.proofs.replaying.write_run.Goals as goal
 
 pub returns-in-Ok-clause-text : goal.returns-in-Ok-clause-text
 returns-in-Ok-clause-text g c = λ bytes frames stop asked is capture are.
     let (left, none) = begun_left c.args.lead bytes frames stop (progress_of c.in-Ok.capture).form (progress_of c.in-Ok.capture) (c.in-Ok.ensures.header bytes is) c.in-Ok.ensures.begun capture in
-    c.write_lines.ensures.text bytes frames stop asked (c.in-Ok.ensures.constant c.args.name.now ∙ is) left none capture.faultless are
+    c.write.ensures.text bytes frames stop asked (c.in-Ok.ensures.constant c.args.name.now ∙ is) left none capture.faultless are
 
 pub returns-in-Err-clause-text : goal.returns-in-Err-clause-text
 returns-in-Err-clause-text g c = λ bytes frames stop asked is capture are.
-    rw c.from.ensures (writes_none c.args.lead (settings_of c.args.probe.now) bytes frames stop asked (g.K.Sink.content c.args.out.now) c.in-Err.fault (c.in-Err.ensures.header bytes is) c.in-Err.ensures.kinds capture
-    (text_none (settings_of c.args.probe.now) (record { verdict = c.every_verdict.ensures; reply = c.every_reply.ensures }) (g.K.Sink.content c.args.out.now) frames stop asked))
+    rw c.from.ensures (writes_none c.args.lead (settings_of c.args.probe) bytes frames stop asked (g.K.Sink.content c.args.out.now) c.in-Err.fault (c.in-Err.ensures.header bytes is) c.in-Err.ensures.kinds capture
+    (text_none (settings_of c.args.probe) (record { verdict = c.every_verdict.ensures; reply = c.every_reply.ensures }) (g.K.Sink.content c.args.out.now) frames stop asked))

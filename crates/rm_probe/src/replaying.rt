@@ -1,0 +1,292 @@
+// The text of a run: a capture is read again, and the datagrams of a request file are answered, which were judged before.
+ghost use Rattle.std.specs.Prelude.{◌≡◌, ◌+◌, ◌≤◌, ◌<◌, ◌^◌, ℕ, true, false, List, length, Some, Ok, Err, OnOk, OnErr, IsOk, IfErr, []};
+ghost use Rattle.rm_edge.specs.Outside.{Rose, File};
+ghost use Rattle.rm_model.specs.Journal.{Frame, Journal};
+ghost use Rattle.rm_pcap.specs.View.{progress_of};
+ghost use Rattle.rm_pcap.specs.Records.{Stop, Stops};
+ghost use Rattle.rm_pcap.specs.declared.fault.PcapFault.TheVariants.{Read};
+ghost use Rattle.rm_probe.specs.Capture.{IsCapture, IsFaultless};
+ghost use Rattle.rm_probe.specs.Lines.{TimedDatagram, AreRequests, requests_of};
+ghost use Rattle.rm_probe.specs.Notes.{Note};
+ghost use Rattle.rm_probe.specs.Text.{last_line};
+ghost use Rattle.rm_probe.specs.Probe.{settings_of, last_given, IsFresh, Stands};
+ghost use Rattle.rm_probe.specs.Steps.{Advances, Finishes, IsNextLine, IsOfRecord, Keeps, Leaves, Writes, WritesLine, done, timed};
+ghost use Rattle.rm_probe.specs.Ends.{IsSilent};
+ghost use Rattle.rm_probe.specs.declared.status.Status.TheVariants.{BadRequests, ReadFault, WriteFault, NoMemory};
+
+use crate::line::{self, Line};
+use crate::lines::{self, Request};
+use crate::notes::Notes;
+use crate::output::Output;
+use crate::probe::Probe;
+use crate::status::Status;
+use rm_agent::every_reply;
+use rm_edge::{Shelf, Sink};
+use rm_pcap::{Capture, PcapFault, Step};
+use rm_pdu::every_verdict;
+use std::alloc::Global;
+
+/// A capture whose frames pass by a probe.
+#[derive(Drop)]
+struct Replaying {
+    capture: Capture,
+    probe: Probe,
+}
+
+impl Replaying {
+    /// Counts the frames up to a moment, which isn't below the last one that the probe was given.
+    fn advance<F: Shelf, N: Notes>(
+        &mut self,
+        shelf: &mut F,
+        name: &str,
+        moment: u32,
+        notes: &mut N,
+    ) -> Result<(), PcapFault>
+        requires later { last_given self.old.probe ≤ moment }
+        requires keeps { Keeps (last_given self.old.probe) self.old.probe (progress_of self.old.capture) }
+        ensures constant { (each : List ℕ) → F.held shelf.new each ≡ F.held shelf.old each }
+        ensures later { (each : List ℕ) → F.faults shelf.old each ≤ F.faults shelf.new each }
+        ensures cause { result ≡ Err Read → Rose (F.faults shelf.old name.now) (F.faults shelf.new name.now) }
+        ensures kinds { IfErr result IsOfRecord }
+        ensures passed { (bytes : List ℕ) → F.held shelf.old name.now ≡ File bytes
+            → Advances moment bytes (progress_of self.old.capture) (progress_of self.new.capture) self.old.probe self.new.probe result }
+        ensures settings { settings_of self.new.probe ≡ settings_of self.old.probe }
+        ensures keeps { OnOk result (Keeps moment self.new.probe (progress_of self.new.capture)) }
+        ensures all { moment ≡ 4294967295 → OnOk result ((stop : Stop) × ((progress_of self.new.capture).ahead ≡ Some (Stops stop))) }
+        ensures noted { (start : N) (sent : List Note) → N.since start notes.old sent → N.since start notes.new sent }
+    {
+        loop {
+            let next = match self.capture.peek(shelf, name) {
+                Ok(Some(next)) => next,
+                Ok(None) => return Ok(()),
+                Err(fault) => return Err(fault),
+            };
+            if next > moment {
+                return Ok(());
+            }
+            match self.capture.next(shelf, name) {
+                Ok(Step::Next(frame)) => self.probe.frame(&frame, notes),
+                Ok(_) => return Ok(()),
+                Err(fault) => return Err(fault),
+            }
+        }
+    }
+
+    /// Counts the frames that are left, and writes the last line into an empty line, after so many datagrams.
+    fn finish<F: Shelf, N: Notes>(
+        &mut self,
+        shelf: &mut F,
+        name: &str,
+        requests: u64,
+        line: &mut Line,
+        notes: &mut N,
+    ) -> Result<(), PcapFault>
+        requires empty { line.old.items ≡ [] }
+        requires moment { last_given self.old.probe < 2 ^ 32 }
+        requires keeps { Keeps (last_given self.old.probe) self.old.probe (progress_of self.old.capture) }
+        ensures constant { (each : List ℕ) → F.held shelf.new each ≡ F.held shelf.old each }
+        ensures later { (each : List ℕ) → F.faults shelf.old each ≤ F.faults shelf.new each }
+        ensures cause { result ≡ Err Read → Rose (F.faults shelf.old name.now) (F.faults shelf.new name.now) }
+        ensures kinds { IfErr result IsOfRecord }
+        ensures last { (bytes : List ℕ) → F.held shelf.old name.now ≡ File bytes
+            → Finishes bytes (progress_of self.old.capture) self.old.probe requests line.new.items result }
+        ensures noted { (start : N) (sent : List Note) → N.since start notes.old sent → N.since start notes.new sent }
+    {
+        match self.advance(shelf, name, u32::MAX, notes) {
+            Ok(()) => (),
+            Err(fault) => return Err(fault),
+        }
+        let frames = u64::from(self.capture.count());
+        match self.capture.next(shelf, name) {
+            Ok(step) => {
+                line::last_line(step, frames, requests, line);
+                Ok(())
+            }
+            Err(fault) => Err(fault),
+        }
+    }
+
+    /// Counts the frames up to the moment of a datagram, answers it, and writes its line.
+    fn write_answer<F: Shelf, K: Sink>(
+        &mut self,
+        alloc: Global,
+        shelf: &mut F,
+        name: &str,
+        request: Request<'_>,
+        out: &mut Output<'_, K>,
+    ) -> Result<(), Status>
+        requires later { last_given self.old.probe ≤ request.moment }
+        requires keeps { Keeps (last_given self.old.probe) self.old.probe (progress_of self.old.capture) }
+        requires output { out.old.failed ≡ false }
+        ensures constant { (each : List ℕ) → F.held shelf.new each ≡ F.held shelf.old each }
+        ensures line { (bytes : List ℕ) (frames : List Frame) (stop : Stop) (journal : Journal) → F.held shelf.old name.now ≡ File bytes
+            → Leaves (progress_of self.old.capture) bytes frames stop → Stands self.old.probe journal
+            → WritesLine (IsNextLine bytes (progress_of self.old.capture) (progress_of self.new.capture) (settings_of self.old.probe) self.new.probe
+            request.entry.number (timed request.entry) frames stop journal) stop (K.content out.old.sink.now) (K.content out.new.sink.now) result }
+        ensures settings { settings_of self.new.probe ≡ settings_of self.old.probe }
+        ensures keeps { OnOk result (Keeps (last_given self.new.probe) self.new.probe (progress_of self.new.capture)) }
+        ensures last { OnOk result (last_given self.new.probe ≡ request.entry.moment) }
+        ensures output { OnOk result (out.new.failed ≡ false) }
+        ensures same_reference { out.new.sink.ghost_name ≡ out.old.sink.ghost_name }
+        ensures write_later { K.faults out.old.sink.now ≤ K.faults out.new.sink.now }
+        ensures read_later { (each : List ℕ) → F.faults shelf.old each ≤ F.faults shelf.new each }
+        ensures reads { result ≡ Err ReadFault → Rose (F.faults shelf.old name.now) (F.faults shelf.new name.now) }
+        ensures writes { result ≡ Err WriteFault → Rose (K.faults out.old.sink.now) (K.faults out.new.sink.now) }
+        ensures loud { IfErr result (λ status. IsSilent status → ⊥) }
+    {
+        match self.advance(shelf, name, request.moment, out) {
+            Ok(()) => (),
+            Err(fault) => return Err(Status::from(fault)),
+        }
+        let mut line = Line::new();
+        line::push_line(&mut line, alloc, &mut self.probe, request, out);
+        match out.put(&line) {
+            Ok(()) => Ok(()),
+            Err(_) => Err(Status::WriteFault),
+        }
+    }
+
+    /// Writes the last line, after so many datagrams.
+    fn write_last<F: Shelf, K: Sink>(
+        &mut self,
+        shelf: &mut F,
+        name: &str,
+        requests: u64,
+        out: &mut Output<'_, K>,
+    ) -> Status
+        requires moment { last_given self.old.probe < 2 ^ 32 }
+        requires keeps { Keeps (last_given self.old.probe) self.old.probe (progress_of self.old.capture) }
+        requires output { out.old.failed ≡ false }
+        ensures line { (bytes : List ℕ) (frames : List Frame) (stop : Stop) (journal : Journal) → F.held shelf.old name.now ≡ File bytes
+            → Leaves (progress_of self.old.capture) bytes frames stop → Stands self.old.probe journal
+            → WritesLine (λ line. line ≡ last_line stop ((progress_of self.old.capture).reach.count + length frames) requests) stop
+            (K.content out.old.sink.now) (K.content out.new.sink.now) (done result) }
+        ensures same_reference { out.new.sink.ghost_name ≡ out.old.sink.ghost_name }
+        ensures write_later { K.faults out.old.sink.now ≤ K.faults out.new.sink.now }
+        ensures read_later { (each : List ℕ) → F.faults shelf.old each ≤ F.faults shelf.new each }
+        ensures reads { result ≡ ReadFault → Rose (F.faults shelf.old name.now) (F.faults shelf.new name.now) }
+        ensures writes { result ≡ WriteFault → Rose (K.faults out.old.sink.now) (K.faults out.new.sink.now) }
+        ensures loud { IsSilent result → ⊥ }
+    {
+        let mut line = Line::new();
+        match self.finish(shelf, name, requests, &mut line, out) {
+            Ok(()) => (),
+            Err(fault) => return Status::from(fault),
+        }
+        match out.put(&line) {
+            Ok(()) => Status::Done,
+            Err(_) => Status::WriteFault,
+        }
+    }
+
+    /// Writes the lines of the datagrams of a request file, and the last one. Each datagram is read into `buffer`.
+    fn write_lines<F: Shelf, K: Sink>(
+        &mut self,
+        alloc: Global,
+        shelf: &mut F,
+        name: &str,
+        requests: &[u8],
+        buffer: &mut [u8],
+        out: &mut Output<'_, K>,
+    ) -> Status
+        requires room { 65535 ≤ length buffer.old }
+        requires few { length requests.now < 2 ^ 32 }
+        requires judged { IsOk (requests_of requests.now) }
+        requires first { IsFresh self.old.probe }
+        requires begun { Keeps 0 self.old.probe (progress_of self.old.capture) }
+        requires output { out.old.failed ≡ false }
+        ensures text { (bytes : List ℕ) (frames : List Frame) (stop : Stop) (asked : List TimedDatagram) → F.held shelf.old name.now ≡ File bytes
+            → Leaves (progress_of self.old.capture) bytes frames stop → (progress_of self.old.capture).reach.count ≡ 0 → IsFaultless stop → AreRequests requests.now asked
+            → Writes (settings_of self.old.probe) frames stop asked (K.content out.old.sink.now) (K.content out.new.sink.now) result }
+        ensures same_reference { out.new.sink.ghost_name ≡ out.old.sink.ghost_name }
+        ensures write_later { K.faults out.old.sink.now ≤ K.faults out.new.sink.now }
+        ensures read_later { (each : List ℕ) → F.faults shelf.old each ≤ F.faults shelf.new each }
+        ensures reads { result ≡ ReadFault → Rose (F.faults shelf.old name.now) (F.faults shelf.new name.now) }
+        ensures writes { result ≡ WriteFault → Rose (K.faults out.old.sink.now) (K.faults out.new.sink.now) }
+        ensures loud { IsSilent result → ⊥ }
+    {
+        every_verdict();
+        every_reply();
+        let mut cursor = lines::first_request(requests);
+        loop {
+            let taken = match lines::next_request(cursor, buffer) {
+                Ok(Some(taken)) => taken,
+                Ok(None) => return self.write_last(shelf, name, cursor.number - 1, out),
+                Err(number) => return Status::BadRequests(number),
+            };
+            let request = Request {
+                number: cursor.number,
+                moment: taken.moment,
+                datagram: &buffer[..taken.count],
+            };
+            match self.write_answer(alloc, shelf, name, request, out) {
+                Ok(()) => cursor = taken.next,
+                Err(status) => return status,
+            }
+        }
+    }
+
+    /// The same, into a sink.
+    fn write<F: Shelf, K: Sink>(
+        mut self,
+        alloc: Global,
+        shelf: &mut F,
+        name: &str,
+        requests: &[u8],
+        buffer: &mut [u8],
+        out: &mut K,
+    ) -> Status
+        requires room { 65535 ≤ length buffer.old }
+        requires few { length requests.now < 2 ^ 32 }
+        requires judged { IsOk (requests_of requests.now) }
+        requires first { IsFresh self.probe }
+        requires begun { Keeps 0 self.probe (progress_of self.capture) }
+        ensures text { (bytes : List ℕ) (frames : List Frame) (stop : Stop) (asked : List TimedDatagram) → F.held shelf.old name.now ≡ File bytes
+            → Leaves (progress_of self.capture) bytes frames stop → (progress_of self.capture).reach.count ≡ 0 → IsFaultless stop → AreRequests requests.now asked
+            → Writes (settings_of self.probe) frames stop asked (K.content out.old) (K.content out.new) result }
+        ensures write_later { K.faults out.old ≤ K.faults out.new }
+        ensures read_later { (each : List ℕ) → F.faults shelf.old each ≤ F.faults shelf.new each }
+        ensures reads { result ≡ ReadFault → Rose (F.faults shelf.old name.now) (F.faults shelf.new name.now) }
+        ensures writes { result ≡ WriteFault → Rose (K.faults out.old) (K.faults out.new) }
+        ensures loud { IsSilent result → ⊥ }
+    {
+        let mut output = Output::new(out);
+        self.write_lines(alloc, shelf, name, requests, buffer, &mut output)
+    }
+}
+
+/// Reads the capture again, its first frame at the moment `lead`, and writes the text of it and of the datagrams of a request file.
+pub fn write_run<F: Shelf, K: Sink>(
+    alloc: Global,
+    shelf: &mut F,
+    name: &str,
+    lead: u32,
+    probe: Probe,
+    requests: &[u8],
+    buffer: &mut [u8],
+    out: &mut K,
+) -> Status
+    requires room { 65535 ≤ length buffer.old }
+    requires few { length requests.now < 2 ^ 32 }
+    requires judged { IsOk (requests_of requests.now) }
+    requires first { IsFresh probe }
+    ensures text { (bytes : List ℕ) (frames : List Frame) (stop : Stop) (asked : List TimedDatagram) → F.held shelf.old name.now ≡ File bytes
+        → IsCapture lead bytes frames stop → AreRequests requests.now asked
+        → Writes (settings_of probe) frames stop asked (K.content out.old) (K.content out.new) result }
+    ensures reads { result ≡ ReadFault → Rose (F.faults shelf.old name.now) (F.faults shelf.new name.now) }
+    ensures writes { result ≡ WriteFault → Rose (K.faults out.old) (K.faults out.new) }
+    ensures silent { IsSilent result → K.content out.new ≡ K.content out.old }
+    ensures later { K.faults out.old ≤ K.faults out.new }
+    ensures read_later { (each : List ℕ) → F.faults shelf.old each ≤ F.faults shelf.new each }
+    ensures kinds { IsSilent result → result ≡ NoMemory }
+{
+    every_verdict();
+    every_reply();
+    match Capture::begin(alloc, shelf, name, lead) {
+        Ok(capture) => {
+            let replaying = Replaying { capture, probe };
+            replaying.write(alloc, shelf, name, requests, buffer, out)
+        }
+        Err(fault) => Status::from(fault),
+    }
+}
