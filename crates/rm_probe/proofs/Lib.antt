@@ -8,3 +8,4 @@ pub mod NoteLemmas
 pub mod WritingLemmas
 pub mod RunLemmas
 pub mod EndLemmas
+pub mod OneText

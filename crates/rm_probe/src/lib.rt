@@ -4,6 +4,7 @@
 mod capture;
 mod entry;
 mod judging;
+mod laws;
 mod line;
 mod lines;
 mod notes;
@@ -14,6 +15,8 @@ mod status;
 mod whole;
 
 pub use entry::{replay, run};
+pub use laws::one_text;
 pub use notes::Notes;
+pub use output::Output;
 pub use probe::Probe;
 pub use status::Status;
