@@ -1,8 +1,8 @@
 -- What an answer says of a datagram.
-use Rattle.std.proofs.Common.{◌≡◌, ℕ, true, List, Option, Some, None, take, length, refl, sym, ap, ◌∙◌, codes, ◌++◌}
+use Rattle.std.proofs.Common.{◌≡◌, ℕ, true, List, refl, sym, ap, codes, ◌++◌}
 use Rattle.hex.specs.Hex.{encode_lower}
 use Rattle.rm_model.specs.Journal.{Journal}
-use Rattle.rm_pdu.specs.Message.{Message, message_octets}
+use Rattle.rm_pdu.specs.Message.{Message}
 use Rattle.rm_pdu.specs.Verdict.{Verdict, too_long, malformed, other_version, not_request, message, IsVerdict}
 use Rattle.rm_agent.specs.declared.settings.Settings.{Settings}
 use Rattle.rm_agent.specs.declared.answer.Answer.{Answer}

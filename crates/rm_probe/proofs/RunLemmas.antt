@@ -1,8 +1,6 @@
 -- What a run has written so far.
-use Rattle.std.proofs.Common.{◌≡◌, Bool, true, ℕ, ◌+◌, ◌-◌, ◌<◌, ◌≤◌, List, [], ◌∷◌, ◌++◌, length, take, Option, Some, None, Result, Ok, Err, refl, sym, ap, subst, ◌∙◌, arith, inl, inr, take_while, append_assoc, min, ◌^◌}
-use Rattle.std.proofs.lemmas.List.{append-nil, take-append-le, take_all}
-use Rattle.std.proofs.Math.Seq.{take-append-add, take-length}
-use Rattle.std.proofs.lemmas.Bool.{cases_lt}
+use Rattle.std.proofs.Common.{◌≡◌, Bool, true, ℕ, ◌+◌, ◌-◌, ◌<◌, ◌≤◌, List, [], ◌∷◌, ◌++◌, length, take, Option, Some, None, Result, Ok, Err, refl, sym, ap, subst, ◌∙◌, arith, take_while, append_assoc, min, ◌^◌}
+use Rattle.std.proofs.lemmas.List.{append-nil}
 use Rattle.std.specs.Str.Lines.{lines}
 use Rattle.rm_edge.specs.Outside.{Adds, AddsFront, Held, File}
 use Rattle.rm_model.specs.Journal.{Frame, Journal, passes, after_frames}
@@ -15,7 +13,7 @@ use Rattle.rm_probe.specs.Capture.{IsFaultless}
 use Rattle.rm_probe.specs.declared.status.Status.{Status}
 use Rattle.rm_probe.specs.declared.status.Status.TheVariants.{Done, Usage, BadCapture, BadRequests, ReadFault, WriteFault, NoMemory, LinkFault, TooLong}
 use Rattle.rm_probe.specs.Events.{Event, Comes, Asks, is_by, frames_after, events, comings}
-use Rattle.rm_probe.specs.Text.{reason_text, IsAnswered, dropped, replied, answer_line, IsAnswer, AreLines, IsText, last_line}
+use Rattle.rm_probe.specs.Text.{IsAnswered, dropped, replied, IsAnswer, AreLines, IsText, last_line}
 use Rattle.rm_agent.specs.declared.settings.Settings.{Settings}
 use Rattle.rm_agent.specs.Answers.{reason_for}
 use Rattle.rm_agent.specs.Agent.{cells, objects}

@@ -1,5 +1,5 @@
 -- Lines that are written one at a time.
-use Rattle.std.proofs.Common.{◌≡◌, ◌⊎◌, inl, inr, ℕ, zero, suc, ◌+◌, ◌≤◌, Bool, true, false, List, [], ◌∷◌, ◌++◌, take, take_while, length, Option, Some, None, Result, Ok, Err, refl, sym, ap, subst, ◌∙◌, arith}
+use Rattle.std.proofs.Common.{◌≡◌, ◌⊎◌, inl, inr, ℕ, zero, suc, ◌≤◌, Bool, true, false, List, [], take, take_while, Option, Err, refl, subst, arith}
 use Rattle.rm_edge.specs.Outside.{Adds, AddsFront, Rose}
 use Rattle.rm_model.specs.Journal.{Frame, Journal, after_frames}
 use Rattle.rm_pcap.specs.Records.{Stop, Broken}
@@ -8,14 +8,13 @@ use Rattle.rm_pcap.specs.declared.fault.PcapFault.{PcapFault}
 use Rattle.rm_pcap.specs.declared.fault.PcapFault.TheVariants.{Magic, Version, LinkType, Included, Original, Late, TooMany, Read, NoMemory as OutOfMemory}
 use Rattle.rm_agent.specs.declared.settings.Settings.{Settings}
 use Rattle.rm_probe.specs.Capture.{status_of}
-use Rattle.rm_probe.specs.Events.{is_by, frames_after}
+use Rattle.rm_probe.specs.Events.{is_by}
 use Rattle.rm_probe.specs.Lines.{TimedDatagram}
 use Rattle.rm_probe.specs.Notes.{HasNoted}
-use Rattle.rm_probe.specs.Probe.{settings_of, Stands}
+use Rattle.rm_probe.specs.Probe.{settings_of}
 use Rattle.rm_probe.specs.Steps.{Advanced, Answers, IsNextLine, WritesLine}
 use Rattle.rm_probe.specs.Text.{IsAnswer}
 use Rattle.rm_probe.specs.declared.probe.Probe.{Probe}
-use Rattle.rm_probe.proofs.NoteLemmas.{adds_then}
 
 take_of_none : (n : ℕ) → take {A = ℕ} n [] ≡ []
 take_of_none zero = refl

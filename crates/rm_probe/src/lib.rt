@@ -12,6 +12,8 @@ mod output;
 mod probe;
 mod replaying;
 mod status;
+#[cfg(test)]
+mod tests;
 mod whole;
 
 pub use entry::{replay, run};

@@ -56,19 +56,16 @@ impl Replaying {
         ensures noted { (start : N) (sent : List Note) → N.since start notes.old sent → N.since start notes.new sent }
     {
         loop {
-            let next = match self.capture.peek(shelf, name) {
-                Ok(Some(next)) => next,
-                Ok(None) => return Ok(()),
-                Err(fault) => return Err(fault),
+            let Some(next) = self.capture.peek(shelf, name)? else {
+                return Ok(());
             };
             if next > moment {
                 return Ok(());
             }
-            match self.capture.next(shelf, name) {
-                Ok(Step::Next(frame)) => self.probe.frame(&frame, notes),
-                Ok(_) => return Ok(()),
-                Err(fault) => return Err(fault),
-            }
+            let Step::Next(frame) = self.capture.next(shelf, name)? else {
+                return Ok(());
+            };
+            self.probe.frame(&frame, notes);
         }
     }
 
@@ -92,18 +89,11 @@ impl Replaying {
             → Finishes bytes (progress_of self.old.capture) self.old.probe requests line.new.items result }
         ensures noted { (start : N) (sent : List Note) → N.since start notes.old sent → N.since start notes.new sent }
     {
-        match self.advance(shelf, name, u32::MAX, notes) {
-            Ok(()) => (),
-            Err(fault) => return Err(fault),
-        }
+        self.advance(shelf, name, u32::MAX, notes)?;
         let frames = u64::from(self.capture.count());
-        match self.capture.next(shelf, name) {
-            Ok(step) => {
-                line::last_line(step, frames, requests, line);
-                Ok(())
-            }
-            Err(fault) => Err(fault),
-        }
+        let step = self.capture.next(shelf, name)?;
+        line::last_line(step, frames, requests, line);
+        Ok(())
     }
 
     /// Counts the frames up to the moment of a datagram, answers it, and writes its line.
@@ -134,10 +124,7 @@ impl Replaying {
         ensures writes { result ≡ Err WriteFault → Rose (K.faults out.old.sink.now) (K.faults out.new.sink.now) }
         ensures loud { IfErr result (λ status. IsSilent status → ⊥) }
     {
-        match self.advance(shelf, name, request.moment, out) {
-            Ok(()) => (),
-            Err(fault) => return Err(Status::from(fault)),
-        }
+        self.advance(shelf, name, request.moment, out)?;
         let mut line = Line::new();
         line::push_line(&mut line, alloc, &mut self.probe, request, out);
         match out.put(&line) {
@@ -226,7 +213,7 @@ impl Replaying {
         }
     }
 
-    /// The same, into a sink.
+    /// Writes the lines of a whole run into a sink, as `write_lines` does.
     fn write<F: Shelf, K: Sink>(
         mut self,
         alloc: Global,
@@ -255,7 +242,8 @@ impl Replaying {
     }
 }
 
-/// Reads the capture again, its first frame at the moment `lead`, and writes the text of it and of the datagrams of a request file.
+/// Reads the capture again, its first frame at the moment `lead`, and writes the text of it and of the datagrams of a
+/// request file.
 pub fn write_run<F: Shelf, K: Sink>(
     alloc: Global,
     shelf: &mut F,

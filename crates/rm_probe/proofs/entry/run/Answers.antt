@@ -1,4 +1,3 @@
-use Rattle.std.proofs.Common.{sym}
 use Rattle.rm_probe.specs.Ends.{replay_of}
 use Rattle.rm_probe.proofs.EndLemmas.{same_names}
 use Rattle.rm_probe.proofs.entry.run.Goals as goal

@@ -1,5 +1,5 @@
 use Rattle.std.proofs.Common.{rules}
-use Rattle.rm_probe.specs.Text.{answer_text, answer_line, IsAnswer}
+use Rattle.rm_probe.specs.Text.{answer_text, IsAnswer}
 use Rattle.rm_probe.proofs.line.push_line.Goals as goal
 
 pub returns-clause-answers : goal.returns-clause-answers

@@ -1,7 +1,6 @@
-use Rattle.std.proofs.Common.{◌∙◌, subst}
+use Rattle.std.proofs.Common.{◌∙◌}
 use Rattle.rm_pcap.specs.View.{progress_of}
 use Rattle.rm_probe.specs.Probe.{settings_of}
-use Rattle.rm_probe.specs.Steps.{Writes}
 use Rattle.rm_probe.proofs.EndLemmas.{begun_left, writes_none}
 use Rattle.rm_probe.proofs.RunLemmas.{text_none}
 use Rattle.rm_probe.proofs.replaying.write_run.Goals as goal

@@ -1,4 +1,4 @@
-use Rattle.std.proofs.Common.{◌∙◌, subst, sym}
+use Rattle.std.proofs.Common.{◌∙◌}
 use Rattle.rm_probe.proofs.NoteLemmas.{noted_more}
 use Rattle.rm_probe.proofs.output.OutputNotes.note.Goals as goal
 

@@ -1,7 +1,5 @@
-use Rattle.std.proofs.Common.{◌≡◌, ◌∙◌, [], refl, arith, false, subst, sym, Bool}
-use Rattle.rm_pcap.specs.View.{progress_of}
+use Rattle.std.proofs.Common.{◌∙◌, [], refl, arith, subst, Bool}
 use Rattle.rm_probe.specs.Notes.{HasNoted, nothing_noted}
-use Rattle.rm_probe.specs.Probe.{settings_of}
 use Rattle.rm_probe.proofs.NoteLemmas.{adds_then}
 use Rattle.rm_probe.proofs.WritingLemmas.{not_noted, put_rose}
 use Rattle.rm_probe.proofs.replaying.Replaying.write_last.Goals as goal

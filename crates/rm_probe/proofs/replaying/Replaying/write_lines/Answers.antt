@@ -1,4 +1,4 @@
-use Rattle.std.proofs.Common.{◌-◌, length, arith, ◌∙◌, ◌≡◌, ap, take, refl, sym, subst, Err}
+use Rattle.std.proofs.Common.{length, arith, ◌∙◌, ap, take, refl, subst, Err}
 use Rattle.rm_pcap.specs.View.{progress_of}
 use Rattle.rm_probe.specs.Lines.{TimedDatagram}
 use Rattle.rm_agent.specs.declared.settings.Settings.{Settings}
