@@ -1,4 +1,5 @@
 mod Examples
+mod JudgementExamples
 pub mod Next
 pub mod Tables
 pub mod Members

@@ -3,7 +3,7 @@ use Rattle.std.specs.Prelude.{ℕ, ℤ, pos, List, [], ◌∷◌, ◌++◌, Bool
 use Rattle.std.specs.Option.{option_or}
 use Rattle.std.specs.Str.{bytes_eq}
 use Rattle.rm_val.specs.Val.{Val, int, null}
-use Rattle.rm_model.specs.Journal.{Act, passes, assigns, samples, Journal, moment_of, value_given}
+use Rattle.rm_model.specs.Journal.{Act, passes, assigns, samples, Assignments, Journal, moment_of, value_given}
 use Rattle.rm_model.specs.ControlTable.{ControlTable, default_of}
 use Rattle.rm_model.specs.declared.row.StatusKind.{StatusKind}
 use Rattle.rm_model.specs.declared.row.StatusKind.TheVariants.{EntryStatus, RowStatus}
@@ -45,10 +45,14 @@ value_ask kind other = Nothing
 abbrev pub cell_name : List ℕ → ℕ → List ℕ → List ℕ
 cell_name entry column index = entry ++ column ∷ index
 
+-- what a Set asks of a row, by the value that it gives to the row's status
+abbrev pub set_ask : ControlTable → Assignments → List ℕ → Ask
+set_ask table values index = value_ask table.status_kind (value_given values (cell_name table.entry table.status index))
+
 -- what an act asks of a row
 abbrev pub act_ask : ControlTable → Act → List ℕ → Ask
 act_ask table (passes frame) index = Nothing
-act_ask table (assigns moment values) index = value_ask table.status_kind (value_given values (cell_name table.entry table.status index))
+act_ask table (assigns moment values) index = set_ask table values index
 act_ask table (samples moment alarm None) index = if table.is_sampled && bytes_eq index (alarm ∷ []) then Destroy else Nothing
 act_ask table (samples moment alarm (Some reading)) index = Nothing
 

@@ -1,5 +1,6 @@
 -- The interfaces, and the frames that a data source names.
 use Rattle.std.specs.Prelude.{ℕ, List, [], ◌∷◌, ◌++◌, Bool, false, filter}
+use Rattle.std.specs.List.{list_any}
 use Rattle.std.specs.Str.{bytes_eq}
 use Rattle.rm_val.specs.Val.{Val, name}
 use Rattle.rm_model.specs.Journal.{Frame}
@@ -12,6 +13,14 @@ interface_name number = (1 ∷ 3 ∷ 6 ∷ 1 ∷ 2 ∷ 1 ∷ 2 ∷ 2 ∷ 1 ∷ 1
 abbrev pub is_interface : Val → ℕ → Bool
 is_interface (name numbers) number = bytes_eq numbers (interface_name number)
 is_interface other number = false
+
+-- the numbers of the interfaces that the probe has
+abbrev pub interfaces : List ℕ
+interfaces = 1 ∷ []
+
+-- whether a value is the data source of one of the probe's interfaces
+abbrev pub is_source : Val → Bool
+is_source value = list_any (is_interface value) interfaces
 
 -- the frames of the interface that a data source names
 abbrev pub frames_of : Val → List Frame → List Frame

@@ -7,3 +7,4 @@ pub mod Finite
 pub mod Interfaces
 pub mod ControlTable
 pub mod ControlRows
+pub mod Judgement

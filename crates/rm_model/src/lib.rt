@@ -3,12 +3,16 @@
 //! The crate has definitions, in `specs/`, lemmas about them that the groups cite, in `proofs/`, and the plain types that
 //! code and definitions share. `Journal` has the acts,
 //! `Names` and `Cells` what GetNext finds and the cells of a table, `Finite` that these are finitely many,
-//! `ControlTable` and `ControlRows` the rows of control tables after a journal, `Interfaces` the frames that a data
-//! source names, `Settings` what the probe was set to. No code keeps a journal.
+//! `ControlTable` and `ControlRows` the rows of control tables after a journal, `Judgement` what is wrong with a Set,
+//! `Interfaces` the frames that a data source names, `Settings` what the probe was set to. No code keeps a journal.
 #![tactic(auto)]
 
 mod instance;
+mod place;
 mod row;
+mod verdict;
 
 pub use instance::Instance;
+pub use place::Place;
 pub use row::{Ask, State, StatusKind};
+pub use verdict::Verdict;

@@ -1,0 +1,198 @@
+-- How a Set is judged on one control table (RFC 1905, section 4.2.5): first each binding alone, then the bindings of each
+-- row together. Which tests there are, and their order, is this probe's profile.
+use Rattle.std.specs.Prelude.{◌≡◌, ℕ, zero, suc, ℤ, pos, ◌+◌, ◌<◌, int_le, List, [], ◌∷◌, get_or, take, length, Bool, true, false, not, ◌&&◌, ◌||◌, nat_eq, nat_le, nat_lt, if◌then◌else◌, Option, Some, None, is_none}
+use Rattle.std.specs.List.{list_any, list_all}
+use Rattle.std.specs.Option.{option_map, option_map_or, option_or}
+use Rattle.std.specs.Str.{bytes_eq}
+use Rattle.rm_val.specs.Val.{Val, int, octets, null, name}
+use Rattle.rm_val.specs.declared.error.ErrorStatus.{ErrorStatus}
+use Rattle.rm_val.specs.declared.error.ErrorStatus.TheVariants.{WrongType, WrongLength, WrongValue, NoCreation, InconsistentValue, NotWritable, InconsistentName}
+use Rattle.rm_model.specs.Journal.{Assignment, Journal, value_given}
+use Rattle.rm_model.specs.Cells.{behind}
+use Rattle.rm_model.specs.Interfaces.{is_source}
+use Rattle.rm_model.specs.ControlTable.{Range, Kind, number, text, any_name, data_source, ControlTable, column_of, is_ready}
+use Rattle.rm_model.specs.ControlRows.{Beginning, cell_name, set_ask, is_absent, state_of, set_value}
+use Rattle.rm_model.specs.declared.row.StatusKind.{StatusKind}
+use Rattle.rm_model.specs.declared.row.StatusKind.TheVariants.{EntryStatus, RowStatus}
+use Rattle.rm_model.specs.declared.row.State.{State}
+use Rattle.rm_model.specs.declared.row.State.TheVariants.{Absent, UnderCreation, Valid}
+use Rattle.rm_model.specs.declared.row.Ask.{Ask}
+use Rattle.rm_model.specs.declared.row.Ask.TheVariants.{Create, CreateValid, Enable, Disable}
+use Rattle.rm_model.specs.declared.place.Place.{Place}
+use Rattle.rm_model.specs.declared.place.Place.TheVariants.{Outside, Entry, Column, Cell}
+use Rattle.rm_model.specs.declared.verdict.Verdict.{Verdict}
+use Rattle.rm_model.specs.declared.verdict.Verdict.TheVariants.{Fine, Wrong}
+
+-- the bindings of a Set, in their order
+abbrev pub Bindings : Type 0
+Bindings = List Assignment
+
+abbrev pub nothing_bound : Assignment
+nothing_bound = record { name = []; value = null }
+
+-- the variable that the binding at a place names, and the value that it gives to it
+abbrev pub name_at : Bindings → ℕ → List ℕ
+name_at bindings place = (get_or bindings place nothing_bound).name
+
+abbrev pub value_at : Bindings → ℕ → Val
+value_at bindings place = (get_or bindings place nothing_bound).value
+
+-- A verdict on the bindings at the first n places: it names the lowest one with which something is wrong, by its number
+-- from 1, and what is wrong with it.
+abbrev pub IsFirstFault : ℕ → (ℕ → Option ErrorStatus) → Verdict → Type 0
+IsFirstFault n fault Fine = (place : ℕ) → place < n → fault place ≡ None
+IsFirstFault n fault (Wrong status index) =
+    (place : ℕ) × (place < n) × (index ≡ place + 1) × (fault place ≡ Some status)
+    × ((earlier : ℕ) → earlier < place → fault earlier ≡ None)
+
+-- an error where a test fails
+abbrev pub unless : Bool → ErrorStatus → Option ErrorStatus
+unless passes status = if passes then None else Some status
+
+-- where a name stands, by what is left of it behind the entry
+abbrev pub place_behind : Option (List ℕ) → Place
+place_behind None = Outside
+place_behind (Some []) = Entry
+place_behind (Some (column ∷ [])) = Column column
+place_behind (Some (column ∷ row ∷ [])) = Cell column row
+place_behind (Some (column ∷ row ∷ next ∷ more)) = Column column
+
+-- where a name stands under the entry of a table
+abbrev pub place_of : List ℕ → List ℕ → Place
+place_of entry numbers = place_behind (behind entry numbers)
+
+-- The first pass: each binding alone.
+
+-- the numbers that a status takes
+abbrev pub status_values : StatusKind → Kind
+status_values EntryStatus = number (record { least = pos 1; greatest = pos 4 } ∷ [])
+status_values RowStatus = number (record { least = pos 1; greatest = pos 2 } ∷ record { least = pos 4; greatest = pos 6 } ∷ [])
+
+-- what a writable column beside the status takes, if it is one
+abbrev pub column_kind : ControlTable → ℕ → Option Kind
+column_kind table column = option_map (λ c. c.kind) (column_of table column)
+
+-- what a writable column takes, if it is one
+abbrev pub writable_kind : ControlTable → ℕ → Option Kind
+writable_kind table column = if nat_eq column table.status then Some (status_values table.status_kind) else column_kind table column
+
+-- whether a number is in one of some ranges
+abbrev pub is_in : List Range → ℤ → Bool
+is_in ranges n = list_any (λ range. int_le range.least n && int_le n range.greatest) ranges
+
+-- what is wrong with a value for a column, by what the column takes
+abbrev pub value_fault : Option Kind → Val → Option ErrorStatus
+value_fault None value = Some NotWritable
+value_fault (Some (number ranges)) (int n) = unless (is_in ranges n) WrongValue
+value_fault (Some (text longest)) (octets bytes) = unless (nat_le (length bytes) longest) WrongLength
+value_fault (Some any_name) (name numbers) = None
+value_fault (Some data_source) (name numbers) = unless (is_source (name numbers)) WrongValue
+value_fault (Some kind) value = Some WrongType
+
+-- whether a number can be the index of a row
+abbrev pub is_row_number : ℕ → Bool
+is_row_number row = nat_le 1 row && nat_le row 65535
+
+-- what is wrong with a value alone, by where its name stands: nothing outside the table
+abbrev pub alone_fault : ControlTable → Place → Val → Option ErrorStatus
+alone_fault table Outside value = None
+alone_fault table Entry value = Some NotWritable
+alone_fault table (Column column) value = option_or (value_fault (writable_kind table column) value) (Some NoCreation)
+alone_fault table (Cell column row) value =
+    option_or (value_fault (writable_kind table column) value) (unless (is_row_number row) NoCreation)
+
+-- what is wrong with the binding at a place alone
+abbrev pub first_pass : ControlTable → Bindings → ℕ → Option ErrorStatus
+first_pass table bindings place =
+    alone_fault table (place_of table.entry (name_at bindings place)) (value_at bindings place)
+
+-- The second pass: the bindings of each row together, by what the rows are before the Set.
+
+-- whether a column may be set while its row is valid too, and whether a row needs it
+abbrev pub is_always : ControlTable → ℕ → Bool
+is_always table column = option_map_or (λ c. c.always) (column_of table column) false
+
+abbrev pub is_needed : ControlTable → ℕ → Bool
+is_needed table column = option_map_or (λ c. c.needed) (column_of table column) false
+
+-- whether what asks this of a row of that state makes the row
+abbrev pub is_made : State → Ask → Bool
+is_made Absent Create = true
+is_made Absent CreateValid = true
+is_made state ask = false
+
+-- what is wrong with the binding of a row's status
+abbrev pub status_fault : StatusKind → State → Ask → (ready : Bool) → Option ErrorStatus
+status_fault EntryStatus Absent Enable ready = Some InconsistentName
+status_fault EntryStatus Absent Disable ready = Some InconsistentName
+status_fault RowStatus Absent Enable ready = Some InconsistentValue
+status_fault RowStatus Absent Disable ready = Some InconsistentValue
+status_fault kind UnderCreation Create ready = Some InconsistentValue
+status_fault kind UnderCreation CreateValid ready = Some InconsistentValue
+status_fault kind UnderCreation Enable ready = unless ready InconsistentValue
+status_fault kind Valid Create ready = Some InconsistentValue
+status_fault kind Valid CreateValid ready = Some InconsistentValue
+status_fault kind state ask ready = None
+
+-- what is wrong with the binding of another column of a row
+abbrev pub column_fault : State → Ask → (always : Bool) → Option ErrorStatus
+column_fault Absent Create always = None
+column_fault Absent CreateValid always = None
+column_fault Absent ask always = Some InconsistentName
+column_fault UnderCreation ask always = None
+column_fault Valid Disable always = None
+column_fault Valid ask always = unless always InconsistentValue
+
+-- what is wrong with the binding of a column of a row: crowded says that the Set makes too many rows, and again that an
+-- earlier binding names the same variable
+abbrev pub row_fault : ControlTable → State → Ask → (ready crowded again : Bool) → ℕ → Option ErrorStatus
+row_fault table state ask ready crowded again column =
+    if is_made state ask && crowded then Some InconsistentName
+    else option_or
+    (if nat_eq column table.status then status_fault table.status_kind state ask ready
+    else column_fault state ask (is_always table column))
+    (unless (not again) InconsistentValue)
+
+-- whether a row is ready with what a Set gives to its columns
+abbrev pub is_ready_with : ControlTable → Beginning → Bindings → List ℕ → Bool
+is_ready_with table before bindings index =
+    is_ready table (λ column. option_or (value_given bindings (cell_name table.entry column index)) (before.set index column))
+
+-- whether there is a row before a Set, or the Set makes it
+abbrev pub is_held_or_made : ControlTable → Beginning → Bindings → List ℕ → Bool
+is_held_or_made table before bindings index =
+    not (is_absent (before.state index)) || is_made (before.state index) (set_ask table bindings index)
+
+-- how many numbers below n pass a test
+unfoldable pub count_below : (ℕ → Bool) → ℕ → ℕ
+count_below test zero = 0
+count_below test (suc n) = (if test n then 1 else 0) + count_below test n
+
+-- whether the rows before a Set and those that it makes are more than 16 together
+abbrev pub is_crowded : ControlTable → Beginning → Bindings → Bool
+is_crowded table before bindings = nat_lt 16 (count_below (λ row. is_held_or_made table before bindings (row ∷ [])) 65536)
+
+-- whether an earlier binding names the variable that the one at a place names
+abbrev pub is_again : Bindings → ℕ → Bool
+is_again bindings place = list_any (λ earlier. bytes_eq earlier.name (name_at bindings place)) (take place bindings)
+
+-- what is wrong with the binding at a place together with the others of its row, by where its name stands
+abbrev pub together_fault : ControlTable → Beginning → Bindings → ℕ → Place → Option ErrorStatus
+together_fault table before bindings place (Cell column row) =
+    row_fault table (before.state (row ∷ [])) (set_ask table bindings (row ∷ [])) (is_ready_with table before bindings (row ∷ []))
+    (is_crowded table before bindings) (is_again bindings place) column
+together_fault table before bindings place elsewhere = None
+
+-- what is wrong with the binding at a place together with the others of its row
+abbrev pub second_pass : ControlTable → Beginning → Bindings → ℕ → Option ErrorStatus
+second_pass table before bindings place =
+    together_fault table before bindings place (place_of table.entry (name_at bindings place))
+
+-- the rows after a journal, as a Set finds them
+abbrev pub rows_after : ControlTable → Beginning → Journal → Beginning
+rows_after table beginning journal =
+    record { state = state_of table beginning journal; set = set_value table beginning journal }
+
+-- each column shows a value that it takes until it is set, or a row needs it to be set
+abbrev pub has_right_defaults : ControlTable → Bool
+has_right_defaults table = list_all (λ c. c.needed || is_none (value_fault (Some c.kind) c.default)) table.columns
