@@ -14,7 +14,7 @@ use Rattle.rm_model.specs.Journal.{Assignment}
 use Rattle.rm_model.specs.Interfaces.{interface_name}
 use Rattle.rm_model.specs.ControlTable.{number, text, any_name, data_source, ControlTable}
 use Rattle.rm_model.specs.ControlRows.{Beginning, number_ask, next_state}
-use Rattle.rm_model.specs.Judgement.{first_pass, second_pass, row_fault, is_held_or_made, count_below}
+use Rattle.rm_model.specs.Judgement.{first_pass, second_pass, row_fault, is_held_or_made, count_below, is_sound}
 
 -- an ordinary column that a row needs, two ordinary ones, a name, and an owner, which may always be set
 abbrev table : ControlTable
@@ -210,3 +210,7 @@ twice = refl
 counted : count_below (λ row. is_held_or_made table (record { state = λ index. if bytes_eq index (1 ∷ []) then Valid else Absent; set = λ index column. None }) (binds (12 ∷ 3 ∷ []) (int (pos 2)) ∷ binds (12 ∷ 1 ∷ []) (int (pos 2)) ∷ binds (12 ∷ 3 ∷ []) (int (pos 2)) ∷ binds (12 ∷ 4 ∷ []) (int (pos 4)) ∷ []) (row ∷ [])) 9 ≡ 2
 unfolding count_below
 counted = refl
+
+-- the table is sound, and is so no more where its status is one of the other columns, or a default isn't taken
+sound : map is_sound (table ∷ row_table ∷ record table { status = 11 } ∷ record table { columns = record { number = 2; kind = text 3; always = false; needed = false; default = null } ∷ [] } ∷ []) ≡ true ∷ true ∷ false ∷ false ∷ []
+sound = refl

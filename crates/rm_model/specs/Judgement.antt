@@ -1,6 +1,6 @@
 -- How a Set is judged on one control table (RFC 1905, section 4.2.5): first each binding alone, then the bindings of each
 -- row together. Which tests there are, and their order, is this probe's profile.
-use Rattle.std.specs.Prelude.{◌≡◌, ℕ, zero, suc, ℤ, pos, ◌+◌, ◌<◌, int_le, List, [], ◌∷◌, get_or, take, length, Bool, true, false, not, ◌&&◌, ◌||◌, nat_eq, nat_le, nat_lt, if◌then◌else◌, Option, Some, None, is_none}
+use Rattle.std.specs.Prelude.{◌≡◌, ℕ, zero, suc, ℤ, pos, ◌+◌, ◌<◌, int_le, List, [], ◌∷◌, get_or, take, length, Bool, true, false, not, ◌&&◌, ◌||◌, nat_eq, nat_le, nat_lt, if◌then◌else◌, Option, Some, None, is_none, is_some}
 use Rattle.std.specs.List.{list_any, list_all}
 use Rattle.std.specs.Option.{option_map, option_map_or, option_or}
 use Rattle.std.specs.Str.{bytes_eq}
@@ -153,10 +153,15 @@ row_fault table state ask ready crowded again column =
     else column_fault state ask (is_always table column))
     (unless (not again) InconsistentValue)
 
+-- what the columns of a table were set to, with nothing for any other number
+abbrev pub of_columns : ControlTable → (ℕ → Option Val) → ℕ → Option Val
+of_columns table set column = if is_some (column_of table column) then set column else None
+
 -- whether a row is ready with what a Set gives to its columns
 abbrev pub is_ready_with : ControlTable → Beginning → Bindings → List ℕ → Bool
 is_ready_with table before bindings index =
-    is_ready table (λ column. option_or (value_given bindings (cell_name table.entry column index)) (before.set index column))
+    is_ready table
+    (of_columns table (λ column. option_or (value_given bindings (cell_name table.entry column index)) (before.set index column)))
 
 -- whether there is a row before a Set, or the Set makes it
 abbrev pub is_held_or_made : ControlTable → Beginning → Bindings → List ℕ → Bool
@@ -193,6 +198,9 @@ abbrev pub rows_after : ControlTable → Beginning → Journal → Beginning
 rows_after table beginning journal =
     record { state = state_of table beginning journal; set = set_value table beginning journal }
 
--- each column shows a value that it takes until it is set, or a row needs it to be set
-abbrev pub has_right_defaults : ControlTable → Bool
-has_right_defaults table = list_all (λ c. c.needed || is_none (value_fault (Some c.kind) c.default)) table.columns
+-- The status isn't among the other columns, and each of these shows a value that it takes until it is set, or a row needs
+-- it to be set.
+abbrev pub is_sound : ControlTable → Bool
+is_sound table =
+    is_none (column_of table table.status)
+    && list_all (λ c. c.needed || is_none (value_fault (Some c.kind) c.default)) table.columns

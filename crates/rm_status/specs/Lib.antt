@@ -1,2 +1,5 @@
 pub mod Search
 pub mod System
+pub mod Look
+pub mod Rows
+pub mod Commit

@@ -1,28 +1,43 @@
-//! What a group of objects does for GetNext and Get, and the search for the next cell of a table.
+//! What a group of objects does for GetNext and Get, the search for the next cell of a table, and the rows of control
+//! tables: how a Set is judged on them, and what it makes of them.
 #![tactic(auto)]
 
+mod assigns;
 mod both;
+mod columns;
+mod denied;
+mod given;
 mod group;
 mod instance;
 mod interface;
 mod laws;
+mod look;
 mod nearer;
 mod objects;
 mod one_row;
+mod place;
+mod row;
 mod row_indexes;
 mod search;
+mod steps;
 mod system;
 #[cfg(test)]
 mod tests;
 
+pub use assigns::Assigns;
 pub use both::Both;
+pub use columns::Columns;
+pub use denied::Denied;
 pub use group::Group;
 pub use instance::instance_of;
 pub use interface::{INTERFACES, interface_name, source};
 pub use laws::next_or_none;
+pub use look::{Look, Reading};
 pub use nearer::choose_nearer;
 pub use objects::{Objects, is_of_column};
 pub use one_row::OneRow;
+pub use rm_model::{State, StatusKind, Verdict};
+pub use row::Row;
 pub use row_indexes::RowIndexes;
 pub use search::next_name;
 pub use system::System;

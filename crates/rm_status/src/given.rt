@@ -1,0 +1,210 @@
+// What a Set gives to a row of a control table.
+ghost use Rattle.std.specs.Prelude.{◌≡◌, ℕ, ◌<◌, ◌∷◌, [], length, None};
+ghost use Rattle.rm_val.specs.Val.{val_of};
+ghost use Rattle.rm_val.specs.Spellable.{HasSpelling};
+ghost use Rattle.rm_model.specs.ControlRows.{set_ask};
+ghost use Rattle.rm_model.specs.Judgement.{IsFirstFault, Bindings, place_of, writable_kind, value_fault, alone_fault, first_pass, is_again, row_fault};
+ghost use Rattle.rm_status.specs.Commit.{put_at, put_all};
+
+use crate::assigns::Assigns;
+use crate::columns::Columns;
+use crate::place::{is_cell, place_under};
+use crate::steps::{column_fault, is_made, status_fault, status_value_fault, value_ask};
+use rm_model::{Ask, Place, State, StatusKind, Verdict};
+use rm_val::{ErrorStatus, Oid, Value};
+
+/// What a Set asks of a row.
+pub(crate) fn set_ask<C: Columns, A: Assigns>(
+    kind: StatusKind,
+    set: &A,
+    entry: &Oid,
+    status: u32,
+    row: u32,
+) -> Ask
+    requires kind { kind ≡ C.table.status_kind }
+    requires entry { entry.now ≡ C.table.entry }
+    requires status { status ≡ C.table.status }
+    ensures { result ≡ set_ask C.table (A.bindings set.now) (row ∷ []) }
+{
+    let count = set.count();
+    for place in 0..count {
+        let name = set.name(place);
+        if is_cell(&name, entry, status, row) {
+            let value = set.value(place);
+            return value_ask(kind, &value);
+        }
+    }
+    Ask::Nothing
+}
+
+/// Whether an earlier binding names the variable that the one at a place names.
+pub(crate) fn is_again<A: Assigns>(set: &A, place: usize) -> bool
+    requires { place < length (A.bindings set.now) }
+    ensures { result ≡ is_again (A.bindings set.now) place }
+{
+    let name = set.name(place);
+    for earlier in 0..place {
+        let other = set.name(earlier);
+        if other.compare(&name).is_eq() {
+            return true;
+        }
+    }
+    false
+}
+
+/// What is wrong with a value for a column.
+fn column_value_fault<C: Columns>(
+    kind: StatusKind,
+    status: u32,
+    column: u32,
+    value: &Value<'_>,
+) -> Option<ErrorStatus>
+    requires kind { kind ≡ C.table.status_kind }
+    requires status { status ≡ C.table.status }
+    ensures { result ≡ value_fault (writable_kind C.table column) (val_of value.now) }
+{
+    if column == status {
+        status_value_fault(kind, value)
+    } else {
+        C::check(column, value)
+    }
+}
+
+/// What is wrong with a value alone, by where its name stands.
+pub(crate) fn alone_fault<C: Columns>(
+    kind: StatusKind,
+    status: u32,
+    place: Place,
+    value: &Value<'_>,
+) -> Option<ErrorStatus>
+    requires kind { kind ≡ C.table.status_kind }
+    requires status { status ≡ C.table.status }
+    ensures { result ≡ alone_fault C.table place (val_of value.now) }
+{
+    match place {
+        Place::Outside => None,
+        Place::Entry => Some(ErrorStatus::NotWritable),
+        Place::Column(column) => match column_value_fault::<C>(kind, status, column, value) {
+            Some(fault) => Some(fault),
+            None => Some(ErrorStatus::NoCreation),
+        },
+        Place::Cell(column, row) => match column_value_fault::<C>(kind, status, column, value) {
+            Some(fault) => Some(fault),
+            None => {
+                if 1 <= row && row <= 65535 {
+                    None
+                } else {
+                    Some(ErrorStatus::NoCreation)
+                }
+            }
+        },
+    }
+}
+
+/// The first pass of a Set on one table.
+pub(crate) fn judge_alone<C: Columns, A: Assigns>(
+    kind: StatusKind,
+    set: &A,
+    entry: &Oid,
+    status: u32,
+) -> Verdict
+    requires kind { kind ≡ C.table.status_kind }
+    requires entry { entry.now ≡ C.table.entry }
+    requires status { status ≡ C.table.status }
+    ensures { IsFirstFault (length (A.bindings set.now)) (first_pass C.table (A.bindings set.now)) result }
+{
+    let count = set.count();
+    for place in 0..count {
+        let name = set.name(place);
+        let value = set.value(place);
+        let at = place_under(&name, entry);
+        match alone_fault::<C>(kind, status, at, &value) {
+            None => {}
+            Some(status) => {
+                let index = place as u32 + 1;
+                return Verdict::Wrong { status, index };
+            }
+        }
+    }
+    Verdict::Fine
+}
+
+/// What is wrong with the binding of a column of a row, where the Set makes too many rows or not, and where an earlier
+/// binding names the same variable or not.
+pub(crate) fn row_fault<C: Columns>(
+    kind: StatusKind,
+    status: u32,
+    state: State,
+    asked: Ask,
+    ready: bool,
+    crowded: bool,
+    again: bool,
+    column: u32,
+) -> Option<ErrorStatus>
+    requires kind { kind ≡ C.table.status_kind }
+    requires status { status ≡ C.table.status }
+    ensures { result ≡ row_fault C.table state asked ready crowded again column }
+{
+    if is_made(state, asked) && crowded {
+        return Some(ErrorStatus::InconsistentName);
+    }
+    let fault = if column == status {
+        status_fault(kind, state, asked, ready)
+    } else {
+        column_fault(state, asked, C::always(column))
+    };
+    match fault {
+        Some(fault) => Some(fault),
+        None => {
+            if again {
+                Some(ErrorStatus::InconsistentValue)
+            } else {
+                None
+            }
+        }
+    }
+}
+
+/// Puts one binding into a row's columns.
+fn put_one<C: Columns>(
+    columns: &mut C,
+    entry: &Oid,
+    status: u32,
+    row: u32,
+    name: &Oid,
+    value: &Value<'_>,
+)
+    requires entry { entry.now ≡ C.table.entry }
+    requires status { status ≡ C.table.status }
+    requires fine { alone_fault C.table (place_of C.table.entry name.now) (val_of value.now) ≡ None }
+    requires spelling { HasSpelling (val_of value.now) }
+    ensures { columns.new ≡ put_at C.table C.with_column C.blank_row row (place_of C.table.entry name.now) (val_of value.now) columns.old }
+{
+    if let Place::Cell(column, number) = place_under(name, entry) {
+        if number == row && column != status {
+            columns.put(column, value);
+        }
+    }
+}
+
+/// Puts the bindings of a row into its columns, so that of each variable the first one counts.
+pub(crate) fn put_all<C: Columns, A: Assigns>(
+    columns: &mut C,
+    set: &A,
+    entry: &Oid,
+    status: u32,
+    row: u32,
+)
+    requires entry { entry.now ≡ C.table.entry }
+    requires status { status ≡ C.table.status }
+    requires fine { IsFirstFault (length (A.bindings set.now)) (first_pass C.table (A.bindings set.now)) Verdict.Fine }
+    ensures { columns.new ≡ put_all C.table C.with_column C.blank_row (A.bindings set.now) row columns.old }
+{
+    let mut place = set.count();
+    while place > 0 {
+        place -= 1;
+        let name = set.name(place);
+        let value = set.value(place);
+        put_one(columns, entry, status, row, &name, &value);
+    }
+}

@@ -1,0 +1,24 @@
+// The readings of the variables that an alarm may sample.
+ghost use Rattle.std.specs.Prelude.{◌≡◌, ℕ};
+ghost use Rattle.rm_status.specs.Look.{Readings};
+
+use rm_val::Oid;
+
+/// What a variable of type INTEGER, Counter32, Gauge32 or TimeTicks reads.
+#[derive(Clone, Copy, Debug, PartialEq, Eq)]
+pub struct Reading {
+    /// The number.
+    pub value: i64,
+    /// Whether it is a Counter32, of which a difference is taken modulo 2^32.
+    pub counter: bool,
+}
+
+/// What can be read of the variables that an alarm may sample.
+pub trait Look {
+    /// What each variable reads at a moment in milliseconds.
+    ghost readings: { Self → ℕ → Readings };
+
+    /// What the variable with that name reads at a moment in milliseconds. None where there is no reading for the name.
+    fn reading(&self, name: &Oid, now: u32) -> Option<Reading>
+        ensures { result ≡ readings self.now now name.now };
+}

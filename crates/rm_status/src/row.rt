@@ -1,0 +1,13 @@
+// A row of a control table.
+use rm_model::State;
+
+/// A row of a control table: its index, its state, and its columns.
+#[derive(Drop)]
+pub struct Row<C> {
+    /// The one number of its index, 1 to 65535.
+    pub index: u32,
+    /// Its state, which is never absent.
+    pub state: State,
+    /// Its columns.
+    pub columns: C,
+}
