@@ -10,9 +10,10 @@ pub enum StatusKind {
 }
 
 /// The state of a row of a control table.
-#[derive(Clone, Copy, Debug, PartialEq, Eq)]
+#[derive(Clone, Copy, Debug, Default, PartialEq, Eq)]
 pub enum State {
     /// There is no such row.
+    #[default]
     Absent,
     /// The row is underCreation, or notInService in a table with RowStatus.
     UnderCreation,

@@ -5,3 +5,15 @@ mod ColumnLemmas
 pub mod PlaceLemmas
 pub mod Finds
 pub mod Asks
+pub mod Places
+pub mod RowLemmas
+pub mod RowEdits
+pub mod RowCalls
+pub mod Loops
+pub mod Held
+pub mod Puts
+pub mod Settles
+pub mod Commits
+pub mod Crowds
+pub mod Seconds
+pub mod Rooms

@@ -2,7 +2,9 @@
 use Rattle.std.specs.Prelude.{ℕ, zero, suc, List, [], ◌∷◌, ◌+◌, Bool, false, Option, Some, None, nat_eq, ◌&&◌, not, is_none, unwrap_or, if◌then◌else◌}
 use Rattle.rm_val.specs.Val.{Val}
 use Rattle.rm_model.specs.ControlTable.{ControlTable}
-use Rattle.rm_model.specs.ControlRows.{set_ask, next_state, is_absent}
+use Rattle.std.specs.Str.{bytes_eq}
+use Rattle.rm_model.specs.Journal.{Assignment}
+use Rattle.rm_model.specs.ControlRows.{cell_name, set_ask, next_state, is_absent}
 use Rattle.rm_model.specs.Judgement.{Bindings, name_at, place_of, is_made, is_again}
 use Rattle.rm_model.specs.declared.row.State.{State}
 use Rattle.rm_model.specs.declared.row.State.TheVariants.{Absent}
@@ -15,6 +17,10 @@ use Rattle.rm_status.specs.Rows.{row_in, state_seen, columns_seen}
 abbrev pub is_cell : ℕ → ℕ → Place → Bool
 is_cell column row (Cell other number) = nat_eq number row && nat_eq other column
 is_cell column row elsewhere = false
+
+-- whether a binding is that of the status of a row
+abbrev pub is_status : ControlTable → ℕ → Assignment → Bool
+is_status table row binding = bytes_eq binding.name (cell_name table.entry table.status (row ∷ []))
 
 -- how many rows the binding at a place makes by what the rows were before, one or none: the first one of the row's status does
 abbrev pub made_by : ControlTable → (ℕ → State) → Bindings → Bool → Place → ℕ

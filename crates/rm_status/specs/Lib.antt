@@ -3,3 +3,4 @@ pub mod System
 pub mod Look
 pub mod Rows
 pub mod Commit
+pub mod Lending

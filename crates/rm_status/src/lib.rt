@@ -5,6 +5,7 @@
 mod assigns;
 mod both;
 mod columns;
+mod controls;
 mod denied;
 mod given;
 mod group;
@@ -27,6 +28,7 @@ mod tests;
 pub use assigns::Assigns;
 pub use both::Both;
 pub use columns::Columns;
+pub use controls::{Controls, MAX_ROWS};
 pub use denied::Denied;
 pub use group::Group;
 pub use instance::instance_of;

@@ -2,7 +2,7 @@
 use rm_model::State;
 
 /// A row of a control table: its index, its state, and its columns.
-#[derive(Drop)]
+#[derive(Default, Drop)]
 pub struct Row<C> {
     /// The one number of its index, 1 to 65535.
     pub index: u32,

@@ -1,0 +1,125 @@
+// What a Set makes of the rows of a control table.
+ghost use Rattle.std.specs.Prelude.{◌≡◌, ℕ, ◌<◌, ◌+◌, [], ◌∷◌, length, map, true, None, if◌then◌else◌};
+ghost use Rattle.std.specs.List.{filter_map};
+ghost use Rattle.std.specs.Option.{option_or};
+ghost use Rattle.rm_model.specs.ControlRows.{set_ask};
+ghost use Rattle.rm_model.specs.Judgement.{IsFirstFault, first_pass, second_pass, name_at, place_of, is_made};
+ghost use Rattle.rm_status.specs.Rows.{row_in, rows_before, with_state_at};
+ghost use Rattle.rm_status.specs.Commit.{is_cell, row_after, made_row, made_now, write_row, settle_row};
+
+use crate::assigns::Assigns;
+use crate::columns::Columns;
+use crate::controls::Controls;
+use crate::given::{put_all, set_ask};
+use crate::place::place_under;
+use crate::row::Row;
+use crate::steps::{is_made, next_state};
+use arrayvec::ArrayVec;
+use rm_model::{Place, State, StatusKind, Verdict};
+use rm_val::Oid;
+
+impl<C: Columns> Controls<C> {
+    /// Acts on the bindings of a Set with which both passes found nothing wrong. `entry` and `status` are the table's entry
+    /// and its status column.
+    pub fn commit<A: Assigns>(&mut self, set: &A, entry: &Oid, status: u32)
+        requires entry { entry.now ≡ C.table.entry }
+        requires status { status ≡ C.table.status }
+        requires fine { IsFirstFault (length (A.bindings set.now)) (first_pass C.table (A.bindings set.now)) Verdict.Fine }
+        requires together { let bs = A.bindings set.now in IsFirstFault (length bs) (second_pass C.table (rows_before C.set_to self.old) bs) Verdict.Fine }
+        ensures { let bs = A.bindings set.now in (i : ℕ) → row_in self.new i ≡ row_after C.table C.with_column C.blank_row bs i (row_in self.old i) }
+    {
+        let _ = &self.rows;
+        let count = set.count();
+        for place in 0..count {
+            self.make_at(set, entry, status, place);
+        }
+        let kind = self.kind;
+        write_all::<C, A>(&mut self.rows, set, entry, status);
+        settle_rows::<C, A>(kind, &mut self.rows, set, entry, status);
+    }
+
+    // Makes the row of the binding at a place, where that is a status by which the Set makes a row that there isn't yet.
+    fn make_at<A: Assigns>(&mut self, set: &A, entry: &Oid, status: u32, place: usize)
+        requires entry { entry.now ≡ C.table.entry }
+        requires status { status ≡ C.table.status }
+        requires within { place < length (A.bindings set.now) }
+        requires fine { first_pass C.table (A.bindings set.now) place ≡ None }
+        requires room { let bs = A.bindings set.now in (i : ℕ) → is_cell C.table.status i (place_of C.table.entry (name_at bs place)) ≡ true → is_made State.Absent (set_ask C.table bs (i ∷ [])) ≡ true → row_in self.old i ≡ None → length self.old < 16 }
+        ensures rows { let bs = A.bindings set.now in (i : ℕ) → row_in self.new i ≡ option_or (row_in self.old i) (if is_cell C.table.status i (place_of C.table.entry (name_at bs place)) then made_row C.table C.with_column C.blank_row bs i else None) }
+        ensures few { let bs = A.bindings set.now in length self.new ≡ length self.old + made_now C.table C.with_column C.blank_row self.old bs (place_of C.table.entry (name_at bs place)) }
+    {
+        let name = set.name(place);
+        if let Place::Cell(column, row) = place_under(&name, entry) {
+            let kind = self.kind;
+            let asked = set_ask::<C, A>(kind, set, entry, status, row);
+            if column == status && is_made(State::Absent, asked) && self.find(row).is_none() {
+                self.insert(row, next_state(asked, State::Absent), C::blank());
+            }
+        }
+    }
+}
+
+// Puts the bindings of a Set into the columns of each row.
+fn write_rows<C: Columns, A: Assigns>(rows: &mut [Row<C>], set: &A, entry: &Oid, status: u32)
+    requires entry { entry.now ≡ C.table.entry }
+    requires status { status ≡ C.table.status }
+    requires fine { IsFirstFault (length (A.bindings set.now)) (first_pass C.table (A.bindings set.now)) Verdict.Fine }
+    ensures { rows.new ≡ map (write_row C.table C.with_column C.blank_row (A.bindings set.now)) rows.old }
+{
+    for row in rows.iter_mut() {
+        put_all::<C, A>(&mut row.columns, set, entry, status, row.index);
+    }
+}
+
+// The same for rows where they are kept.
+fn write_all<C: Columns, A: Assigns>(
+    rows: &mut ArrayVec<Row<C>, 16>,
+    set: &A,
+    entry: &Oid,
+    status: u32,
+)
+    requires entry { entry.now ≡ C.table.entry }
+    requires status { status ≡ C.table.status }
+    requires fine { IsFirstFault (length (A.bindings set.now)) (first_pass C.table (A.bindings set.now)) Verdict.Fine }
+    ensures { rows.new.items ≡ map (write_row C.table C.with_column C.blank_row (A.bindings set.now)) rows.old.items }
+{
+    write_rows::<C, A>(rows.as_mut_slice(), set, entry, status);
+}
+
+// Takes each row to its state after a Set.
+fn settle_rows<C: Columns, A: Assigns>(
+    kind: StatusKind,
+    rows: &mut ArrayVec<Row<C>, 16>,
+    set: &A,
+    entry: &Oid,
+    status: u32,
+)
+    requires kind { kind ≡ C.table.status_kind }
+    requires entry { entry.now ≡ C.table.entry }
+    requires status { status ≡ C.table.status }
+    ensures { rows.new.items ≡ filter_map (settle_row C.table C.with_column C.blank_row (A.bindings set.now)) rows.old.items }
+{
+    let mut place = rows.len();
+    while place > 0 {
+        place -= 1;
+        let row = &rows.as_slice()[place];
+        let asked = set_ask::<C, A>(kind, set, entry, status, row.index);
+        let next = next_state(asked, row.state);
+        match next {
+            State::Absent => {
+                rows.remove(place);
+            }
+            _ => set_state(rows, place, next),
+        }
+    }
+}
+
+// Sets the state of the row at a place.
+fn set_state<C: Columns>(rows: &mut ArrayVec<Row<C>, 16>, place: usize, state: State)
+    requires { place < length rows.old.items }
+    ensures { rows.new.items ≡ with_state_at rows.old.items place state }
+{
+    if let Some(row) = rows.get_mut(place) {
+        row.state = state;
+    }
+}

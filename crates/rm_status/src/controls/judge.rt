@@ -1,0 +1,148 @@
+// How a Set is judged on the rows of a control table.
+ghost use Rattle.std.specs.Prelude.{◌≡◌, ℕ, ◌<◌, ◌≤◌, [], ◌∷◌, length, false};
+ghost use Rattle.rm_model.specs.ControlRows.{is_absent};
+ghost use Rattle.rm_model.specs.Judgement.{IsFirstFault, first_pass, second_pass, name_at, place_of, is_again, is_crowded, is_ready_with};
+ghost use Rattle.rm_status.specs.Rows.{AreControlRows, rows_before, state_in};
+ghost use Rattle.rm_status.specs.Commit.{made_by, count_made};
+
+use crate::assigns::Assigns;
+use crate::columns::Columns;
+use crate::controls::{Controls, MAX_ROWS};
+use crate::given::{self, is_again, put_all, row_fault, set_ask};
+use crate::place::place_under;
+use crate::steps::is_made;
+use rm_model::{Place, Verdict};
+use rm_val::{ErrorStatus, Oid};
+
+impl<C: Columns> Controls<C> {
+    /// The first pass of a Set: each binding under the table's entry alone (RFC 1905, section 4.2.5). `entry` and `status`
+    /// are the table's entry and its status column.
+    pub fn judge_alone<A: Assigns>(&self, set: &A, entry: &Oid, status: u32) -> Verdict
+        requires entry { entry.now ≡ C.table.entry }
+        requires status { status ≡ C.table.status }
+        ensures { IsFirstFault (length (A.bindings set.now)) (first_pass C.table (A.bindings set.now)) result }
+    {
+        let kind = self.kind;
+        given::judge_alone::<C, A>(kind, set, entry, status)
+    }
+
+    /// The second pass of a Set of which the first found nothing wrong: the bindings of each row together, by what the rows
+    /// are now.
+    pub fn judge_rows<A: Assigns>(&self, set: &A, entry: &Oid, status: u32) -> Verdict
+        requires entry { entry.now ≡ C.table.entry }
+        requires status { status ≡ C.table.status }
+        requires fine { IsFirstFault (length (A.bindings set.now)) (first_pass C.table (A.bindings set.now)) Verdict.Fine }
+        ensures verdict { let bs = A.bindings set.now in IsFirstFault (length bs) (second_pass C.table (rows_before C.set_to self.now) bs) result }
+        ensures rows { AreControlRows self.now }
+    {
+        let _ = &self.rows;
+        let crowded = self.is_crowded(set, entry, status);
+        let count = set.count();
+        for place in 0..count {
+            match self.second_fault(set, entry, status, crowded, place) {
+                None => {}
+                Some(status) => {
+                    let index = place as u32 + 1;
+                    return Verdict::Wrong { status, index };
+                }
+            }
+        }
+        Verdict::Fine
+    }
+
+    // Whether the rows that there are and those that a Set makes are more than 16 together.
+    fn is_crowded<A: Assigns>(&self, set: &A, entry: &Oid, status: u32) -> bool
+        requires entry { entry.now ≡ C.table.entry }
+        requires status { status ≡ C.table.status }
+        requires fine { IsFirstFault (length (A.bindings set.now)) (first_pass C.table (A.bindings set.now)) Verdict.Fine }
+        ensures { result ≡ is_crowded C.table (rows_before C.set_to self.now) (A.bindings set.now) }
+    {
+        self.rows.len() + self.count_made(set, entry, status) > MAX_ROWS
+    }
+
+    // How many rows a Set makes.
+    fn count_made<A: Assigns>(&self, set: &A, entry: &Oid, status: u32) -> usize
+        requires entry { entry.now ≡ C.table.entry }
+        requires status { status ≡ C.table.status }
+        ensures value { result ≡ count_made C.table (state_in self.now) (A.bindings set.now) (length (A.bindings set.now)) }
+        ensures few { result ≤ 128 }
+    {
+        let count = set.count();
+        let mut made = 0;
+        for place in 0..count {
+            made += self.made_by(set, entry, status, place);
+        }
+        made
+    }
+
+    // How many rows the binding at a place makes, one or none.
+    fn made_by<A: Assigns>(&self, set: &A, entry: &Oid, status: u32, place: usize) -> usize
+        requires entry { entry.now ≡ C.table.entry }
+        requires status { status ≡ C.table.status }
+        requires within { place < length (A.bindings set.now) }
+        ensures value { let bs = A.bindings set.now in result ≡ made_by C.table (state_in self.now) bs (is_again bs place) (place_of C.table.entry (name_at bs place)) }
+        ensures few { result ≤ 1 }
+    {
+        let name = set.name(place);
+        match place_under(&name, entry) {
+            Place::Cell(column, row) => {
+                let kind = self.kind;
+                let asked = set_ask::<C, A>(kind, set, entry, status, row);
+                let again = is_again(set, place);
+                if column == status && !again && is_made(self.state(row), asked) {
+                    1
+                } else {
+                    0
+                }
+            }
+            _ => 0,
+        }
+    }
+
+    // What is wrong with the binding at a place together with the others of its row.
+    fn second_fault<A: Assigns>(
+        &self,
+        set: &A,
+        entry: &Oid,
+        status: u32,
+        crowded: bool,
+        place: usize,
+    ) -> Option<ErrorStatus>
+        requires entry { entry.now ≡ C.table.entry }
+        requires status { status ≡ C.table.status }
+        requires fine { IsFirstFault (length (A.bindings set.now)) (first_pass C.table (A.bindings set.now)) Verdict.Fine }
+        requires within { place < length (A.bindings set.now) }
+        requires crowded { crowded ≡ is_crowded C.table (rows_before C.set_to self.now) (A.bindings set.now) }
+        ensures { result ≡ second_pass C.table (rows_before C.set_to self.now) (A.bindings set.now) place }
+    {
+        let name = set.name(place);
+        match place_under(&name, entry) {
+            Place::Cell(column, row) => {
+                let kind = self.kind;
+                let state = self.state(row);
+                let asked = set_ask::<C, A>(kind, set, entry, status, row);
+                let ready = self.is_ready_with(set, entry, status, row);
+                let again = is_again(set, place);
+                row_fault::<C>(kind, status, state, asked, ready, crowded, again, column)
+            }
+            _ => None,
+        }
+    }
+
+    // Whether a row that there is would be ready with the columns that a Set gives to it.
+    fn is_ready_with<A: Assigns>(&self, set: &A, entry: &Oid, status: u32, row: u32) -> bool
+        requires entry { entry.now ≡ C.table.entry }
+        requires status { status ≡ C.table.status }
+        requires fine { IsFirstFault (length (A.bindings set.now)) (first_pass C.table (A.bindings set.now)) Verdict.Fine }
+        ensures { is_absent (state_in self.now row) ≡ false → result ≡ is_ready_with C.table (rows_before C.set_to self.now) (A.bindings set.now) (row ∷ []) }
+    {
+        match self.get(row) {
+            None => false,
+            Some(columns) => {
+                let mut with = columns.bare();
+                put_all::<C, A>(&mut with, set, entry, status, row);
+                with.ready()
+            }
+        }
+    }
+}
