@@ -4,3 +4,5 @@ pub mod Look
 pub mod Rows
 pub mod Commit
 pub mod Lending
+pub mod Taken
+pub mod MadeUp

@@ -1,4 +1,6 @@
+mod made_up;
 mod seen;
+mod sets;
 mod sparse;
 
 use crate::tests::seen::Seen;

@@ -1,0 +1,94 @@
+-- A made-up control table, for the tests: a row needs column 2, column 4 may always be set, and the status is column 7.
+use Rattle.std.specs.Prelude.{◌≡◌, ℕ, ℤ, pos, List, [], ◌∷◌, Bool, true, false, cond, Option, Some, None, unwrap_or, IsTrue, refl, nat_eq}
+use Rattle.std.proofs.Common.{ap, ◌∙◌, subst}
+use Rattle.std.specs.Option.{option_map}
+use borrow.Author.Tests.{eqb-true}
+use Rattle.rm_val.specs.Val.{Val, int}
+use Rattle.rm_model.specs.declared.row.StatusKind.TheVariants.{EntryStatus}
+use Rattle.rm_model.specs.ControlTable.{Range, number, ControlTable, default_of}
+use Rattle.rm_model.specs.Judgement.{column_kind, value_fault, is_needed}
+use Rattle.rm_status.specs.Taken.{number_in, number_taken}
+
+abbrev up_to : ℕ → List Range
+up_to most = record { least = pos 1; greatest = pos most } ∷ []
+
+abbrev pub table : ControlTable
+table = record {
+  entry = 1 ∷ 3 ∷ 6 ∷ 1 ∷ 4 ∷ 1 ∷ 9 ∷ 5 ∷ [];
+  status = 7;
+  status_kind = EntryStatus;
+  columns =
+      record { number = 2; kind = number (up_to 9); always = false; needed = true; default = int (pos 0) }
+      ∷ record { number = 3; kind = number (up_to 3600); always = false; needed = false; default = int (pos 1800) }
+      ∷ record { number = 4; kind = number (up_to 100); always = true; needed = false; default = int (pos 100) }
+      ∷ [];
+  go_together = λ value. true;
+  is_sampled = false;
+}
+
+-- what the columns were set to, by the number in each
+abbrev pub set_to : Option ℤ → Option ℤ → Option ℤ → ℕ → Option Val
+set_to second third fourth n =
+    cond (nat_eq 2 n) (option_map int second) (cond (nat_eq 3 n) (option_map int third) (cond (nat_eq 4 n) (option_map int fourth) None))
+
+-- a column with a value in it where it is that column
+abbrev pub with_value : ℕ → ℕ → Val → Option ℤ → Option ℤ
+with_value column n value old = cond (nat_eq column n) (number_in value) old
+
+same_either_way : {A : Type 0} (b : Bool) (x : A) → cond b x x ≡ x
+same_either_way true x = refl
+same_either_way false x = refl
+
+none_set : (n : ℕ) → set_to None None None n ≡ None
+none_set n =
+    ap (λ o. cond (nat_eq 2 n) None (cond (nat_eq 3 n) None o)) (same_either_way (nat_eq 4 n) None)
+    ∙ ap (λ o. cond (nat_eq 2 n) None o) (same_either_way (nat_eq 3 n) None) ∙ same_either_way (nat_eq 2 n) None
+
+pub blank_default : (n : ℕ) → unwrap_or (set_to None None None n) (default_of table n) ≡ default_of table n
+blank_default n = ap (λ o. unwrap_or o (default_of table n)) (none_set n)
+
+pub blank_needed : (n : ℕ) → IsTrue (is_needed table n) → set_to None None None n ≡ None
+blank_needed n needed = none_set n
+
+module _ (second third fourth : Option ℤ) (value : Val) (m : ℕ) (taken : option_map int (number_in value) ≡ Some value) where
+  abbrev before : Option Val
+  before = set_to second third fourth m
+
+  two : set_to (number_in value) third fourth m ≡ cond (nat_eq 2 m) (Some value) before
+  two = elim (nat_eq 2 m) as (λ t. cond t (option_map int (number_in value)) (cond (nat_eq 3 m) (option_map int third) (cond (nat_eq 4 m) (option_map int fourth) None)) ≡ cond t (Some value) (cond t (option_map int second) (cond (nat_eq 3 m) (option_map int third) (cond (nat_eq 4 m) (option_map int fourth) None)))) [
+    | true ↦ taken
+    | false ↦ refl
+  ]
+
+  three : set_to second (number_in value) fourth m ≡ cond (nat_eq 3 m) (Some value) before
+  three = elim (nat_eq 3 m) as (λ t. nat_eq 3 m ≡ t → cond (nat_eq 2 m) (option_map int second) (cond t (option_map int (number_in value)) (cond (nat_eq 4 m) (option_map int fourth) None)) ≡ cond t (Some value) (cond (nat_eq 2 m) (option_map int second) (cond t (option_map int third) (cond (nat_eq 4 m) (option_map int fourth) None)))) [
+    | true ↦ λ e. subst (λ k. cond (nat_eq 2 k) (option_map int second) (option_map int (number_in value)) ≡ Some value) (eqb-true 3 m e) taken
+    | false ↦ λ _. refl
+  ] refl
+
+  four : set_to second third (number_in value) m ≡ cond (nat_eq 4 m) (Some value) before
+  four = elim (nat_eq 4 m) as (λ t. nat_eq 4 m ≡ t → cond (nat_eq 2 m) (option_map int second) (cond (nat_eq 3 m) (option_map int third) (cond t (option_map int (number_in value)) None)) ≡ cond t (Some value) (cond (nat_eq 2 m) (option_map int second) (cond (nat_eq 3 m) (option_map int third) (cond t (option_map int fourth) None)))) [
+    | true ↦ λ e. subst (λ k. cond (nat_eq 2 k) (option_map int second) (cond (nat_eq 3 k) (option_map int third) (option_map int (number_in value))) ≡ Some value) (eqb-true 4 m e) taken
+    | false ↦ λ _. refl
+  ] refl
+
+abbrev Sets : Option ℤ → Option ℤ → Option ℤ → ℕ → Val → ℕ → Type 0
+Sets second third fourth m value n =
+    value_fault (column_kind table n) value ≡ None
+    → set_to (with_value 2 n value second) (with_value 3 n value third) (with_value 4 n value fourth) m ≡ cond (nat_eq n m) (Some value) (set_to second third fourth m)
+
+pub set_with : (second third fourth : Option ℤ) (n m : ℕ) (value : Val) → Sets second third fourth m value n
+set_with second third fourth n m value =
+    elim (nat_eq 2 n) as (λ t. nat_eq 2 n ≡ t → Sets second third fourth m value n) [
+      | true ↦ λ e. subst (Sets second third fourth m value) (eqb-true 2 n e) (λ fine. two second third fourth value m (number_taken (up_to 9) value fine))
+      | false ↦ λ two_no. elim (nat_eq 3 n) as (λ t. nat_eq 3 n ≡ t → Sets second third fourth m value n) [
+        | true ↦ λ e. subst (Sets second third fourth m value) (eqb-true 3 n e) (λ fine. three second third fourth value m (number_taken (up_to 3600) value fine))
+        | false ↦ λ three_no. elim (nat_eq 4 n) as (λ t. nat_eq 4 n ≡ t → Sets second third fourth m value n) [
+          | true ↦ λ e. subst (Sets second third fourth m value) (eqb-true 4 n e) (λ fine. four second third fourth value m (number_taken (up_to 100) value fine))
+          | false ↦ λ four_no fine. absurd (no_column two_no three_no four_no fine)
+        ] refl
+      ] refl
+    ] refl
+  where
+    no_column : nat_eq 2 n ≡ false → nat_eq 3 n ≡ false → nat_eq 4 n ≡ false → value_fault (column_kind table n) value ≡ None → ⊥
+    no_column two_no three_no four_no fine = let same = rw (two_no, three_no, four_no) at fine in cc

@@ -1,0 +1,140 @@
+// The rows of a made-up control table, and Sets of it. Its entry is 1.3.6.1.4.1.9.5, its status column 7. Column 2 is 1 to 9 and
+// needed, column 3 is 1 to 3600, column 4 is 1 to 100 and may always be set.
+ghost use Rattle.std.specs.Prelude.{◌≡◌, ◌≤◌, ℕ, pos, List, [], ◌∷◌, ◌++◌, map, length, None, refl};
+ghost use Rattle.rm_val.specs.Val.{int};
+ghost use Rattle.rm_model.specs.Journal.{Assignment};
+ghost use Rattle.rm_status.specs.MadeUp.{table, set_to, with_value, blank_default, blank_needed, set_with};
+
+use crate::{Assigns, Columns};
+use arrayvec::ArrayVec;
+use rm_val::{ErrorStatus, Oid, Value};
+
+pub const STATUS: u32 = 7;
+
+#[derive(Clone, Copy, Debug, Default, PartialEq, Eq)]
+pub struct MadeUp {
+    pub second: Option<i32>,
+    pub third: Option<i32>,
+    pub fourth: Option<i32>,
+}
+
+impl Columns for MadeUp {
+    ghost table = { table };
+
+    ghost set_to = { λ s n. set_to s.second s.third s.fourth n };
+
+    ghost blank_row = { record { second = None; third = None; fourth = None } };
+
+    ghost with_column = { λ s n value. record { second = with_value 2 n value s.second; third = with_value 3 n value s.third; fourth = with_value 4 n value s.fourth } };
+
+    ghost blank_default = { blank_default };
+
+    ghost blank_needed = { blank_needed };
+
+    ghost set_with = { λ columns n other value fine. set_with columns.second columns.third columns.fourth n other value fine };
+
+    ghost sound = { refl };
+
+    fn blank() -> Self {
+        MadeUp {
+            second: None,
+            third: None,
+            fourth: None,
+        }
+    }
+
+    fn check(column: u32, value: &Value<'_>) -> Option<ErrorStatus> {
+        let most = if column == 2 {
+            9
+        } else if column == 3 {
+            3600
+        } else if column == 4 {
+            100
+        } else {
+            return Some(ErrorStatus::NotWritable);
+        };
+        let Value::Int(number) = value else {
+            return Some(ErrorStatus::WrongType);
+        };
+        if 1 <= *number && *number <= most {
+            None
+        } else {
+            Some(ErrorStatus::WrongValue)
+        }
+    }
+
+    fn always(column: u32) -> bool {
+        column == 4
+    }
+
+    fn needed(column: u32) -> bool {
+        column == 2
+    }
+
+    fn put(&mut self, column: u32, value: &Value<'_>) {
+        let Value::Int(number) = value else {
+            return;
+        };
+        if column == 2 {
+            self.second = Some(*number);
+        } else if column == 3 {
+            self.third = Some(*number);
+        } else if column == 4 {
+            self.fourth = Some(*number);
+        }
+    }
+
+    fn ready(&self) -> bool {
+        self.second.is_some()
+    }
+
+    fn bare(&self) -> Self {
+        *self
+    }
+}
+
+/// A column of a row, and the number that it is given.
+#[derive(Clone, Copy, Debug, Default)]
+pub struct Given {
+    pub column: u32,
+    pub row: u32,
+    pub number: i32,
+}
+
+/// A Set of at most four columns.
+#[derive(Drop)]
+pub struct Set {
+    pub given: ArrayVec<Given, 4>,
+}
+
+impl Assigns for Set {
+    ghost bindings = { λ s. map (λ given. record { name = 1 ∷ 3 ∷ 6 ∷ 1 ∷ 4 ∷ 1 ∷ 9 ∷ 5 ∷ given.column ∷ given.row ∷ []; value = int given.number }) s.given.items };
+
+    fn count(&self) -> usize {
+        self.given.len()
+    }
+
+    fn name(&self, place: usize) -> Oid {
+        let given = self.given.as_slice()[place];
+        name_of(given.column, given.row)
+    }
+
+    fn value(&self, place: usize) -> Value<'_> {
+        let given = self.given.as_slice()[place];
+        Value::Int(given.number)
+    }
+}
+
+/// The identifier of the table's entry.
+pub fn entry() -> Oid
+    ensures { result ≡ 1 ∷ 3 ∷ 6 ∷ 1 ∷ 4 ∷ 1 ∷ 9 ∷ 5 ∷ [] }
+{
+    Oid::from_slice(&[1, 3, 6, 1, 4, 1, 9, 5]).unwrap()
+}
+
+// The name of a column of a row.
+fn name_of(column: u32, row: u32) -> Oid
+    ensures { result ≡ 1 ∷ 3 ∷ 6 ∷ 1 ∷ 4 ∷ 1 ∷ 9 ∷ 5 ∷ column ∷ row ∷ [] }
+{
+    Oid::from_slice(&[1, 3, 6, 1, 4, 1, 9, 5, column, row]).unwrap()
+}

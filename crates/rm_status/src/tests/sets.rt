@@ -1,0 +1,489 @@
+// Sets against every cell of the steps of EntryStatus: valid 1, createRequest 2, underCreation 3, invalid 4.
+use crate::tests::made_up::{Given, MadeUp, STATUS, Set, entry};
+use crate::{Controls, MAX_ROWS, State, StatusKind, Verdict};
+use arrayvec::ArrayVec;
+use rm_val::ErrorStatus;
+use std::process::Abort;
+use std::test::Fail;
+
+// Columns of row 5, and what they are given.
+type Columns = &'static [(u32, i32)];
+
+// The Sets that make of row 5 what it is before: not there, under creation without the column that it needs, with it, and
+// valid.
+const ABSENT: &[Columns] = &[];
+
+const NOT_READY: &[Columns] = &[&[(STATUS, 2)]];
+
+const READY: &[Columns] = &[&[(STATUS, 2), (2, 4)]];
+
+const VALID: &[Columns] = &[&[(STATUS, 2), (2, 4)], &[(STATUS, 1)]];
+
+const FINE: Verdict = Verdict::Fine;
+
+const WRONG_NAME_1: Verdict = Verdict::Wrong {
+    status: ErrorStatus::InconsistentName,
+    index: 1,
+};
+
+const WRONG_NAME_2: Verdict = Verdict::Wrong {
+    status: ErrorStatus::InconsistentName,
+    index: 2,
+};
+
+const WRONG_VALUE_1: Verdict = Verdict::Wrong {
+    status: ErrorStatus::InconsistentValue,
+    index: 1,
+};
+
+const WRONG_VALUE_2: Verdict = Verdict::Wrong {
+    status: ErrorStatus::InconsistentValue,
+    index: 2,
+};
+
+// What the columns 2, 3 and 4 are set to.
+type Numbers = (Option<i32>, Option<i32>, Option<i32>);
+
+// Before, Set, verdict, and the row's state and columns after it.
+type Case = (&'static [Columns], Columns, Verdict, State, Option<Numbers>);
+
+const BLANK: Option<Numbers> = Some((None, None, None));
+
+const NEEDED: Option<Numbers> = Some((Some(4), None, None));
+
+const ABSENT_CASES: [Case; 14] = [
+    (ABSENT, &[(3, 7)], WRONG_NAME_1, State::Absent, None),
+    (ABSENT, &[(4, 8)], WRONG_NAME_1, State::Absent, None),
+    (ABSENT, &[(STATUS, 1)], WRONG_NAME_1, State::Absent, None),
+    (
+        ABSENT,
+        &[(2, 4), (STATUS, 1)],
+        WRONG_NAME_1,
+        State::Absent,
+        None,
+    ),
+    (ABSENT, &[(STATUS, 2)], FINE, State::UnderCreation, BLANK),
+    (
+        ABSENT,
+        &[(STATUS, 2), (3, 7)],
+        FINE,
+        State::UnderCreation,
+        Some((None, Some(7), None)),
+    ),
+    (
+        ABSENT,
+        &[(2, 4), (4, 8), (STATUS, 2)],
+        FINE,
+        State::UnderCreation,
+        Some((Some(4), None, Some(8))),
+    ),
+    (ABSENT, &[(STATUS, 3)], WRONG_NAME_1, State::Absent, None),
+    (
+        ABSENT,
+        &[(4, 8), (STATUS, 3)],
+        WRONG_NAME_1,
+        State::Absent,
+        None,
+    ),
+    (ABSENT, &[(STATUS, 4)], FINE, State::Absent, None),
+    (
+        ABSENT,
+        &[(STATUS, 4), (4, 8)],
+        WRONG_NAME_2,
+        State::Absent,
+        None,
+    ),
+    (
+        ABSENT,
+        &[(3, 7), (STATUS, 4)],
+        WRONG_NAME_1,
+        State::Absent,
+        None,
+    ),
+    (
+        ABSENT,
+        &[(STATUS, 2), (STATUS, 2)],
+        WRONG_VALUE_2,
+        State::Absent,
+        None,
+    ),
+    (
+        ABSENT,
+        &[(STATUS, 4), (STATUS, 2)],
+        WRONG_VALUE_2,
+        State::Absent,
+        None,
+    ),
+];
+
+const UNDER_CREATION_CASES: [Case; 19] = [
+    (
+        NOT_READY,
+        &[(3, 7), (4, 8)],
+        FINE,
+        State::UnderCreation,
+        Some((None, Some(7), Some(8))),
+    ),
+    (
+        NOT_READY,
+        &[(STATUS, 1)],
+        WRONG_VALUE_1,
+        State::UnderCreation,
+        BLANK,
+    ),
+    (
+        NOT_READY,
+        &[(3, 7), (STATUS, 1)],
+        WRONG_VALUE_2,
+        State::UnderCreation,
+        BLANK,
+    ),
+    (
+        NOT_READY,
+        &[(2, 4), (STATUS, 1)],
+        FINE,
+        State::Valid,
+        NEEDED,
+    ),
+    (
+        NOT_READY,
+        &[(STATUS, 1), (2, 4)],
+        FINE,
+        State::Valid,
+        NEEDED,
+    ),
+    (
+        NOT_READY,
+        &[(STATUS, 2)],
+        WRONG_VALUE_1,
+        State::UnderCreation,
+        BLANK,
+    ),
+    (
+        NOT_READY,
+        &[(3, 7), (STATUS, 2)],
+        WRONG_VALUE_2,
+        State::UnderCreation,
+        BLANK,
+    ),
+    (NOT_READY, &[(STATUS, 3)], FINE, State::UnderCreation, BLANK),
+    (
+        NOT_READY,
+        &[(STATUS, 3), (3, 7)],
+        FINE,
+        State::UnderCreation,
+        Some((None, Some(7), None)),
+    ),
+    (NOT_READY, &[(STATUS, 4)], FINE, State::Absent, None),
+    (NOT_READY, &[(3, 7), (STATUS, 4)], FINE, State::Absent, None),
+    (
+        NOT_READY,
+        &[(3, 7), (3, 7)],
+        WRONG_VALUE_2,
+        State::UnderCreation,
+        BLANK,
+    ),
+    (
+        NOT_READY,
+        &[(STATUS, 3), (STATUS, 1)],
+        WRONG_VALUE_2,
+        State::UnderCreation,
+        BLANK,
+    ),
+    (READY, &[(STATUS, 1)], FINE, State::Valid, NEEDED),
+    (
+        READY,
+        &[(3, 7), (STATUS, 1)],
+        FINE,
+        State::Valid,
+        Some((Some(4), Some(7), None)),
+    ),
+    (
+        READY,
+        &[(STATUS, 2)],
+        WRONG_VALUE_1,
+        State::UnderCreation,
+        NEEDED,
+    ),
+    (READY, &[(STATUS, 3)], FINE, State::UnderCreation, NEEDED),
+    (READY, &[(STATUS, 4)], FINE, State::Absent, None),
+    (
+        READY,
+        &[(2, 9)],
+        FINE,
+        State::UnderCreation,
+        Some((Some(9), None, None)),
+    ),
+];
+
+const VALID_CASES: [Case; 16] = [
+    (VALID, &[(3, 7)], WRONG_VALUE_1, State::Valid, NEEDED),
+    (
+        VALID,
+        &[(4, 8)],
+        FINE,
+        State::Valid,
+        Some((Some(4), None, Some(8))),
+    ),
+    (
+        VALID,
+        &[(4, 8), (3, 7)],
+        WRONG_VALUE_2,
+        State::Valid,
+        NEEDED,
+    ),
+    (VALID, &[(STATUS, 1)], FINE, State::Valid, NEEDED),
+    (
+        VALID,
+        &[(3, 7), (STATUS, 1)],
+        WRONG_VALUE_1,
+        State::Valid,
+        NEEDED,
+    ),
+    (
+        VALID,
+        &[(STATUS, 1), (4, 8)],
+        FINE,
+        State::Valid,
+        Some((Some(4), None, Some(8))),
+    ),
+    (VALID, &[(STATUS, 2)], WRONG_VALUE_1, State::Valid, NEEDED),
+    (
+        VALID,
+        &[(3, 7), (STATUS, 2)],
+        WRONG_VALUE_1,
+        State::Valid,
+        NEEDED,
+    ),
+    (
+        VALID,
+        &[(4, 8), (STATUS, 2)],
+        WRONG_VALUE_2,
+        State::Valid,
+        NEEDED,
+    ),
+    (VALID, &[(STATUS, 3)], FINE, State::UnderCreation, NEEDED),
+    (
+        VALID,
+        &[(3, 7), (STATUS, 3), (2, 9)],
+        FINE,
+        State::UnderCreation,
+        Some((Some(9), Some(7), None)),
+    ),
+    (VALID, &[(STATUS, 4)], FINE, State::Absent, None),
+    (VALID, &[(4, 8), (STATUS, 4)], FINE, State::Absent, None),
+    (
+        VALID,
+        &[(STATUS, 4), (3, 7)],
+        WRONG_VALUE_2,
+        State::Valid,
+        NEEDED,
+    ),
+    (
+        VALID,
+        &[(4, 8), (4, 9)],
+        WRONG_VALUE_2,
+        State::Valid,
+        NEEDED,
+    ),
+    (
+        VALID,
+        &[(STATUS, 1), (STATUS, 4)],
+        WRONG_VALUE_2,
+        State::Valid,
+        NEEDED,
+    ),
+];
+
+// A Set that is refused by its first pass, the status that refuses it, and the number of the binding.
+const REFUSED: [(&[(u32, u32, i32)], ErrorStatus, u32); 14] = [
+    (&[(1, 5, 1)], ErrorStatus::NotWritable, 1),
+    (&[(9, 0, 0)], ErrorStatus::NotWritable, 1),
+    (&[(2, 5, 0)], ErrorStatus::WrongValue, 1),
+    (&[(2, 5, 10)], ErrorStatus::WrongValue, 1),
+    (&[(STATUS, 5, 0)], ErrorStatus::WrongValue, 1),
+    (&[(STATUS, 5, 5)], ErrorStatus::WrongValue, 1),
+    (&[(STATUS, 0, 2)], ErrorStatus::NoCreation, 1),
+    (&[(STATUS, 65536, 2)], ErrorStatus::NoCreation, 1),
+    (&[(2, 0, 0)], ErrorStatus::WrongValue, 1),
+    (&[(3, 0, 7)], ErrorStatus::NoCreation, 1),
+    (&[(STATUS, 5, 2), (3, 5, 0)], ErrorStatus::WrongValue, 2),
+    // what is wrong with any binding alone comes before what is wrong with the bindings of a row
+    (&[(3, 6, 7), (3, 5, 0)], ErrorStatus::WrongValue, 2),
+    (&[(3, 6, 7), (3, 0, 7)], ErrorStatus::NoCreation, 2),
+    (&[(3, 6, 7), (3, 5, 7)], ErrorStatus::InconsistentName, 1),
+];
+
+// The Set of these columns of row 5.
+fn set_of_row_5(columns: &[(u32, i32)]) -> Set {
+    let mut set = Set {
+        given: ArrayVec::new(),
+    };
+    for &(column, number) in columns {
+        let _ = set.given.try_push(Given {
+            column,
+            row: 5,
+            number,
+        });
+    }
+    set
+}
+
+// The Set of these columns and rows.
+fn set_of(columns: &[(u32, u32, i32)]) -> Set {
+    let mut set = Set {
+        given: ArrayVec::new(),
+    };
+    for &(column, row, number) in columns {
+        let _ = set.given.try_push(Given {
+            column,
+            row,
+            number,
+        });
+    }
+    set
+}
+
+// What the columns of a row are set to.
+fn numbers(rows: &Controls<MadeUp>, row: u32) -> Option<Numbers> {
+    match rows.get(row) {
+        Some(columns) => Some((columns.second, columns.third, columns.fourth)),
+        None => None,
+    }
+}
+
+// Judges a Set in two passes, and acts on it where nothing is wrong.
+fn apply(rows: &mut Controls<MadeUp>, set: &Set) -> Verdict {
+    let entry = entry();
+    match rows.judge_alone(set, &entry, STATUS) {
+        Verdict::Fine => match rows.judge_rows(set, &entry, STATUS) {
+            Verdict::Fine => {
+                rows.commit(set, &entry, STATUS);
+                Verdict::Fine
+            }
+            wrong => wrong,
+        },
+        wrong => wrong,
+    }
+}
+
+fn try_cases(rt: &impl Abort, cases: &[Case]) {
+    for &(before, columns, verdict, state, left) in cases {
+        let mut rows = Controls::new(StatusKind::EntryStatus);
+        for first in before {
+            assert_eq!(rt;
+                apply(&mut rows, &set_of_row_5(first)),
+                Verdict::Fine,
+                "{first:?}"
+            );
+        }
+        assert_eq!(rt;
+            apply(&mut rows, &set_of_row_5(columns)),
+            verdict,
+            "{before:?} {columns:?}"
+        );
+        assert_eq!(rt; rows.state(5), state, "{before:?} {columns:?}");
+        assert_eq!(rt; numbers(&rows, 5), left, "{before:?} {columns:?}");
+    }
+}
+
+#[test]
+fn a_row_that_is_not_there(rt: HostRuntime) {
+    try_cases(&rt, &ABSENT_CASES);
+}
+
+#[test]
+fn a_row_under_creation(rt: HostRuntime) {
+    try_cases(&rt, &UNDER_CREATION_CASES);
+}
+
+#[test]
+fn a_valid_row(rt: HostRuntime) {
+    try_cases(&rt, &VALID_CASES);
+}
+
+#[test]
+fn the_first_pass_comes_first(rt: HostRuntime) {
+    for (columns, status, index) in REFUSED {
+        let mut rows = Controls::new(StatusKind::EntryStatus);
+        assert_eq!(rt;
+            apply(&mut rows, &set_of(columns)),
+            Verdict::Wrong { status, index },
+            "{columns:?}"
+        );
+        assert_eq!(rt; rows.len(), 0);
+    }
+}
+
+// Rows 1 to `count`, under creation.
+fn many(count: u32) -> Controls<MadeUp> {
+    let mut rows = Controls::new(StatusKind::EntryStatus);
+    for row in 1..=count {
+        let _ = apply(&mut rows, &set_of(&[(STATUS, row, 2)]));
+    }
+    rows
+}
+
+#[test]
+fn no_more_than_sixteen_rows(rt: HostRuntime) {
+    let mut rows = many(16);
+    assert_eq!(rt; rows.len(), MAX_ROWS);
+    assert_eq!(rt; apply(&mut rows, &set_of(&[(STATUS, 17, 2)])), WRONG_NAME_1);
+    // a row that goes makes no room in the same Set, and the rows that there are take columns
+    assert_eq!(rt;
+        apply(&mut rows, &set_of(&[(STATUS, 1, 4), (STATUS, 17, 2)])),
+        WRONG_NAME_2
+    );
+    assert_eq!(rt;
+        apply(&mut rows, &set_of(&[(STATUS, 18, 4), (3, 16, 7)])),
+        FINE
+    );
+    assert_eq!(rt; apply(&mut rows, &set_of(&[(STATUS, 1, 4)])), FINE);
+    // two rows are one too many, and a row whose status comes twice is one
+    assert_eq!(rt;
+        apply(
+            &mut rows,
+            &set_of(&[(3, 5, 7), (STATUS, 17, 2), (STATUS, 18, 2)])
+        ),
+        WRONG_NAME_2
+    );
+    assert_eq!(rt;
+        apply(&mut rows, &set_of(&[(STATUS, 17, 2), (STATUS, 17, 2)])),
+        WRONG_VALUE_2
+    );
+    assert_eq!(rt; apply(&mut rows, &set_of(&[(STATUS, 17, 2)])), FINE);
+    assert_eq!(rt; rows.len(), MAX_ROWS);
+}
+
+#[test]
+fn rows_in_order(rt: HostRuntime) -> Result<(), Fail> {
+    let mut rows = Controls::new(StatusKind::EntryStatus);
+    rows.insert(
+        300,
+        State::Valid,
+        MadeUp {
+            second: Some(1),
+            third: None,
+            fourth: None,
+        },
+    );
+    assert_eq!(rt;
+        apply(&mut rows, &set_of(&[(STATUS, 65535, 2), (STATUS, 7, 2)])),
+        FINE
+    );
+    assert_eq!(rt; rows.len(), 3);
+    assert_eq!(rt; rows.after(0), Some(7));
+    assert_eq!(rt; rows.after(7), Some(300));
+    assert_eq!(rt; rows.after(300), Some(65535));
+    assert_eq!(rt; rows.after(65535), None);
+    assert_eq!(rt; rows.state(300), State::Valid);
+    if let Some(columns) = rows.get_mut(300) {
+        columns.third = Some(60);
+    }
+    assert_eq!(rt; numbers(&rows, 300), Some((Some(1), Some(60), None)));
+    rows.remove(300);
+    rows.remove(8);
+    assert_eq!(rt; rows.after(7), Some(65535));
+    assert!(rt; rows.get(300).is_none());
+    Ok(())
+}
