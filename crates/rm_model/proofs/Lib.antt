@@ -5,3 +5,5 @@ pub mod Tables
 pub mod Members
 pub mod Finite
 pub mod Rows
+pub mod Alike
+pub mod Accepted

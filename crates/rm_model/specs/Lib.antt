@@ -8,3 +8,5 @@ pub mod Interfaces
 pub mod ControlTable
 pub mod ControlRows
 pub mod Judgement
+pub mod Alike
+pub mod Accepted

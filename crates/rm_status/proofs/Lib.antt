@@ -17,3 +17,4 @@ pub mod Commits
 pub mod Crowds
 pub mod Seconds
 pub mod Rooms
+pub mod After

@@ -65,7 +65,7 @@ and_false : (b : Bool) → (b && false) ≡ false
 and_false true = refl
 and_false false = refl
 
-same_either_way : (x y : ℕ) → nat_eq x y ≡ nat_eq y x
+pub same_either_way : (x y : ℕ) → nat_eq x y ≡ nat_eq y x
 same_either_way x y = grind (arith, nat_tests)
 
 -- a name is that of a cell where it stands there

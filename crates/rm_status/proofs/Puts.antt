@@ -27,7 +27,7 @@ pub all_fine : (t : ControlTable) (bs : Bindings) → ((k : ℕ) → k < length 
 all_fine t [] h = tt
 all_fine t (b ∷ bs) h = (h 0 (omega arith), all_fine t bs (λ k lt. h (suc k) (omega arith)))
 
-left_part : (a b : Bool) → (a && b) ≡ true → a ≡ true
+pub left_part : (a b : Bool) → (a && b) ≡ true → a ≡ true
 left_part true b h = refl
 left_part false b h = cc
 

@@ -1,12 +1,13 @@
 -- A made-up control table, for the tests: a row needs column 2, column 4 may always be set, and the status is column 7.
-use Rattle.std.specs.Prelude.{◌≡◌, ℕ, ℤ, pos, List, [], ◌∷◌, Bool, true, false, cond, Option, Some, None, unwrap_or, IsTrue, refl, nat_eq}
-use Rattle.std.proofs.Common.{ap, ◌∙◌, subst}
+use Rattle.std.specs.Prelude.{◌≡◌, ℕ, ℤ, pos, List, [], ◌∷◌, true, false, cond, Option, Some, None, refl, nat_eq}
+use Rattle.std.proofs.Common.{subst}
 use Rattle.std.specs.Option.{option_map}
 use borrow.Author.Tests.{eqb-true}
 use Rattle.rm_val.specs.Val.{Val, int}
 use Rattle.rm_model.specs.declared.row.StatusKind.TheVariants.{EntryStatus}
-use Rattle.rm_model.specs.ControlTable.{Range, number, ControlTable, default_of}
-use Rattle.rm_model.specs.Judgement.{column_kind, value_fault, is_needed}
+use Rattle.rm_model.specs.ControlTable.{Range, number, ControlTable}
+use Rattle.rm_model.specs.Alike.{HasSameColumns}
+use Rattle.rm_model.specs.Judgement.{column_kind, value_fault}
 use Rattle.rm_status.specs.Taken.{number_in, number_taken}
 
 abbrev up_to : ℕ → List Range
@@ -35,20 +36,14 @@ set_to second third fourth n =
 abbrev pub with_value : ℕ → ℕ → Val → Option ℤ → Option ℤ
 with_value column n value old = cond (nat_eq column n) (number_in value) old
 
-same_either_way : {A : Type 0} (b : Bool) (x : A) → cond b x x ≡ x
-same_either_way true x = refl
-same_either_way false x = refl
-
-none_set : (n : ℕ) → set_to None None None n ≡ None
-none_set n =
-    ap (λ o. cond (nat_eq 2 n) None (cond (nat_eq 3 n) None o)) (same_either_way (nat_eq 4 n) None)
-    ∙ ap (λ o. cond (nat_eq 2 n) None o) (same_either_way (nat_eq 3 n) None) ∙ same_either_way (nat_eq 2 n) None
-
-pub blank_default : (n : ℕ) → unwrap_or (set_to None None None n) (default_of table n) ≡ default_of table n
-blank_default n = ap (λ o. unwrap_or o (default_of table n)) (none_set n)
-
-pub blank_needed : (n : ℕ) → IsTrue (is_needed table n) → set_to None None None n ≡ None
-blank_needed n needed = none_set n
+pub blank_alike : HasSameColumns table (set_to None None None) (λ column. None)
+blank_alike = (
+  record { shown = refl; needed = λ _. refl },
+  (
+    record { shown = refl; needed = λ _. refl },
+    (record { shown = refl; needed = λ _. refl }, tt),
+  ),
+)
 
 module _ (second third fourth : Option ℤ) (value : Val) (m : ℕ) (taken : option_map int (number_in value) ≡ Some value) where
   abbrev before : Option Val

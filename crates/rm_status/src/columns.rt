@@ -1,8 +1,9 @@
 // The columns of a control row.
-ghost use Rattle.std.specs.Prelude.{◌≡◌, ℕ, Option, Some, None, IsTrue, nat_eq, unwrap_or, if◌then◌else◌};
+ghost use Rattle.std.specs.Prelude.{◌≡◌, ℕ, Option, Some, None, IsTrue, nat_eq, if◌then◌else◌};
 ghost use Rattle.rm_val.specs.Val.{Val, val_of};
 ghost use Rattle.rm_val.specs.Spellable.{HasSpelling};
-ghost use Rattle.rm_model.specs.ControlTable.{ControlTable, default_of, is_ready};
+ghost use Rattle.rm_model.specs.ControlTable.{ControlTable, is_ready};
+ghost use Rattle.rm_model.specs.Alike.{HasSameColumns};
 ghost use Rattle.rm_model.specs.Judgement.{column_kind, value_fault, is_always, is_needed, of_columns, is_sound};
 
 use rm_val::{ErrorStatus, Value};
@@ -53,11 +54,8 @@ pub trait Columns: Default + Drop {
     fn bare(&self) -> Self
         ensures { (n : ℕ) → set_to result n ≡ set_to self.now n };
 
-    /// A blank column shows its default.
-    ghost blank_default: { (n : ℕ) → unwrap_or (set_to blank_row n) (default_of table n) ≡ default_of table n };
-
-    /// A blank column that a row needs isn't set.
-    ghost blank_needed: { (n : ℕ) → IsTrue (is_needed table n) → set_to blank_row n ≡ None };
+    /// A blank column shows its default, and isn't set where a row needs it.
+    ghost blank_alike: { HasSameColumns table (set_to blank_row) (λ column. None) };
 
     /// A column that is set has the value that it was set to, and the others have theirs.
     ghost set_with: { (columns : Self) (n other : ℕ) (value : Val) → value_fault (column_kind table n) value ≡ None

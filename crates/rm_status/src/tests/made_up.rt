@@ -3,7 +3,7 @@
 ghost use Rattle.std.specs.Prelude.{◌≡◌, ◌≤◌, ℕ, pos, List, [], ◌∷◌, ◌++◌, map, length, None, refl};
 ghost use Rattle.rm_val.specs.Val.{int};
 ghost use Rattle.rm_model.specs.Journal.{Assignment};
-ghost use Rattle.rm_status.specs.MadeUp.{table, set_to, with_value, blank_default, blank_needed, set_with};
+ghost use Rattle.rm_status.specs.MadeUp.{table, set_to, with_value, blank_alike, set_with};
 
 use crate::{Assigns, Columns};
 use arrayvec::ArrayVec;
@@ -27,9 +27,7 @@ impl Columns for MadeUp {
 
     ghost with_column = { λ s n value. record { second = with_value 2 n value s.second; third = with_value 3 n value s.third; fourth = with_value 4 n value s.fourth } };
 
-    ghost blank_default = { blank_default };
-
-    ghost blank_needed = { blank_needed };
+    ghost blank_alike = { blank_alike };
 
     ghost set_with = { λ columns n other value fine. set_with columns.second columns.third columns.fourth n other value fine };
 

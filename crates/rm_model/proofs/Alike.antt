@@ -1,0 +1,117 @@
+-- Rows that are alike are judged alike.
+use Rattle.std.proofs.Common.{◌≡◌, ℕ, List, [], ◌∷◌, Bool, true, false, cond, ◌&&◌, ◌||◌, not, Option, Some, None, find, refl, ap, subst, ◌∙◌, nat_eq, nat_lt}
+use Rattle.std.specs.Prelude.{is_some, unwrap_or}
+use Rattle.std.specs.List.{list_all, AllByRecursion}
+use Rattle.std.specs.Option.{option_or}
+use borrow.Author.Tests.{eqb-true}
+use Rattle.rm_val.specs.Val.{Val}
+use Rattle.rm_val.specs.declared.error.ErrorStatus.TheVariants.{InconsistentValue, InconsistentName}
+use Rattle.rm_model.specs.declared.row.StatusKind.{StatusKind}
+use Rattle.rm_model.specs.declared.row.StatusKind.TheVariants.{EntryStatus, RowStatus}
+use Rattle.rm_model.specs.declared.row.State.{State}
+use Rattle.rm_model.specs.declared.row.State.TheVariants.{Absent, UnderCreation, Valid}
+use Rattle.rm_model.specs.declared.row.Ask.{Ask}
+use Rattle.rm_model.specs.declared.row.Ask.TheVariants.{Nothing, Create, CreateValid, Enable, Disable, Destroy}
+use Rattle.rm_model.specs.declared.place.Place.{Place}
+use Rattle.rm_model.specs.declared.place.Place.TheVariants.{Outside, Entry, Column, Cell}
+use Rattle.rm_model.specs.Journal.{value_given}
+use Rattle.rm_model.specs.ControlTable.{Column as TableColumn, ControlTable, column_of, default_of, is_ready}
+use Rattle.rm_model.specs.ControlRows.{Beginning, cell_name, set_ask, is_absent}
+use Rattle.rm_model.specs.Judgement.{Bindings, name_at, place_of, status_fault, column_fault, is_always, is_made, row_fault, unless, of_columns, is_ready_with, is_held_or_made, count_below, is_crowded, is_again, together_fault, second_pass}
+use Rattle.rm_model.specs.Alike.{IsSameColumn, HasSameColumns, AreAlike}
+
+-- readiness counts only in a row that there is
+no_row : (kind : StatusKind) (a : Ask) (r s : Bool) → status_fault kind Absent a r ≡ status_fault kind Absent a s
+no_row EntryStatus Nothing r s = refl
+no_row EntryStatus Create r s = refl
+no_row EntryStatus CreateValid r s = refl
+no_row EntryStatus Enable r s = refl
+no_row EntryStatus Disable r s = refl
+no_row EntryStatus Destroy r s = refl
+no_row RowStatus Nothing r s = refl
+no_row RowStatus Create r s = refl
+no_row RowStatus CreateValid r s = refl
+no_row RowStatus Enable r s = refl
+no_row RowStatus Disable r s = refl
+no_row RowStatus Destroy r s = refl
+
+pub same_ready : (t : ControlTable) (state : State) (a : Ask) (r s crowded again : Bool) (column : ℕ) → (is_absent state ≡ false → r ≡ s) → row_fault t state a r crowded again column ≡ row_fault t state a s crowded again column
+same_ready t Absent a r s crowded again column same =
+    ap (λ f. cond (is_made Absent a && crowded) (Some InconsistentName) (option_or (cond (nat_eq column t.status) f (column_fault Absent a (is_always t column))) (unless (not again) InconsistentValue))) (no_row t.status_kind a r s)
+same_ready t UnderCreation a r s crowded again column same = ap (λ b. row_fault t UnderCreation a b crowded again column) (same refl)
+same_ready t Valid a r s crowded again column same = ap (λ b. row_fault t Valid a b crowded again column) (same refl)
+
+-- a Set gives the same to two columns of which each shows the same, and was set as well as the other
+pub with_given : (given a b : Option Val) (default : Val) → unwrap_or a default ≡ unwrap_or b default → unwrap_or (option_or given a) default ≡ unwrap_or (option_or given b) default
+with_given None a b default same = same
+with_given (Some value) a b default same = refl
+
+pub is_given : (given a b : Option Val) → is_some a ≡ is_some b → is_some (option_or given a) ≡ is_some (option_or given b)
+is_given None a b same = same
+is_given (Some value) a b same = refl
+
+module _ (t : ControlTable) (a b : ℕ → Option Val) where
+  -- what holds of each of some columns holds of the one that is found by its number
+  found : (columns : List TableColumn) → AllByRecursion (IsSameColumn t a b) columns → (n : ℕ) → is_some (find (λ c. nat_eq c.number n) columns) ≡ true → unwrap_or (a n) (default_of t n) ≡ unwrap_or (b n) (default_of t n)
+  found [] all n is = absurd (cc)
+  found (c ∷ more) all n is =
+      elim (nat_eq c.number n) as (λ s. nat_eq c.number n ≡ s → is_some (cond s (Some c) (find (λ x. nat_eq x.number n) more)) ≡ true → unwrap_or (a n) (default_of t n) ≡ unwrap_or (b n) (default_of t n)) [
+        | true ↦ λ e _. subst (λ m. unwrap_or (a m) (default_of t m) ≡ unwrap_or (b m) (default_of t m)) (eqb-true c.number n e) all.0.shown
+        | false ↦ λ _ later. found more all.1 n later
+      ] refl is
+
+  module _ (given : ℕ → Option Val) where
+    abbrev with_a : ℕ → Option Val
+    with_a = of_columns t (λ n. option_or (given n) (a n))
+
+    abbrev with_b : ℕ → Option Val
+    with_b = of_columns t (λ n. option_or (given n) (b n))
+
+    shows : HasSameColumns t a b → (n : ℕ) → unwrap_or (with_a n) (default_of t n) ≡ unwrap_or (with_b n) (default_of t n)
+    shows all n =
+        elim (is_some (column_of t n)) as (λ s. is_some (column_of t n) ≡ s → unwrap_or (cond s (option_or (given n) (a n)) None) (default_of t n) ≡ unwrap_or (cond s (option_or (given n) (b n)) None) (default_of t n)) [
+          | true ↦ λ e. with_given (given n) (a n) (b n) (default_of t n) (found t.columns all n e)
+          | false ↦ λ _. refl
+        ] refl
+
+    one : (c : TableColumn) → IsSameColumn t a b c → (not c.needed || is_some (with_a c.number)) ≡ (not c.needed || is_some (with_b c.number))
+    one c same =
+        elim c.needed as (λ s. c.needed ≡ s → (not s || is_some (with_a c.number)) ≡ (not s || is_some (with_b c.number))) [
+          | true ↦ λ e. elim (is_some (column_of t c.number)) as (λ s. is_some (cond s (option_or (given c.number) (a c.number)) None) ≡ is_some (cond s (option_or (given c.number) (b c.number)) None)) [
+            | true ↦ is_given (given c.number) (a c.number) (b c.number) (same.needed e)
+            | false ↦ refl
+          ]
+          | false ↦ λ _. refl
+        ] refl
+
+    all_set : (columns : List TableColumn) → AllByRecursion (IsSameColumn t a b) columns → list_all (λ c. not c.needed || is_some (with_a c.number)) columns ≡ list_all (λ c. not c.needed || is_some (with_b c.number)) columns
+    all_set [] all = refl
+    all_set (c ∷ more) all =
+        ap (λ s. s && list_all (λ x. not x.needed || is_some (with_a x.number)) more) (one c all.0)
+        ∙ ap (λ s. (not c.needed || is_some (with_b c.number)) && s) (all_set more all.1)
+
+    pub ready_alike : HasSameColumns t a b → is_ready t with_a ≡ is_ready t with_b
+    ready_alike all =
+        ap (λ s. s && t.go_together (λ n. unwrap_or (with_a n) (default_of t n))) (all_set t.columns all)
+        ∙ ap (λ (f : ℕ → Val). list_all (λ c. not c.needed || is_some (with_b c.number)) t.columns && t.go_together f) (λ d n. (shows all n) d)
+
+module _ (t : ControlTable) (rows others : Beginning) (alike : AreAlike t rows others) (bs : Bindings) where
+  crowded_alike : is_crowded t rows bs ≡ is_crowded t others bs
+  crowded_alike = ap (λ (f : ℕ → Bool). nat_lt 16 (count_below f 65536)) (λ d row. (held_alike row) d)
+    where
+      held_alike : (row : ℕ) → is_held_or_made t rows bs (row ∷ []) ≡ is_held_or_made t others bs (row ∷ [])
+      held_alike row = ap (λ s. not (is_absent s) || is_made s (set_ask t bs (row ∷ []))) (alike.states row)
+
+  -- the second pass finds the same wrong with a Set
+  pub second_pass_alike : (k : ℕ) → second_pass t rows bs k ≡ second_pass t others bs k
+  second_pass_alike k = of_place (place_of t.entry (name_at bs k))
+    where
+      of_place : (p : Place) → together_fault t rows bs k p ≡ together_fault t others bs k p
+      of_place Outside = refl
+      of_place Entry = refl
+      of_place (Column c) = refl
+      of_place (Cell c row) =
+          same_ready t (rows.state (row ∷ [])) (set_ask t bs (row ∷ [])) (is_ready_with t rows bs (row ∷ [])) (is_ready_with t others bs (row ∷ [])) (is_crowded t rows bs) (is_again bs k) c
+          (λ there. ready_alike t (rows.set (row ∷ [])) (others.set (row ∷ [])) (λ column. value_given bs (cell_name t.entry column (row ∷ []))) (alike.columns row there))
+          ∙ ap (λ s. row_fault t s (set_ask t bs (row ∷ [])) (is_ready_with t others bs (row ∷ [])) (is_crowded t rows bs) (is_again bs k) c) (alike.states row)
+          ∙ ap (λ s. row_fault t (others.state (row ∷ [])) (set_ask t bs (row ∷ [])) (is_ready_with t others bs (row ∷ [])) s (is_again bs k) c) crowded_alike
