@@ -19,7 +19,7 @@ use Rattle.rm_model.proofs.Next.{next_found}
 use Rattle.rm_model.proofs.Tables.{behind_is, has_table_cell}
 
 -- no name is below itself
-not_below_itself : (name : List ℕ) → Below name name → ⊥
+pub not_below_itself : (name : List ℕ) → Below name name → ⊥
 not_below_itself name under =
     let back : Less ≡ ordering_reverse Less = sym under ∙ nat_list_cmp_total.antisymm name name ∙ ap ordering_reverse under in
     cc

@@ -10,7 +10,7 @@ use Rattle.rm_model.specs.Names.{Below, IsLeastAbove}
 use Rattle.rm_model.specs.Cells.{Cells, has_cell, IsNext}
 use Rattle.std.proofs.lemmas.Cmp.{nat_list_cmp_total}
 
-below_of_greater : (x y : List ℕ) → slice_cmp nat_cmp x y ≡ Greater → Below y x
+pub below_of_greater : (x y : List ℕ) → slice_cmp nat_cmp x y ≡ Greater → Below y x
 below_of_greater x y e = nat_list_cmp_total.antisymm y x ∙ ap ordering_reverse e
 
 -- two names, neither of which can be below the other

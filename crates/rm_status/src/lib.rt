@@ -33,7 +33,7 @@ pub use denied::Denied;
 pub use group::Group;
 pub use instance::instance_of;
 pub use interface::{INTERFACES, interface_name, source};
-pub use laws::next_or_none;
+pub use laws::{next_or_none, order_does_not_matter};
 pub use look::{Look, Reading};
 pub use nearer::choose_nearer;
 pub use objects::{Objects, is_of_column};
