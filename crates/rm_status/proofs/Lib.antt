@@ -18,3 +18,4 @@ pub mod Crowds
 pub mod Seconds
 pub mod Rooms
 pub mod After
+pub mod ReadOnly

@@ -1,6 +1,7 @@
 pub mod Search
 pub mod System
 pub mod Look
+pub mod Alone
 pub mod Rows
 pub mod Commit
 pub mod Lending

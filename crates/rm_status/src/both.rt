@@ -1,14 +1,21 @@
 // Two groups as one.
-ghost use Rattle.std.specs.Prelude.{◌≡◌, ℕ, ◌≤◌, List, ◌||◌};
+ghost use Rattle.std.specs.Prelude.{◌≡◌, ℕ, ◌≤◌, List, ◌||◌, ◌⊎◌, max};
 ghost use Rattle.std.specs.Option.{option_or};
 ghost use Rattle.rm_model.proofs.Finite.{both_finite};
 
+use crate::assigns::Assigns;
+use crate::denied::Denied;
 use crate::group::Group;
+use crate::look::Look;
+use crate::lower::lower_verdict;
 use crate::nearer::choose_nearer;
 use crate::objects::Objects;
+use rm_model::Verdict;
 use rm_val::{Oid, Value};
+use std::alloc::Global;
 
-/// Two groups as one. Where both have a variable of a name, the first one's counts.
+/// Two groups as one. Where both have a variable of a name, the first one's counts. A judgement names the lower of the
+/// bindings that theirs name, by the first one where both name the same.
 #[derive(Drop)]
 pub struct Both<G, H> {
     /// The group whose variables count where both have one of a name.
@@ -20,7 +27,22 @@ pub struct Both<G, H> {
 impl<G: Group, H: Group> Group for Both<G, H> {
     ghost stands = { λ s settings journal. G.stands s.first settings journal × H.stands s.second settings journal };
 
+    ghost clock = { λ s. max (G.clock s.first) (H.clock s.second) };
+
     ghost cells = { λ settings journal now name. option_or (G.cells settings journal now name) (H.cells settings journal now name) };
+
+    ghost alone = { λ name value. option_or (G.alone name value) (H.alone name value) };
+
+    ghost together = { λ settings journal now readings bindings place.
+        option_or (G.together settings journal now readings bindings place) (H.together settings journal now readings bindings place) };
+
+    ghost reserves = { λ settings journal bindings index. G.reserves settings journal bindings index ⊎ H.reserves settings journal bindings index };
+
+    ghost accepts = { λ s now readings bindings. G.accepts s.first now readings bindings × H.accepts s.second now readings bindings };
+
+    ghost prepared = { λ s now bindings. G.prepared s.first now bindings × H.prepared s.second now bindings };
+
+    ghost released = { λ s. G.released s.first × H.released s.second };
 
     ghost finite = { λ settings journal now.
         both_finite (G.cells settings journal now) (H.cells settings journal now) (G.finite settings journal now) (H.finite settings journal now) };
@@ -37,6 +59,41 @@ impl<G: Group, H: Group> Group for Both<G, H> {
         let left = self.first.after(name, now, out);
         let right = self.second.after(name, now, &mut other);
         choose_nearer(left, out, right, other)
+    }
+
+    fn judge_alone<A: Assigns>(&self, set: &A) -> Verdict {
+        lower_verdict(self.first.judge_alone(set), self.second.judge_alone(set))
+    }
+
+    fn judge_rows<A: Assigns, L: Look>(&self, set: &A, now: u32, look: &L) -> Verdict {
+        let first = self.first.judge_rows(set, now, look);
+        let second = self.second.judge_rows(set, now, look);
+        lower_verdict(first, second)
+    }
+
+    fn prepare<A: Assigns, L: Look>(
+        &mut self,
+        alloc: Global,
+        set: &A,
+        now: u32,
+        look: &L,
+    ) -> Result<(), Denied> {
+        self.first.prepare(alloc, set, now, look)?;
+        let second = self.second.prepare(alloc, set, now, look);
+        if second.is_err() {
+            self.first.discard();
+        }
+        second
+    }
+
+    fn commit<A: Assigns>(&mut self, set: &A, now: u32) {
+        self.first.commit(set, now);
+        self.second.commit(set, now);
+    }
+
+    fn discard(&mut self) {
+        self.first.discard();
+        self.second.discard();
     }
 }
 

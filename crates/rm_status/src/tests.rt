@@ -1,12 +1,19 @@
+ghost use Rattle.std.specs.Prelude.{◌≤◌};
+
+mod given;
 mod made_up;
 mod seen;
 mod sets;
+mod slot;
 mod sparse;
 
+use crate::tests::given::{Two, Unread};
 use crate::tests::seen::Seen;
+use crate::tests::slot::Slot;
 use crate::tests::sparse::Sparse;
-use crate::{Both, Group, INTERFACES, Objects, System, interface_name, next_name, source};
-use rm_val::{Oid, Value};
+use crate::{Both, Group, INTERFACES, Objects, System, Verdict, interface_name, next_name, source};
+use rm_val::{ErrorStatus, Oid, Value};
+use std::alloc::Global;
 use std::test::Fail;
 
 const ENTRY: [u32; 8] = [1, 3, 6, 1, 4, 1, 9, 5];
@@ -155,5 +162,107 @@ fn sources_are_interfaces(rt: HostRuntime) -> Result<(), Fail> {
         );
     }
     assert_eq!(rt; source(&Value::Int(1)), None);
+    Ok(())
+}
+
+const SLOT: Slot = Slot {
+    room: true,
+    held: false,
+};
+
+// What becomes of a Set.
+#[derive(Clone, Copy, Debug, PartialEq, Eq)]
+enum Outcome {
+    Refused(ErrorStatus, u32),
+    Denied(u32),
+    Ready,
+}
+
+// Judges a Set at the moment 1000, and makes ready for it.
+fn prepare<G: Group>(alloc: Global, groups: &mut G, set: &Two) -> Outcome
+    requires { G.clock groups.old ≤ 1000 }
+{
+    if let Verdict::Wrong { status, index } = groups.judge_alone(set) {
+        return Outcome::Refused(status, index);
+    }
+    if let Verdict::Wrong { status, index } = groups.judge_rows(set, 1000, &Unread) {
+        return Outcome::Refused(status, index);
+    }
+    match groups.prepare(alloc, set, 1000, &Unread) {
+        Ok(()) => Outcome::Ready,
+        Err(denied) => Outcome::Denied(denied.index),
+    }
+}
+
+// System answers the scalars 1 and 3, and Slot finds fault with 3 and 5.
+#[test]
+fn a_judgement_names_the_lower_binding(rt: HostRuntime) -> Result<(), Fail> {
+    for (first, second, status, index) in [
+        (1, 5, ErrorStatus::NotWritable, 1),
+        (5, 1, ErrorStatus::WrongValue, 1),
+        (4, 3, ErrorStatus::NotWritable, 2),
+        (4, 5, ErrorStatus::WrongValue, 2),
+    ] {
+        let mut groups = Both {
+            first: System,
+            second: SLOT,
+        };
+        let set = Two { first, second };
+        let outcome = prepare(rt.alloc(), &mut groups, &set);
+        assert_eq!(rt;
+            outcome,
+            Outcome::Refused(status, index),
+            "{first} {second}"
+        );
+        assert!(rt; !groups.second.held);
+    }
+    Ok(())
+}
+
+#[test]
+fn the_first_group_judges_what_both_name(rt: HostRuntime) -> Result<(), Fail> {
+    let mut groups = Both {
+        first: SLOT,
+        second: System,
+    };
+    let set = Two {
+        first: 4,
+        second: 3,
+    };
+    assert_eq!(rt;
+        prepare(rt.alloc(), &mut groups, &set),
+        Outcome::Refused(ErrorStatus::WrongValue, 2)
+    );
+    Ok(())
+}
+
+#[test]
+fn a_denied_group_holds_nothing(rt: HostRuntime) -> Result<(), Fail> {
+    let set = Two {
+        first: 4,
+        second: 6,
+    };
+    for (first, second, outcome) in [
+        (true, false, Outcome::Denied(2)),
+        (false, true, Outcome::Denied(2)),
+        (true, true, Outcome::Ready),
+    ] {
+        let mut groups = Both {
+            first: Slot {
+                room: first,
+                held: false,
+            },
+            second: Slot {
+                room: second,
+                held: false,
+            },
+        };
+        assert_eq!(rt; prepare(rt.alloc(), &mut groups, &set), outcome);
+        let ready = outcome == Outcome::Ready;
+        assert_eq!(rt; groups.first.held, ready, "{first} {second}");
+        assert_eq!(rt; groups.second.held, ready, "{first} {second}");
+        groups.discard();
+        assert!(rt; !groups.first.held && !groups.second.held);
+    }
     Ok(())
 }

@@ -1,14 +1,19 @@
 // A group with one row, which is there once a frame has passed.
-ghost use Rattle.std.specs.Prelude.{◌≡◌, ℕ, ◌+◌, ◌<◌, ◌^◌, List, [], ◌∷◌, ◌&&◌, nat_lt, length, refl};
+ghost use Rattle.std.specs.Prelude.{◌≡◌, ℕ, ◌+◌, ◌<◌, ◌^◌, List, [], ◌∷◌, ◌&&◌, nat_lt, length, None, refl};
 ghost use Rattle.std.specs.Str.{bytes_eq};
 ghost use Rattle.rm_val.specs.Val.{counter};
 ghost use Rattle.rm_model.specs.Journal.{Journal, Frame, frames_in, passes};
-ghost use Rattle.rm_model.specs.Cells.{cells_of};
+ghost use Rattle.rm_model.specs.Cells.{cells_of, is_of_column};
+ghost use Rattle.rm_status.specs.Alone.{read_only};
 ghost use Rattle.rm_model.proofs.Finite.{one_row_finite};
 ghost use Rattle.std.proofs.lemmas.Bool.{and_parts};
 
-use crate::{Group, OneRow, RowIndexes, instance_of, next_name};
+use crate::{
+    Assigns, Denied, Group, Look, OneRow, RowIndexes, Verdict, instance_of, judge_read_only,
+    next_name,
+};
 use rm_val::{Oid, Value};
+use std::alloc::Global;
 
 /// The columns sysObjectID and sysContact, of which each is the number of frames.
 const COLUMNS: [u32; 2] = [2, 4];
@@ -55,6 +60,20 @@ impl Group for Seen {
       value = λ column index. counter (length (frames_in journal));
     }) };
 
+    ghost clock = { λ s. 0 };
+
+    ghost alone = { read_only (is_of_column (1 ∷ 3 ∷ 6 ∷ 1 ∷ 2 ∷ 1 ∷ 1 ∷ []) (2 ∷ 4 ∷ [])) };
+
+    ghost together = { λ settings journal now readings bindings place. None };
+
+    ghost reserves = { λ settings journal bindings index. ⊥ };
+
+    ghost accepts = { λ s now readings bindings. Unit {0} };
+
+    ghost prepared = { λ s now bindings. Unit {0} };
+
+    ghost released = { λ s. Unit {0} };
+
     ghost finite = { λ settings journal now. one_row_finite (record {
       entry = 1 ∷ 3 ∷ 6 ∷ 1 ∷ 2 ∷ 1 ∷ 1 ∷ [];
       columns = 2 ∷ 4 ∷ [];
@@ -76,6 +95,28 @@ impl Group for Seen {
         *out = found;
         Some(value)
     }
+
+    fn judge_alone<A: Assigns>(&self, set: &A) -> Verdict {
+        judge_read_only(set, &identifier(), &COLUMNS)
+    }
+
+    fn judge_rows<A: Assigns, L: Look>(&self, _set: &A, _now: u32, _look: &L) -> Verdict {
+        Verdict::Fine
+    }
+
+    fn prepare<A: Assigns, L: Look>(
+        &mut self,
+        _alloc: Global,
+        _set: &A,
+        _now: u32,
+        _look: &L,
+    ) -> Result<(), Denied> {
+        Ok(())
+    }
+
+    fn commit<A: Assigns>(&mut self, _set: &A, _now: u32) {}
+
+    fn discard(&mut self) {}
 }
 
 fn identifier() -> Oid
