@@ -1,3 +1,4 @@
 mod Steps
 mod Shown
 mod Examples
+mod Sets

@@ -25,7 +25,7 @@ module _ (statistics : Statistics) (settings : Settings) (journal : Journal) (is
   row_shows Index = refl
   row_shows DataSource = sym (row_source settings journal statistics is)
   row_shows (Counts each) = ap (λ sum. counter (sum % 2 ^ 32)) (is.counters each)
-  row_shows Owner = sym (ap (λ set. unwrap_or set (default_of ether_stats 20)) (is.columns 20))
+  row_shows Owner = sym (ap (λ set. unwrap_or set (default_of ether_stats 20)) (is.columns 20 refl))
   row_shows Status = sym (ap (λ state. int (entry_status state)) (is.states (1 ∷ [])))
 
   -- row 1 is the only one

@@ -35,7 +35,7 @@ is_source number = and_true (nat_eq 1 number)
 module _ (settings : Settings) (journal : Journal) (statistics : Statistics) (is : IsRow1 statistics settings journal) where
   -- the data source of row 1 is interface 1
   pub row_source : ether_column journal (1 ∷ []) 2 ≡ name (interface_name 1)
-  row_source = ap (λ set. unwrap_or set (default_of ether_stats 2)) (is.columns 2)
+  row_source = ap (λ set. unwrap_or set (default_of ether_stats 2)) (is.columns 2 refl)
 
   module _ (frame : Frame) where
     of_source : Frame → Bool

@@ -1,8 +1,8 @@
 -- The table etherStats (RFC 1757, section 5), and what it shows after a journal.
-use Rattle.std.specs.Prelude.{ℕ, ℤ, pos, ◌%◌, ◌^◌, List, [], ◌∷◌, Bool, true, false, ◌&&◌, nat_eq, not, if◌then◌else◌, Some, None, codes}
+use Rattle.std.specs.Prelude.{ℕ, ◌%◌, ◌^◌, List, [], ◌∷◌, Bool, true, false, ◌&&◌, nat_eq, not, if◌then◌else◌, Some, None, codes}
 use Rattle.std.specs.List.{sum_by}
 use Rattle.std.specs.Str.{bytes_eq}
-use Rattle.rm_val.specs.Val.{Val, int, octets, null, name, counter}
+use Rattle.rm_val.specs.Val.{Val, int, octets, name, counter}
 use Rattle.rm_model.specs.Settings.{Settings}
 use Rattle.rm_model.specs.Journal.{Frame, Journal, frames_in}
 use Rattle.rm_model.specs.Interfaces.{interface_name, frames_of}
@@ -11,7 +11,7 @@ use Rattle.rm_model.specs.ControlTable.{ControlTable, data_source, text}
 use Rattle.rm_model.specs.ControlRows.{Beginning, is_absent, state_of, value_of, since, index_value, entry_status}
 use Rattle.rm_model.specs.declared.row.StatusKind.TheVariants.{EntryStatus}
 use Rattle.rm_model.specs.declared.row.State.{State}
-use Rattle.rm_model.specs.declared.row.State.TheVariants.{Absent, UnderCreation, Valid}
+use Rattle.rm_model.specs.declared.row.State.TheVariants.{Absent, Valid}
 use Rattle.rm_ether.specs.declared.counter.Counter.{Counter}
 use Rattle.rm_ether.specs.declared.column.Column.{Column}
 use Rattle.rm_ether.specs.declared.column.Column.TheVariants.{Index, DataSource, Counts, Owner, Status}

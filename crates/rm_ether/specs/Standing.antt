@@ -1,11 +1,11 @@
 -- What the group keeps, and when it is what a journal gives.
-use Rattle.std.specs.Prelude.{◌≡◌, ℕ, ◌%◌, ◌^◌, pos, List, [], ◌∷◌, codes}
+use Rattle.std.specs.Prelude.{◌≡◌, ℕ, ◌%◌, ◌^◌, pos, List, [], ◌∷◌, IsTrue, codes}
 use Rattle.rm_val.specs.Val.{Val, int, octets, name, counter}
 use Rattle.rm_model.specs.Settings.{Settings}
 use Rattle.rm_model.specs.Journal.{Journal}
 use Rattle.rm_model.specs.Interfaces.{interface_name}
 use Rattle.rm_model.specs.ControlRows.{set_value}
-use Rattle.rm_model.specs.Cells.{Table}
+use Rattle.rm_model.specs.Cells.{Table, is_one_of}
 use Rattle.rm_ether.specs.declared.counter.Counter.{Counter}
 use Rattle.rm_ether.specs.declared.counter.Counter.TheVariants.{DropEvents, Octets, Pkts, BroadcastPkts, MulticastPkts, CRCAlignErrors, UndersizePkts, OversizePkts, Fragments, Jabbers, Collisions, Pkts64Octets, Pkts65to127Octets, Pkts128to255Octets, Pkts256to511Octets, Pkts512to1023Octets, Pkts1024to1518Octets}
 use Rattle.rm_ether.specs.declared.column.Column.{Column}
@@ -51,8 +51,8 @@ row_table statistics = record {
   value = λ column index. row_value statistics (column_of column);
 }
 
--- Counters are those of row 1 after a journal, by which the rows are as they were before the first act.
+-- Counters are those of row 1 after a journal, by which the rows and their columns are as they were before the first act.
 pub record IsRow1 (statistics : Statistics) (settings : Settings) (journal : Journal) : Type 0 where
   pub states : (index : List ℕ) → ether_state journal index ≡ ether_beginning.state index
-  pub columns : (column : ℕ) → set_value ether_stats ether_beginning journal (1 ∷ []) column ≡ ether_beginning.set (1 ∷ []) column
+  pub columns : (column : ℕ) → IsTrue (is_one_of ether_columns column) → set_value ether_stats ether_beginning journal (1 ∷ []) column ≡ ether_beginning.set (1 ∷ []) column
   pub counters : (each : Counter) → counter_of statistics each ≡ counter_sum settings journal (1 ∷ []) each

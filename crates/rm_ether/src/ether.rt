@@ -1,21 +1,25 @@
 // The group statistics.
-ghost use Rattle.std.specs.Prelude.{◌≡◌, ℕ, ◌+◌, ◌<◌, ◌≤◌, List, [], ◌∷◌};
+ghost use Rattle.std.specs.Prelude.{◌≡◌, ℕ, ◌+◌, ◌<◌, ◌≤◌, List, [], ◌∷◌, None};
 
 use crate::bounds::{MOST_FRAMES, MOST_OCTETS};
 use crate::cell::{ROWS, SOURCE, cell_of, entry};
 use crate::column::COLUMNS;
 use crate::statistics::Statistics;
 use rm_proto::Facts;
-use rm_status::{Group, Objects, is_of_column, next_name};
+use rm_status::{
+    Assigns, Denied, Group, Look, Objects, Verdict, is_of_column, judge_read_only, next_name,
+};
 use rm_val::{Oid, Value};
+use std::alloc::Global;
 
-/// The statistics of interface 1: row 1 of etherStats (RFC 1757, section 5), which is valid from before the first act.
+/// The statistics of interface 1: row 1 of etherStats (RFC 1757, section 5), which is valid from before the first act. The
+/// table isn't writable yet, so that no Set makes, changes or ends a row.
 #[derive(Drop)]
 pub struct Ether {
     statistics: Statistics,
     // How many frames it was given.
     frames: u32,
-    // The moment of the last one, in milliseconds.
+    // The last moment that it was given, in milliseconds.
     last: u32,
     ghost few: { statistics.packets ≤ frames },
 }
@@ -57,15 +61,31 @@ impl Ether {
 }
 
 impl Group for Ether {
-    ghost use Rattle.rm_model.specs.Cells.{cells_of};
+    ghost use Rattle.rm_model.specs.Cells.{cells_of, is_of_column};
+    ghost use Rattle.rm_status.specs.Alone.{AreFineAlone, read_only};
     ghost use Rattle.rm_model.proofs.Finite.{table_finite};
     ghost use Rattle.rm_model.proofs.Rows.{indexes_of, row_listed, one_row_begins};
-    ghost use Rattle.rm_ether.specs.EtherStats.{ether_table, ether_stats, ether_beginning};
-    ghost use Rattle.rm_ether.specs.Group.{Stands};
+    ghost use Rattle.rm_ether.specs.Columns.{ether_columns};
+    ghost use Rattle.rm_ether.specs.EtherStats.{ether_entry, ether_table, ether_stats, ether_beginning};
+    ghost use Rattle.rm_ether.specs.Group.{Stands, last_given};
 
     ghost stands = { Stands };
 
+    ghost clock = { last_given };
+
     ghost cells = { λ settings journal now. cells_of (ether_table settings journal) };
+
+    ghost alone = { read_only (is_of_column ether_entry ether_columns) };
+
+    ghost together = { λ settings journal now readings bindings place. None };
+
+    ghost reserves = { λ settings journal bindings index. ⊥ };
+
+    ghost accepts = { λ s now readings bindings. AreFineAlone (read_only (is_of_column ether_entry ether_columns)) bindings };
+
+    ghost prepared = { λ s now bindings. AreFineAlone (read_only (is_of_column ether_entry ether_columns)) bindings };
+
+    ghost released = { λ s. Unit {0} };
 
     ghost finite = { λ settings journal now.
         table_finite (ether_table settings journal) (indexes_of ether_stats ((1 ∷ []) ∷ []) journal)
@@ -79,6 +99,30 @@ impl Group for Ether {
         *out = next_name(&ROWS, &entry(), &COLUMNS, name, now)?;
         cell_of(&self.statistics, out)
     }
+
+    fn judge_alone<A: Assigns>(&self, set: &A) -> Verdict {
+        judge_read_only(set, &entry(), &COLUMNS)
+    }
+
+    fn judge_rows<A: Assigns, L: Look>(&self, _set: &A, _now: u32, _look: &L) -> Verdict {
+        Verdict::Fine
+    }
+
+    fn prepare<A: Assigns, L: Look>(
+        &mut self,
+        _alloc: Global,
+        _set: &A,
+        _now: u32,
+        _look: &L,
+    ) -> Result<(), Denied> {
+        Ok(())
+    }
+
+    fn commit<A: Assigns>(&mut self, _set: &A, now: u32) {
+        self.last = now;
+    }
+
+    fn discard(&mut self) {}
 }
 
 impl Objects for Ether {
