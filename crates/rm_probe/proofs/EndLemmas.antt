@@ -21,19 +21,6 @@ use Rattle.rm_probe.specs.declared.status.Status.{Status}
 use Rattle.rm_probe.specs.declared.status.Status.TheVariants.{Done, Usage, BadCapture, BadRequests, ReadFault, WriteFault, NoMemory, LinkFault, TooLong}
 use Rattle.rm_probe.proofs.RecordLemmas.{leaves_all, of_told}
 
--- a run whose capture has no fault ends by a failed read alone
-pub writes_fault : (settings : Settings) (frames : List Frame) (stop : Stop) (asked : List TimedDatagram) (old new : Option (List ℕ)) (fault : PcapFault) → IsFaultless stop
-    → ((fault ≡ Read → ⊥) → stop ≡ Broken fault) → (text : List ℕ) × IsText settings frames stop asked text × AddsFront old new text → Writes settings frames stop asked old new (status_of fault)
-writes_fault settings frames stop asked old new Read faultless is front = front
-writes_fault settings frames stop asked old new Magic faultless is front = absurd (subst (λ (s : Stop). IsFaultless s) (is (λ e. cc)) faultless)
-writes_fault settings frames stop asked old new Version faultless is front = absurd (subst (λ (s : Stop). IsFaultless s) (is (λ e. cc)) faultless)
-writes_fault settings frames stop asked old new LinkType faultless is front = absurd (subst (λ (s : Stop). IsFaultless s) (is (λ e. cc)) faultless)
-writes_fault settings frames stop asked old new (Included at) faultless is front = absurd (subst (λ (s : Stop). IsFaultless s) (is (λ e. cc)) faultless)
-writes_fault settings frames stop asked old new (Original at) faultless is front = absurd (subst (λ (s : Stop). IsFaultless s) (is (λ e. cc)) faultless)
-writes_fault settings frames stop asked old new (Late at) faultless is front = absurd (subst (λ (s : Stop). IsFaultless s) (is (λ e. cc)) faultless)
-writes_fault settings frames stop asked old new TooMany faultless is front = absurd (subst (λ (s : Stop). IsFaultless s) (is (λ e. cc)) faultless)
-writes_fault settings frames stop asked old new OutOfMemory faultless is front = absurd (subst (λ (s : Stop). IsFaultless s) (is (λ e. cc)) faultless)
-
 -- words give one pair of names
 pub same_names : (names : Option (List ℕ × List ℕ)) (a b x y : List ℕ) → names ≡ Some (a, b) → names ≡ Some (x, y) → (a ≡ x) × (b ≡ y)
 same_names names a b x y first second =

@@ -156,27 +156,6 @@ passed_found m held held' bytes old looked new probe probe' before frames stop j
     passed_one m held' bytes looked new probe probe' before frames stop journal passed after (same ∙ is) found_so (omega (arith, moment, early))
     (subst (λ (f : Frame). (j : Journal) → Stands probe j → Stands probe' (passes f ∷ j)) (sym shows) counted) q
 
--- one record more was passed
-pub one_more : (held held' : Held) (old looked new : Progress) (found found' : Found) (next : ℕ) → Looks held old looked found → Some next ≡ moment_found found → Passes held' looked new found'
-    → (new.reach.count ≡ old.reach.count + 1) × (new.reach.count ≤ 100000000)
-one_more held held' old looked new found (StopsAt at) next looks next_is found_so =
-    let again : StopsAt at ≡ found = found_so.finds.again found (ap (λ (q : Progress). q.ahead) looks.place) in
-    absurd (let e : Some next ≡ None = next_is ∙ ap moment_found (sym again) in cc)
-one_more held held' old looked new found (Whole passed after) next looks next_is found_so =
-    let one : new.reach.count ≡ looked.reach.count + 1 = ap (λ (q : Progress). q.reach.count) found_so.place ∙ found_so.finds.lawful.count ∙ found_so.finds.lawful.number in
-    let few : new.reach.count ≤ 100000000 = omega (arith, ap (λ (q : Progress). q.reach.count) found_so.place, found_so.finds.lawful.count, found_so.finds.lawful.few) in
-    (one ∙ ap (λ (q : Progress). q.reach.count + 1) looks.place, few)
-
--- what a look found to be a frame is passed as one
-pub passed_so : (held held' : Held) (old looked new : Progress) (found found' : Found) (next : ℕ) (step : Step) → Looks held old looked found → Some next ≡ moment_found found
-    → Passes held' looked new found' → Shows step found' → (lent : Lent) × (step ≡ Next lent)
-passed_so held held' old looked new found (StopsAt at) next step looks next_is found_so shows =
-    let again : StopsAt at ≡ found = found_so.finds.again found (ap (λ (q : Progress). q.ahead) looks.place) in
-    absurd (let e : Some next ≡ None = next_is ∙ ap moment_found (sym again) in cc)
-passed_so held held' old looked new found (Whole passed after) next (Next frame) looks next_is found_so shows = (frame, refl)
-passed_so held held' old looked new found (Whole passed after) next End looks next_is found_so shows = absurd shows
-passed_so held held' old looked new found (Whole passed after) next (Cut at) looks next_is found_so shows = absurd shows
-
 -- a fault other than of a read is how the records stop
 pub broken : (held : Held) (bytes : List ℕ) (progress : Progress) (left : List Frame) (stop : Stop) (fault : PcapFault) → (fault ≡ Read → ⊥) → held ≡ File bytes
     → IsBroken held progress.form progress.lead progress.reach fault → Leaves progress bytes left stop → stop ≡ Broken fault
@@ -208,16 +187,6 @@ keeps_looking held moment probe old new found looks keeps =
     next_found (StopsAt at) ahead is again lawful before = tt
     next_found (Whole frame after) None is again lawful before = omega (arith, before, lawful.moment)
     next_found (Whole frame after) (Some was) is again lawful before = subst (λ (f : Found). IsNotBefore moment old.reach (Some f)) (sym (again was (sym is))) before
-
--- the frame that stands next is later than a moment, or there is none
-pub keeps_halting : (held : Held) (moment : ℕ) (probe : Probe) (old new : Progress) (found : Found) → Looks held old new found → IsLater moment found → last_given probe ≤ moment
-    → Keeps (last_given probe) probe old → Keeps moment probe new
-keeps_halting held moment probe old new found looks later early keeps =
-    subst (λ (p : Progress). Keeps moment probe p) (sym looks.place) (record { last = early; next = next_found found later; count = keeps.count })
-  where
-    next_found : (found : Found) → IsLater moment found → IsNotBefore moment old.reach (Some found)
-    next_found (Whole frame after) later = omega (arith, later)
-    next_found (StopsAt at) later = tt
 
 -- the frame that stands next may pass
 pub record MayPass (probe : Probe) (frame : Lent) (new : Progress) (now : ℕ) : Type 0 where
@@ -253,11 +222,6 @@ may_pass held held' probe now old looked new found found' next frame looks next_
 pub keeps_begun : (probe : Probe) (progress : Progress) → last_given probe ≡ 0 → Keeps 0 probe progress → Keeps (last_given probe) probe progress
 keeps_begun probe progress first keeps = subst (λ (m : ℕ). Keeps m probe progress) (sym first) keeps
 
--- a moment was given, up to which all frames passed
-pub keeps_given : (moment : ℕ) (probe probe' : Probe) (progress : Progress) → last_given probe' ≡ moment → frames_given probe' ≡ frames_given probe → Keeps moment probe progress → Keeps (last_given probe') probe' progress
-keeps_given moment probe probe' progress last frames keeps =
-    subst (λ (m : ℕ). Keeps m probe' progress) (sym last) (record { last = omega (arith, last); next = keeps.next; count = frames ∙ keeps.count })
-
 -- a capture whose frames pass up to a moment
 pub record Advancing {F N : Type 0} (held : F → List ℕ → Held) (faults : F → List ℕ → ℕ) (first now : F) (name : List ℕ) (since : N → N → List Note → Type 0) (notes notes' : N) (moment : ℕ) (old progress : Progress) (probe probe' : Probe) : Type 0 where
   pub same : (each : List ℕ) → held now each ≡ held first each
@@ -268,32 +232,6 @@ pub record Advancing {F N : Type 0} (held : F → List ℕ → Held) (faults : F
   pub keeps : Keeps (last_given probe') probe' progress
   pub passed : (bytes : List ℕ) → held first name ≡ File bytes → (frames : List Frame) (stop : Stop) (journal : Journal) → Leaves old bytes frames stop → Stands probe journal
       → Passed moment bytes progress probe' old.reach.count frames stop journal
-
--- a fault other than of a read, by what advancing answered
-pub advanced_so : (m : ℕ) (bytes : List ℕ) (old new : Progress) (probe probe' : Probe) (fault : PcapFault) → Advances {T = Unit {0}} m bytes old new probe probe' (Err fault) → (fault ≡ Read → ⊥)
-    → (frames : List Frame) (stop : Stop) (journal : Journal) → Leaves old bytes frames stop → Stands probe journal → stop ≡ Broken fault
-advanced_so m bytes old new probe probe' Read h other = absurd (other refl)
-advanced_so m bytes old new probe probe' Magic h other = h
-advanced_so m bytes old new probe probe' Version h other = h
-advanced_so m bytes old new probe probe' LinkType h other = h
-advanced_so m bytes old new probe probe' (Included at) h other = h
-advanced_so m bytes old new probe probe' (Original at) h other = h
-advanced_so m bytes old new probe probe' (Late at) h other = h
-advanced_so m bytes old new probe probe' TooMany h other = h
-advanced_so m bytes old new probe probe' NoMemory h other = h
-
--- the same, by what finishing answered
-pub finished_so : (bytes : List ℕ) (progress : Progress) (probe : Probe) (requests : ℕ) (line : List ℕ) (fault : PcapFault) → Finishes {T = Unit {0}} bytes progress probe requests line (Err fault) → (fault ≡ Read → ⊥)
-    → (frames : List Frame) (stop : Stop) (journal : Journal) → Leaves progress bytes frames stop → Stands probe journal → stop ≡ Broken fault
-finished_so bytes progress probe requests line Read h other = absurd (other refl)
-finished_so bytes progress probe requests line Magic h other = h
-finished_so bytes progress probe requests line Version h other = h
-finished_so bytes progress probe requests line LinkType h other = h
-finished_so bytes progress probe requests line (Included at) h other = h
-finished_so bytes progress probe requests line (Original at) h other = h
-finished_so bytes progress probe requests line (Late at) h other = h
-finished_so bytes progress probe requests line TooMany h other = h
-finished_so bytes progress probe requests line NoMemory h other = h
 
 -- all frames have passed, and the step says how the records stop
 pub finish_last : (held' : Held) (bytes : List ℕ) (old looked new : Progress) (probe probe' : Probe) (requests taken : ℕ) (line : List ℕ) (step : Step) (found : Found) (at : Stop)

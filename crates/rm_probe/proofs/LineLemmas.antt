@@ -49,12 +49,3 @@ none_stands p xs none k d lt =
 pub lines_last : (bytes : List ℕ) → position is_newline bytes ≡ None → 0 < length bytes → lines bytes ≡ bytes ∷ []
 lines_last bytes none some =
     ap lines_of_parts (slice_split_none is_newline bytes (none_stands is_newline bytes none)) ∙ last_part bytes some
-
--- one more digit
-pub digit_more : (value i : ℕ) (digits : List ℕ) → i < length digits → is_digit (get_or digits i 0) ≡ true
-    → number_of value (drop i digits) ≡ number_of (10 * value + (get_or digits i 0 - 48)) (drop (i + 1) digits)
-digit_more value i digits lt digit = rw (add-one, drop-cons digits i 0) (rw digit refl)
-
-pub digit_not : (value i : ℕ) (digits : List ℕ) → i < length digits → is_digit (get_or digits i 0) ≡ false
-    → number_of value (drop i digits) ≡ None
-digit_not value i digits lt digit = rw (drop-cons digits i 0) (rw digit refl)

@@ -58,12 +58,14 @@ noted_more old mid new before between after failed failed' failed'' notes note (
   front = (length (trap_lines notes ++ trap_line note), rw (one_line_more notes note, take-length (trap_lines notes ++ trap_line note)) (adds_then old mid new (trap_lines notes) (trap_line note) (noted.whole put.first) put.octets));
   later = omega (arith, noted.later, put.later);
   cause = λ e. absurd (let f = sym e ∙ put.failed_now in cc);
+  stays = λ e. absurd (let f = sym (noted.stays e).0 ∙ put.first in cc);
 }
 noted_more old mid new before between after failed true failed'' notes note (Err fault) noted put = record {
   whole = λ e. absurd (let f = sym e ∙ put.failed_now in cc);
   front = rw (one_line_more notes note, put.stays refl) (front_more old mid (trap_lines notes) (trap_line note) noted.front);
   later = omega (arith, noted.later, put.later);
   cause = λ e. risen (noted.cause refl);
+  stays = λ e. (put.failed_now, put.stays refl ∙ (noted.stays e).1);
 }
   where
     risen : (failed ≡ true) ⊎ Rose before between → (failed ≡ true) ⊎ Rose before after
@@ -80,6 +82,7 @@ noted_more old mid new before between after failed false failed'' notes note (Er
       );
       later = omega (arith, noted.later, put.later);
       cause = λ e. risen put.cause;
+      stays = λ e. absurd (let f = sym (noted.stays e).0 in cc);
     }
   where
     risen : (false ≡ true) ⊎ Rose between after → (failed ≡ true) ⊎ Rose before after

@@ -40,16 +40,3 @@ pub next_is : (bytes : List ℕ) (old new : Progress) (settings : Settings) (pro
 next_is bytes old new settings probe probe' number request frames stop journal line advanced same answers =
     let (after, answer, stands) = answers (after_frames (take_while (is_by request.moment) frames) journal) advanced.stands in
     record { left = advanced.left; count = advanced.count; after = after; answer = subst (λ (s : Settings). IsAnswer s (after_frames (take_while (is_by request.moment) frames) journal) number request line after) same answer; stands = stands }
-
--- a fault of the capture
-pub writes_no_line : (IsNext : List ℕ → Type 0) (stop : Stop) (content content' : Option (List ℕ)) (fault : PcapFault) → AddsFront content content' [] → ((fault ≡ Read → ⊥) → stop ≡ Broken fault)
-    → WritesLine {T = Unit {0}} IsNext stop content content' (Err (status_of fault))
-writes_no_line IsNext stop content content' Read front is = front
-writes_no_line IsNext stop content content' Magic front is = (Magic, is (λ e. cc), refl)
-writes_no_line IsNext stop content content' Version front is = (Version, is (λ e. cc), refl)
-writes_no_line IsNext stop content content' LinkType front is = (LinkType, is (λ e. cc), refl)
-writes_no_line IsNext stop content content' (Included at) front is = (Included at, is (λ e. cc), refl)
-writes_no_line IsNext stop content content' (Original at) front is = (Original at, is (λ e. cc), refl)
-writes_no_line IsNext stop content content' (Late at) front is = (Late at, is (λ e. cc), refl)
-writes_no_line IsNext stop content content' TooMany front is = (TooMany, is (λ e. cc), refl)
-writes_no_line IsNext stop content content' OutOfMemory front is = (OutOfMemory, is (λ e. cc), refl)

@@ -1,6 +1,6 @@
 -- Notifications, and the lines that are written for them.
 use Rattle.std.specs.Prelude.{◌≡◌, ◌⊎◌, ◌≤◌, ℕ, Bool, true, false, List, [], ◌++◌, flat_map, decimal, codes, Option, Some, None}
-use Rattle.std.proofs.Common.{inl, sym, ap, arith}
+use Rattle.std.proofs.Common.{inl, refl, sym, ap, arith}
 use Rattle.std.proofs.lemmas.List.{append-nil}
 use Rattle.hex.specs.Hex.{encode_lower}
 use Rattle.rm_edge.specs.Outside.{Adds, AddsFront, Rose}
@@ -19,12 +19,14 @@ abbrev pub trap_lines : List Note → List ℕ
 trap_lines notes = flat_map trap_line notes
 
 -- What notifications did to a sink, by the octets put before and after, the counts of failed puts, and whether a put had
--- failed: their lines were added, or a front of these where a put failed.
+-- failed: their lines were added, or a front of these where a put failed. Nothing
+-- is added once a put has failed.
 pub record HasNoted (old new : Option (List ℕ)) (faults faults' : ℕ) (failed failed' : Bool) (notes : List Note) : Type 0 where
   pub whole : failed' ≡ false → Adds old new (trap_lines notes)
   pub front : AddsFront old new (trap_lines notes)
   pub later : faults ≤ faults'
   pub cause : failed' ≡ true → (failed ≡ true) ⊎ Rose faults faults'
+  pub stays : failed ≡ true → (failed' ≡ true) × (new ≡ old)
 
 -- no octets are added where none are
 pub adds_none : (o : Option (List ℕ)) → Adds o o []
@@ -38,4 +40,5 @@ nothing_noted content faults failed = record {
   front = (0, adds_none content);
   later = omega arith;
   cause = λ e. inl e;
+  stays = λ e. (e, refl);
 }

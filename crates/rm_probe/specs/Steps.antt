@@ -47,7 +47,7 @@ IsNotBefore moment reach None = moment ≤ reach.last
 IsNotBefore moment reach (Some (Whole frame after)) = moment ≤ frame.moment
 IsNotBefore moment reach (Some (Stops stop)) = ⊤
 
--- The probe was given all frames that were passed, and nothing later than a moment, before which no frame is left.
+-- The probe was given as many frames as were passed, and nothing later than a moment, before which no frame is left.
 pub record Keeps (moment : ℕ) (probe : Probe) (progress : Progress) : Type 0 where
   pub last : last_given probe ≤ moment
   pub next : IsNotBefore moment progress.reach progress.ahead

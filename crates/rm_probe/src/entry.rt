@@ -153,7 +153,7 @@ pub fn replay<F: Shelf, K: Sink>(
     replay_judged(alloc, settings, lead, capture, requests, shelf, out)
 }
 
-// The same, without the clauses that follow.
+// Replays as `replay` does. That each status comes where the files call for it follows from these clauses.
 fn replay_judged<F: Shelf, K: Sink>(
     alloc: Global,
     settings: Settings,

@@ -1,4 +1,5 @@
-//! Replays a capture and answers the datagrams of a request file.
+//! A probe, to which frames and datagrams come one by one, and the run that replays a capture and answers the datagrams
+//! of a request file.
 #![tactic(auto)]
 
 mod capture;

@@ -57,7 +57,7 @@ fn read_datagram(digits: &[u8], into: &mut [u8]) -> Option<usize>
     ensures { MatchOption result (datagram_of digits.now ≡ None)
         (λ count. (count ≤ 65535) × (datagram_of digits.now ≡ Some (take count into.new))) }
 {
-    if digits.len() > 131_070 || digits.len() % 2 != 0 {
+    if digits.len() > 2 * MOST_DATAGRAM || digits.len() % 2 != 0 {
         return None;
     }
     let count = digits.len() / 2;

@@ -29,7 +29,7 @@ impl<'a, K: Sink> Output<'a, K> {
     }
 
     /// Puts a line. Failed comes where this put fails, or one failed before; a front of the line may then have been put.
-    pub fn put(&mut self, line: &Line) -> Result<(), Failed>
+    pub(crate) fn put(&mut self, line: &Line) -> Result<(), Failed>
         ensures same_reference { self.new.sink.ghost_name ≡ self.old.sink.ghost_name }
         ensures octets { Puts (K.content self.old.sink.now) (K.content self.new.sink.now) line.now.items result }
         ensures later { K.faults self.old.sink.now ≤ K.faults self.new.sink.now }

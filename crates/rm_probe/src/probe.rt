@@ -36,7 +36,7 @@ impl Probe {
 
     /// Counts a frame. Its moment, in milliseconds, isn't below the last one given, it had at most 262,144 octets and was
     /// captured with no more than it had, and fewer than 400,000,000 frames were given before. No notification comes yet.
-    pub fn frame<N: Notes>(&mut self, frame: &Frame<'_>, _notes: &mut N)
+    pub fn frame<N: Notes>(&mut self, frame: &Frame<'_>, notes: &mut N)
         requires later { last_given self.old ≤ frame.now.moment }
         requires captured { length frame.now.bytes.now ≤ frame.now.original }
         requires original { frame.now.original ≤ 262144 }
@@ -45,8 +45,10 @@ impl Probe {
         ensures settings { settings_of self.new ≡ settings_of self.old }
         ensures last { last_given self.new ≡ frame.now.moment }
         ensures frames { frames_given self.new ≡ frames_given self.old + 1 }
-        ensures noted { (start : N) (sent : List Note) → N.since start _notes.old sent → N.since start _notes.new sent }
+        ensures noted { (start : N) (sent : List Note) → N.since start notes.old sent → N.since start notes.new sent }
     {
+        // No notification comes yet.
+        let _ = notes;
         self.agent.frame(frame);
     }
 
@@ -58,7 +60,7 @@ impl Probe {
         bytes: &[u8],
         moment: u32,
         out: &mut [u8; MOST_REPLY],
-        _notes: &mut N,
+        notes: &mut N,
     ) -> Answer
         requires { last_given self.old ≤ moment }
         ensures answered { (journal : Journal) → Stands self.old journal → (after : Journal)
@@ -67,8 +69,10 @@ impl Probe {
         ensures settings { settings_of self.new ≡ settings_of self.old }
         ensures last { last_given self.new ≡ moment }
         ensures frames { frames_given self.new ≡ frames_given self.old }
-        ensures noted { (start : N) (sent : List Note) → N.since start _notes.old sent → N.since start _notes.new sent }
+        ensures noted { (start : N) (sent : List Note) → N.since start notes.old sent → N.since start notes.new sent }
     {
+        // No notification comes yet.
+        let _ = notes;
         self.agent.answer(alloc, bytes, moment, out)
     }
 }

@@ -33,11 +33,11 @@ pub trait Group {
     /// The group's cells after a journal, at a moment in milliseconds, by what the probe was set to.
     ghost cells: { Settings → Journal → ℕ → Cells };
 
-    /// What is wrong with a binding alone. Nothing where its name is none of the group's.
+    /// What is wrong with a binding alone.
     ghost alone: { List ℕ → Val → Option Fault };
 
     /// What is wrong with the binding at a place together with the others of its row, after a journal, at a moment in
-    /// milliseconds and by what is read then. Nothing where its name is none of the group's.
+    /// milliseconds and by what is read then.
     ghost together: { Settings → Journal → ℕ → Readings → Bindings → ℕ → Option Fault };
 
     /// After a journal there may be no memory for the row that the binding with that number, from 1, makes valid.
@@ -82,7 +82,7 @@ pub trait Group {
             → IsFirstFault (length b) (together settings journal now (L.readings look.now now) b) result };
 
     /// Makes ready for a Set at a moment in milliseconds, with which both passes found nothing wrong. Denied where there is
-    /// no memory for a row that the Set makes valid; the group then holds nothing for the Set. No variable changes.
+    /// no memory for a row that the Set makes valid; a group that held nothing then holds nothing. No variable changes.
     fn prepare<A: Assigns, L: Look>(
         &mut self,
         alloc: Global,

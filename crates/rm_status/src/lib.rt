@@ -1,4 +1,4 @@
-//! What a group of objects does for GetNext and Get, the search for the next cell of a table, and the rows of control
+//! What a group of objects does for Get, GetNext and Set, the search for the next cell of a table, and the rows of control
 //! tables: how a Set is judged on them, and what it makes of them.
 #![tactic(auto)]
 

@@ -29,3 +29,16 @@ fn nothing_is_put_after_a_failure(rt: HostRuntime) -> Result<(), Fail> {
     assert_eq!(rt; str::from_utf8(sink.bytes())?, "300");
     Ok(())
 }
+
+// The longest line of a notification.
+#[test]
+fn the_longest_notification_is_a_line(rt: HostRuntime) -> Result<(), Fail> {
+    let mut sink = sink_of(rt.alloc(), 4096)?;
+    let mut output = Output::new(&mut sink);
+    output.note(4_294_967_295, &[0xab; 1472]);
+    let line = sink.bytes();
+    assert_eq!(rt; line.len(), 2961);
+    assert!(rt; line.starts_with(b"4294967295 trap abab"));
+    assert!(rt; line.ends_with(b"abab\n"));
+    Ok(())
+}

@@ -9,7 +9,7 @@ use super::{
 };
 use crate::{Output, Probe, Status, replay};
 use arrayvec::ArrayVec;
-use rm_agent::{Answer, Settings};
+use rm_agent::{Answer, MOST_REPLY, Settings};
 use rm_edge::MemSink;
 use rm_pcap::Frame;
 use std::alloc::Global;
@@ -174,7 +174,7 @@ fn said(
     ensures last { last_given probe.new ≡ moment }
     ensures frames { frames_given probe.new ≡ frames_given probe.old }
 {
-    let mut out = [0; 1472];
+    let mut out = [0; MOST_REPLY];
     Ok(
         match probe.datagram(alloc, datagram, moment, &mut out, output) {
             Answer::Reply(count) => hex::encode(alloc, &out[..count])?,
