@@ -80,15 +80,6 @@ pub record Repeats (IsOne : List ℕ → Binding → Type 0) (most : ℕ) (names
   pub on : (rest : List Binding) → AreRepetitions IsOne left last rest → AreRepetitions IsOne most names (answers ++ rest)
   pub back : (rest : List Binding) → AreRepetitions IsOne most names (answers ++ rest) → AreRepetitions IsOne left last rest
 
-pub repeat_begins : (IsOne : List ℕ → Binding → Type 0) (most left : ℕ) (names : List (List ℕ)) (m : Message) (list : List Binding) (draft : Drafted) → left ≡ most → IsDrafted m list draft
-    → Repeats IsOne most names m list left names draft
-repeat_begins IsOne most left names m list draft all drafted_so = record {
-  answers = [];
-  is_drafted = subst (λ (bs : List Binding). IsDrafted m bs draft) (sym (append-nil list)) drafted_so;
-  on = λ rest are. subst (λ (n : ℕ). AreRepetitions IsOne n names rest) all are;
-  back = λ rest are. subst (λ (n : ℕ). AreRepetitions IsOne n names rest) (sym all) are;
-}
-
 -- what follows the answers of a repetition
 abbrev pub Goes : (List ℕ → Binding → Type 0) → ℕ → List Binding → List Binding → Type 0
 Goes IsOne left answers rest = (are_end answers ≡ true → rest ≡ []) × (are_end answers ≡ false → AreRepetitions IsOne left (names_of answers) rest)

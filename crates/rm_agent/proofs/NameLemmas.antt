@@ -30,9 +30,6 @@ slice_range-more l from place x order at =
     let back : from + (place - from) ≡ place = omega arith in
     ap (λ n. take n (drop from l)) e ∙ take_more (drop from l) (place - from) x (slice_get-drop l from (place - from) ∙ ap (slice_get l) back ∙ at)
 
-pub slice_range-none : {X : Type 0} (l : List X) (from : ℕ) → [] ≡ slice_range l from from
-slice_range-none l from = let e : from - from ≡ 0 = omega arith in sym (ap (λ n. take n (drop from l)) e)
-
 -- one name more
 pub names_more : (bindings : List Binding) (names : List (List ℕ)) (from place : ℕ) (name : List ℕ) → from ≤ place → place < length bindings
     → IfSome (slice_get bindings place) (λ (b : Binding). name ≡ b.name) → names ≡ slice_range (names_of bindings) from place

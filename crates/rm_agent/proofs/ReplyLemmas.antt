@@ -13,18 +13,6 @@ use Rattle.rm_agent.proofs.BulkLemmas.{HasOne, Lengthens, front_on, front_back, 
 pub begun : (m : Message) (draft : Drafted) → draft ≡ drafted (carrying m []) → size_with m [] ≤ 1472 → IsDrafted m [] draft
 begun m draft is short = record { is = is; short = short }
 
--- all answers fit
-pub whole_puts : (IsOne : List ℕ → Binding → Type 0) (names : List (List ℕ)) (m : Message) (row : Row) (draft : Drafted) → names ≡ names_of m.bindings → Puts IsOne names m [] row draft
-    → DraftsOne (IsWholeReply IsOne m) draft
-whole_puts IsOne names m row draft all puts =
-    (carrying m puts.answers, inl (puts.answers, subst (λ (ns : List (List ℕ)). AreAnswers IsOne ns puts.answers) all puts.are, puts.is_drafted.short, refl), puts.is_drafted.is)
-
--- they don't
-pub whole_stops : (IsOne : List ℕ → Binding → Type 0) → Lengthens → (names : List (List ℕ)) (m : Message) (draft new : Drafted) → names ≡ names_of m.bindings → Stops IsOne names m [] draft
-    → new ≡ drafted (too_big m) → DraftsOne (IsWholeReply IsOne m) new
-whole_stops IsOne lengthen names m draft new all stops is =
-    (too_big m, inr (stops.answers ++ stops.next ∷ [], subst (λ (ns : List (List ℕ)). AreFirst IsOne ns (stops.answers ++ stops.next ∷ [])) all stops.first, stops.long, refl), is)
-
 -- a front of a list of which some names are repeated
 abbrev pub Front : (List ℕ → Binding → Type 0) → List (List ℕ) → List (List ℕ) → ℕ → List Binding → Type 0
 Front IsOne names repeated most list = IsFront IsOne names (λ answers rest. AreRepetitions IsOne most repeated rest) list

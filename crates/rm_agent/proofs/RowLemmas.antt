@@ -20,17 +20,6 @@ pub record IsSoFar (IsOne : List ℕ → Binding → Type 0) (names : List (List
   pub row_names : row.names ≡ names_of answers
   pub row_end : row.is_end ≡ are_end answers
 
-pub row_begins : (IsOne : List ℕ → Binding → Type 0) (names : List (List ℕ)) (m : Message) (list : List Binding) (row : Row) (draft : Drafted) → row.names ≡ [] → row.is_end ≡ true
-    → IsDrafted m list draft → IsSoFar IsOne names m list 0 row draft
-row_begins IsOne names m list row draft empty end drafted_so = record {
-  answers = [];
-  first = tt;
-  count = refl;
-  is_drafted = subst (λ (bs : List Binding). IsDrafted m bs draft) (sym (append-nil list)) drafted_so;
-  row_names = empty;
-  row_end = end;
-}
-
 first_more : (IsOne : List ℕ → Binding → Type 0) (names : List (List ℕ)) (answers : List Binding) (name : List ℕ) (b : Binding) → AreFirst IsOne names answers
     → slice_get names (length answers) ≡ Some name → IsOne name b → AreFirst IsOne names (answers ++ b ∷ [])
 first_more IsOne [] answers name b first at one = absurd cc
@@ -73,17 +62,6 @@ row_stops IsOne names m list place row draft new name b so_far at one same long 
   first = first_at IsOne names so_far.answers place name b so_far.first so_far.count at one;
   is_drafted = record { is = same ∙ so_far.is_drafted.is; short = so_far.is_drafted.short };
   long = long;
-}
-
--- all answers came in
-pub row_ends : (IsOne : List ℕ → Binding → Type 0) (names : List (List ℕ)) (m : Message) (list : List Binding) (place : ℕ) (row : Row) (draft : Drafted)
-    → IsSoFar IsOne names m list place row draft → place ≡ length names → Puts IsOne names m list row draft
-row_ends IsOne names m list place row draft so_far all = record {
-  answers = so_far.answers;
-  are = record { first = so_far.first; all = so_far.count ∙ all };
-  is_drafted = so_far.is_drafted;
-  row_names = so_far.row_names;
-  row_end = so_far.row_end;
 }
 
 -- a binding that didn't come in makes the message too long

@@ -6,7 +6,7 @@ use crate::answer::{Answer, Reason};
 use crate::reply::reply;
 use crate::request::Request;
 use crate::settings::Settings;
-use rm_ether::Ether;
+use rm_ether::{Ether, MOST_FRAMES};
 use rm_pcap::Frame;
 use rm_pdu::{Bindings, read_message};
 use rm_proto::facts;
@@ -53,12 +53,12 @@ impl Agent {
     }
 
     /// Counts a frame. Its moment isn't below the last one given, it had at most 262,144 octets and was captured with no more
-    /// than it had, and fewer than 400,000,000 frames were given before.
+    /// than it had, and fewer than `MOST_FRAMES` frames were given before.
     pub fn frame(&mut self, frame: &Frame<'_>)
         requires later { last_given self.old ≤ frame.now.moment }
         requires captured { length frame.now.bytes.now ≤ frame.now.original }
         requires original { frame.now.original ≤ 262144 }
-        requires room { frames_given self.old < 400000000 }
+        requires room { frames_given self.old < MOST_FRAMES }
         ensures stands { (journal : Journal) → Stands self.old journal → Stands self.new (passes (frame_of frame.now) ∷ journal) }
         ensures settings { settings_of self.new ≡ settings_of self.old }
         ensures last { last_given self.new ≡ frame.now.moment }

@@ -16,4 +16,5 @@ mod tests;
 pub use agent::{Agent, MOST_REPLY};
 pub use answer::{Answer, Reason};
 pub use laws::{every_reply, one_reply};
+pub use rm_ether::MOST_FRAMES;
 pub use settings::Settings;

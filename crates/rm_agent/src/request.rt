@@ -2,6 +2,7 @@
 ghost use Rattle.std.specs.Prelude.{◌≡◌, ◌≤◌, ◌<◌, ◌↔◌, IsTrue, ℕ, List, [], length, All, slice_range};
 ghost use Rattle.rm_agent.specs.Replies.{counting};
 
+use crate::agent::MOST_REPLY;
 use crate::names::Names;
 use rm_pdu::{Bindings, Draft, Kind, Message};
 use rm_val::ErrorStatus;
@@ -43,7 +44,7 @@ impl Request<'_> {
     pub fn begin(&self, status: ErrorStatus) -> Draft
         requires { (m : Whole) × IsAsked self.now m }
         ensures response { (m : Whole) → IsAsked self.now m → result ≡ drafted (response_to m status []) }
-        ensures fits { (m : Whole) → IsAsked self.now m → length (message_octets (response_to m status [])) ≤ 1472 }
+        ensures fits { (m : Whole) → IsAsked self.now m → length (message_octets (response_to m status [])) ≤ MOST_REPLY }
     {
         let message = &self.message;
         Draft::new(

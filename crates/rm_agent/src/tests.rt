@@ -2,7 +2,7 @@
 ghost use Rattle.std.specs.Prelude.{◌≤◌, length, IfOk};
 ghost use Rattle.rm_agent.specs.Agent.{last_given};
 
-use crate::{Agent, Answer, Settings};
+use crate::{Agent, Answer, MOST_REPLY, Settings};
 use arrayvec::ArrayVec;
 use rm_pcap::Frame;
 use std::alloc::Global;
@@ -83,7 +83,7 @@ fn agent_with(alloc: Global, settings: Settings) -> Result<Agent, Fail>
 fn said_by(mut agent: Agent, alloc: Global, datagram: &[u8]) -> Result<String, Fail>
     requires { last_given agent ≤ 2000 }
 {
-    let mut out = [0; 1472];
+    let mut out = [0; MOST_REPLY];
     Ok(match agent.answer(alloc, datagram, 2000, &mut out) {
         Answer::Reply(count) => hex::encode(alloc, &out[..count])?,
         Answer::Drop(reason) => format!(in alloc; "{reason:?}")?,

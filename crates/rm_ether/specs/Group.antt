@@ -9,7 +9,7 @@ use Rattle.rm_ether.specs.Standing.{IsRow1}
 abbrev pub frames_given : Ether → ℕ
 frames_given ether = ether.frames
 
--- the moment that it was given last, 0 before the first
+-- the moment of the frame that it was given last, 0 before the first
 abbrev pub last_given : Ether → ℕ
 last_given ether = ether.last
 
@@ -19,7 +19,7 @@ newest_moment [] = 0
 newest_moment (frame ∷ earlier) = frame.moment
 
 -- The group stands for a journal: it keeps the counters that the journal gives, and no frame of the journal is later
--- than the moment that it was given last.
+-- than the one that it was given last.
 pub record Stands (ether : Ether) (settings : Settings) (journal : Journal) : Type 0 where
   pub row : IsRow1 ether.statistics settings journal
   pub last : newest_moment (frames_in journal) ≤ ether.last

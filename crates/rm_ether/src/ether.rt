@@ -19,7 +19,7 @@ pub struct Ether {
     statistics: Statistics,
     // How many frames it was given.
     frames: u32,
-    // The last moment that it was given, in milliseconds.
+    // The moment of the last frame, in milliseconds.
     last: u32,
     ghost few: { statistics.packets ≤ frames },
 }
@@ -118,9 +118,7 @@ impl Group for Ether {
         Ok(())
     }
 
-    fn commit<A: Assigns>(&mut self, _set: &A, now: u32) {
-        self.last = now;
-    }
+    fn commit<A: Assigns>(&mut self, _set: &A, _now: u32) {}
 
     fn discard(&mut self) {}
 }

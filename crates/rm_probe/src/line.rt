@@ -39,7 +39,7 @@ fn push_number(line: &mut Line, number: u64)
 
 fn push_hex(line: &mut Line, bytes: &[u8])
     requires room { length line.old.items + 2944 ≤ 3072 }
-    requires short { length bytes.now ≤ 1472 }
+    requires short { length bytes.now ≤ MOST_REPLY }
     ensures text { line.new.items ≡ line.old.items ++ encode_lower bytes.now }
     ensures short { length line.new.items ≤ length line.old.items + 2944 }
 {
@@ -88,7 +88,7 @@ fn push_answer(line: &mut Line, answer: Answer, out: &[u8; MOST_REPLY])
 /// Writes the line of a notification into an empty line.
 pub fn trap_line(moment: u32, message: &[u8], line: &mut Line)
     requires empty { line.old.items ≡ [] }
-    requires short { length message.now ≤ 1472 }
+    requires short { length message.now ≤ MOST_REPLY }
     ensures { line.new.items ≡ trap_line (record { moment = moment; message = message.now }) }
 {
     push_number(line, u64::from(moment));

@@ -2,6 +2,8 @@
 ghost use Rattle.std.specs.Prelude.{◌≡◌, ◌≤◌, List, [], ◌∷◌, ◌++◌, length};
 ghost use Rattle.rm_probe.specs.Notes.{Note};
 
+use rm_agent::MOST_REPLY;
+
 /// Where the notifications of a probe go (RFC 1905, section 4.2.6).
 pub trait Notes {
     /// Since an earlier state these notifications came, in this order.
@@ -9,7 +11,7 @@ pub trait Notes {
 
     /// Takes a notification: its moment in milliseconds, and the octets of its message, at most 1472.
     fn note(&mut self, moment: u32, message: &[u8])
-        requires short { length message.now ≤ 1472 }
+        requires short { length message.now ≤ MOST_REPLY }
         ensures noted { (start : Self) (notes : List Note) → since start self.old notes
             → since start self.new (notes ++ (record { moment = moment; message = message.now }) ∷ []) };
 

@@ -5,7 +5,7 @@ ghost use Rattle.rm_agent.specs.Answers.{IsShort};
 ghost use Rattle.rm_probe.specs.Notes.{Note};
 
 use crate::notes::Notes;
-use rm_agent::{Agent, Answer, MOST_REPLY, Settings};
+use rm_agent::{Agent, Answer, MOST_FRAMES, MOST_REPLY, Settings};
 use rm_pcap::Frame;
 use rm_val::NoMemory;
 use std::alloc::Global;
@@ -35,12 +35,12 @@ impl Probe {
     }
 
     /// Counts a frame. Its moment, in milliseconds, isn't below the last one given, it had at most 262,144 octets and was
-    /// captured with no more than it had, and fewer than 400,000,000 frames were given before. No notification comes yet.
+    /// captured with no more than it had, and fewer than `MOST_FRAMES` frames were given before. No notification comes yet.
     pub fn frame<N: Notes>(&mut self, frame: &Frame<'_>, notes: &mut N)
         requires later { last_given self.old ≤ frame.now.moment }
         requires captured { length frame.now.bytes.now ≤ frame.now.original }
         requires original { frame.now.original ≤ 262144 }
-        requires room { frames_given self.old < 400000000 }
+        requires room { frames_given self.old < MOST_FRAMES }
         ensures stands { (journal : Journal) → Stands self.old journal → Stands self.new (passes (frame_of frame.now) ∷ journal) }
         ensures settings { settings_of self.new ≡ settings_of self.old }
         ensures last { last_given self.new ≡ frame.now.moment }

@@ -1,6 +1,5 @@
 -- Loops that write each element of a list.
-use Rattle.std.proofs.Common.{◌≡◌, ℕ, ◌<◌, ◌≤◌, ◌+◌, ◌-◌, zero, suc, List, [], ◌∷◌, ◌++◌, length, map, Option, Some, None, refl, sym, ap, ◌∙◌, arith, get_or, take, drop, slice_set, add-one}
-use Rattle.std.specs.Prelude.{remove}
+use Rattle.std.proofs.Common.{◌≡◌, ℕ, ◌<◌, ◌≤◌, ◌+◌, ◌-◌, zero, suc, List, [], ◌∷◌, ◌++◌, length, map, Option, Some, refl, sym, ap, ◌∙◌, arith, get_or, take, drop, slice_set, add-one}
 use Rattle.std.specs.List.{filter_map, cons_option}
 use Rattle.rm_model.specs.declared.row.State.{State}
 use Rattle.rm_status.specs.declared.row.Row.{Row}
@@ -35,11 +34,6 @@ module _ {C : Type 0} (f : Row C → Option (Row C)) where
   read (a ∷ init) zero d lt = refl
   read (a ∷ init) (suc k) d lt = read init k d (omega arith)
 
-  gone : (init : List (Row C)) (k : ℕ) (d : Row C) → k < length init → f (get_or init k d) ≡ None → remove (left init (suc k)) k ≡ left init k
-  gone [] k d lt e = absurd (omega arith)
-  gone (a ∷ init) zero d lt e = ap (λ o. cons_option o (filter_map f init)) (sym e)
-  gone (a ∷ init) (suc k) d lt e = ap (λ l. a ∷ l) (gone init k d (omega arith) e)
-
   kept : (init : List (Row C)) (k : ℕ) (d : Row C) (s : State) → k < length init → f (get_or init k d) ≡ Some (record (get_or init k d) { state = s }) → with_state_at (left init (suc k)) k s ≡ left init k
   kept [] k d s lt e = absurd (omega arith)
   kept (a ∷ init) zero d s lt e = ap (λ o. cons_option o (filter_map f init)) (sym e)
@@ -51,9 +45,6 @@ module _ {C : Type 0} (f : Row C → Option (Row C)) where
 
     here : x ≡ get_or init (p - 1) x
     here = seen ∙ ap (λ l. get_or l (p - 1) x) (is ∙ ap (left init) (sym up)) ∙ read init (p - 1) x (omega arith)
-
-    pub one_gone : f x ≡ None → remove rows (p - 1) ≡ left init (p - 1)
-    one_gone e = ap (λ l. remove l (p - 1)) (is ∙ ap (left init) (sym up)) ∙ gone init (p - 1) x (omega arith) (ap f (sym here) ∙ e)
 
     pub one_kept : (s : State) → f x ≡ Some (record x { state = s }) → with_state_at rows (p - 1) s ≡ left init (p - 1)
     one_kept s e = ap (λ l. with_state_at l (p - 1) s) (is ∙ ap (left init) (sym up)) ∙ kept init (p - 1) x s (omega arith) (ap f (sym here) ∙ e ∙ ap {A = Row C} {B = Option (Row C)} (λ y. Some (record y { state = s })) here)

@@ -1,5 +1,5 @@
 -- The state of a row after a Set.
-use Rattle.std.proofs.Common.{◌≡◌, ℕ, [], ◌∷◌, Option, Some, None, refl, ap, sym, ◌∙◌, subst}
+use Rattle.std.proofs.Common.{◌≡◌, ℕ, [], ◌∷◌, Option, Some, refl, ap, sym, ◌∙◌, subst}
 use Rattle.rm_val.specs.Val.{Val}
 use Rattle.rm_model.specs.declared.row.State.{State}
 use Rattle.rm_model.specs.declared.row.State.TheVariants.{Absent, UnderCreation, Valid}
@@ -23,9 +23,6 @@ module _ {C : Type 0} (t : ControlTable) (with_column : C → ℕ → Val → C)
 
   pub settle_kept : (bs : Bindings) (r : Row C) (a : Ask) (s : State) → a ≡ set_ask t bs (r.index ∷ []) → s ≡ next_state a r.state → (s ≡ Absent → ⊥) → settle_row t with_column blank bs r ≡ Some (record r { state = s })
   settle_kept bs r a s asked is h = ap (settled r) (ap (λ x. next_state x r.state) (sym asked) ∙ sym is) ∙ not_absent s r h
-
-  pub settle_gone : (bs : Bindings) (r : Row C) (a : Ask) → a ≡ set_ask t bs (r.index ∷ []) → Absent ≡ next_state a r.state → settle_row t with_column blank bs r ≡ None
-  settle_gone bs r a asked is = ap (settled r) (ap (λ x. next_state x r.state) (sym asked) ∙ sym is)
 
   stays : (s : State) (r x : Row C) → settled r s ≡ Some x → IsThere r → IsThere x
   stays Absent r x e h = absurd (cc)

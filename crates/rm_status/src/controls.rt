@@ -21,10 +21,13 @@ use std::marker::Model;
 /// How many rows a control table has at most.
 pub const MAX_ROWS: usize = 16;
 
+/// The greatest index that a row of a control table may have.
+pub(crate) const MAX_INDEX: u32 = 65535;
+
 /// The rows of a control table, at most 16, in order of their indexes.
 #[derive(Drop)]
 pub struct Controls<C: Columns> {
-    rows: ArrayVec<Row<C>, 16>,
+    rows: ArrayVec<Row<C>, MAX_ROWS>,
     kind: StatusKind,
 }
 

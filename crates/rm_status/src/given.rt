@@ -8,8 +8,10 @@ ghost use Rattle.rm_status.specs.Commit.{put_at, put_all};
 
 use crate::assigns::Assigns;
 use crate::columns::Columns;
+use crate::controls::MAX_INDEX;
 use crate::place::{is_cell, place_under};
 use crate::steps::{column_fault, is_made, status_fault, status_value_fault, value_ask};
+use crate::wrong::wrong_at;
 use rm_model::{Ask, Place, State, StatusKind, Verdict};
 use rm_val::{ErrorStatus, Oid, Value};
 
@@ -91,7 +93,7 @@ pub(crate) fn alone_fault<C: Columns>(
         Place::Cell(column, row) => match column_value_fault::<C>(kind, status, column, value) {
             Some(fault) => Some(fault),
             None => {
-                if 1 <= row && row <= 65535 {
+                if 1 <= row && row <= MAX_INDEX {
                     None
                 } else {
                     Some(ErrorStatus::NoCreation)
@@ -120,10 +122,7 @@ pub(crate) fn judge_alone<C: Columns, A: Assigns>(
         let at = place_under(&name, entry);
         match alone_fault::<C>(kind, status, at, &value) {
             None => {}
-            Some(status) => {
-                let index = place as u32 + 1;
-                return Verdict::Wrong { status, index };
-            }
+            Some(fault) => return wrong_at(place, fault),
         }
     }
     Verdict::Fine

@@ -71,15 +71,15 @@ pub trait Group {
 
     /// The first pass of a Set: each binding alone.
     fn judge_alone<A: Assigns>(&self, set: &A) -> Verdict
-        ensures { let b = A.bindings set.now in IsFirstFault (length b) (alone_at alone b) result };
+        ensures { let bindings = A.bindings set.now in IsFirstFault (length bindings) (alone_at alone bindings) result };
 
     /// The second pass of a Set at a moment in milliseconds, which isn't below that of the last act: the bindings of each
     /// row together. The first pass found nothing wrong.
     fn judge_rows<A: Assigns, L: Look>(&self, set: &A, now: u32, look: &L) -> Verdict
         requires alone { AreFineAlone alone (A.bindings set.now) }
         ensures accepted { result ≡ Verdict.Fine → accepts self.now now (L.readings look.now now) (A.bindings set.now) }
-        ensures verdict { let b = A.bindings set.now in (settings : Settings) (journal : Journal) → stands self.now settings journal → last_moment journal ≤ now
-            → IsFirstFault (length b) (together settings journal now (L.readings look.now now) b) result };
+        ensures verdict { let bindings = A.bindings set.now in (settings : Settings) (journal : Journal) → stands self.now settings journal → last_moment journal ≤ now
+            → IsFirstFault (length bindings) (together settings journal now (L.readings look.now now) bindings) result };
 
     /// Makes ready for a Set at a moment in milliseconds, with which both passes found nothing wrong. Denied where there is
     /// no memory for a row that the Set makes valid; a group that held nothing then holds nothing. No variable changes.

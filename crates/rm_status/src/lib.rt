@@ -26,6 +26,7 @@ mod steps;
 mod system;
 #[cfg(test)]
 mod tests;
+mod wrong;
 
 pub use assigns::Assigns;
 pub use both::Both;

@@ -6,20 +6,18 @@ ghost use Rattle.rm_status.specs.Alone.{alone_at, read_only};
 
 use crate::assigns::Assigns;
 use crate::objects::is_of_column;
+use crate::wrong::wrong_at;
 use rm_model::Verdict;
 use rm_val::{ErrorStatus, Oid};
 
 /// The first pass of a Set on columns under the entry of a table, of which none is writable (RFC 1905, section 4.2.5):
 /// notWritable at the first binding whose name begins with the identifier of one of them.
 pub fn judge_read_only<A: Assigns>(set: &A, entry: &Oid, columns: &[u32]) -> Verdict
-    ensures { let b = A.bindings set.now in IsFirstFault (length b) (alone_at (read_only (is_of_column entry.now columns.now)) b) result }
+    ensures { let bindings = A.bindings set.now in IsFirstFault (length bindings) (alone_at (read_only (is_of_column entry.now columns.now)) bindings) result }
 {
     for place in 0..set.count() {
         if is_of_column(&set.name(place), entry, columns) {
-            return Verdict::Wrong {
-                status: ErrorStatus::NotWritable,
-                index: place as u32 + 1,
-            };
+            return wrong_at(place, ErrorStatus::NotWritable);
         }
     }
     Verdict::Fine

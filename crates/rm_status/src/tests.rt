@@ -1,5 +1,6 @@
 ghost use Rattle.std.specs.Prelude.{◌≤◌};
 
+mod beside;
 mod given;
 mod made_up;
 mod seen;

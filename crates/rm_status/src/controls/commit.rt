@@ -9,7 +9,7 @@ ghost use Rattle.rm_status.specs.Commit.{is_cell, row_after, made_row, made_now,
 
 use crate::assigns::Assigns;
 use crate::columns::Columns;
-use crate::controls::Controls;
+use crate::controls::{Controls, MAX_ROWS};
 use crate::given::{put_all, set_ask};
 use crate::place::place_under;
 use crate::row::Row;
@@ -25,8 +25,8 @@ impl<C: Columns> Controls<C> {
         requires entry { entry.now ≡ C.table.entry }
         requires status { status ≡ C.table.status }
         requires fine { IsFirstFault (length (A.bindings set.now)) (first_pass C.table (A.bindings set.now)) Verdict.Fine }
-        requires together { let bs = A.bindings set.now in IsFirstFault (length bs) (second_pass C.table (rows_before C.set_to self.old) bs) Verdict.Fine }
-        ensures { let bs = A.bindings set.now in (i : ℕ) → row_in self.new i ≡ row_after C.table C.with_column C.blank_row bs i (row_in self.old i) }
+        requires together { let bindings = A.bindings set.now in IsFirstFault (length bindings) (second_pass C.table (rows_before C.set_to self.old) bindings) Verdict.Fine }
+        ensures { let bindings = A.bindings set.now in (i : ℕ) → row_in self.new i ≡ row_after C.table C.with_column C.blank_row bindings i (row_in self.old i) }
     {
         let _ = &self.rows;
         let count = set.count();
@@ -44,9 +44,9 @@ impl<C: Columns> Controls<C> {
         requires status { status ≡ C.table.status }
         requires within { place < length (A.bindings set.now) }
         requires fine { first_pass C.table (A.bindings set.now) place ≡ None }
-        requires room { let bs = A.bindings set.now in (i : ℕ) → is_cell C.table.status i (place_of C.table.entry (name_at bs place)) ≡ true → is_made State.Absent (set_ask C.table bs (i ∷ [])) ≡ true → row_in self.old i ≡ None → length self.old < 16 }
-        ensures rows { let bs = A.bindings set.now in (i : ℕ) → row_in self.new i ≡ option_or (row_in self.old i) (if is_cell C.table.status i (place_of C.table.entry (name_at bs place)) then made_row C.table C.with_column C.blank_row bs i else None) }
-        ensures few { let bs = A.bindings set.now in length self.new ≡ length self.old + made_now C.table C.with_column C.blank_row self.old bs (place_of C.table.entry (name_at bs place)) }
+        requires room { let bindings = A.bindings set.now in (i : ℕ) → is_cell C.table.status i (place_of C.table.entry (name_at bindings place)) ≡ true → is_made State.Absent (set_ask C.table bindings (i ∷ [])) ≡ true → row_in self.old i ≡ None → length self.old < 16 }
+        ensures rows { let bindings = A.bindings set.now in (i : ℕ) → row_in self.new i ≡ option_or (row_in self.old i) (if is_cell C.table.status i (place_of C.table.entry (name_at bindings place)) then made_row C.table C.with_column C.blank_row bindings i else None) }
+        ensures few { let bindings = A.bindings set.now in length self.new ≡ length self.old + made_now C.table C.with_column C.blank_row self.old bindings (place_of C.table.entry (name_at bindings place)) }
     {
         let name = set.name(place);
         if let Place::Cell(column, row) = place_under(&name, entry) {
@@ -73,7 +73,7 @@ fn write_rows<C: Columns, A: Assigns>(rows: &mut [Row<C>], set: &A, entry: &Oid,
 
 // The same for rows where they are kept.
 fn write_all<C: Columns, A: Assigns>(
-    rows: &mut ArrayVec<Row<C>, 16>,
+    rows: &mut ArrayVec<Row<C>, MAX_ROWS>,
     set: &A,
     entry: &Oid,
     status: u32,
@@ -89,7 +89,7 @@ fn write_all<C: Columns, A: Assigns>(
 // Takes each row to its state after a Set.
 fn settle_rows<C: Columns, A: Assigns>(
     kind: StatusKind,
-    rows: &mut ArrayVec<Row<C>, 16>,
+    rows: &mut ArrayVec<Row<C>, MAX_ROWS>,
     set: &A,
     entry: &Oid,
     status: u32,
@@ -115,7 +115,7 @@ fn settle_rows<C: Columns, A: Assigns>(
 }
 
 // Sets the state of the row at a place.
-fn set_state<C: Columns>(rows: &mut ArrayVec<Row<C>, 16>, place: usize, state: State)
+fn set_state<C: Columns>(rows: &mut ArrayVec<Row<C>, MAX_ROWS>, place: usize, state: State)
     requires { place < length rows.old.items }
     ensures { rows.new.items ≡ with_state_at rows.old.items place state }
 {

@@ -11,6 +11,7 @@ use crate::controls::{Controls, MAX_ROWS};
 use crate::given::{self, is_again, put_all, row_fault, set_ask};
 use crate::place::place_under;
 use crate::steps::is_made;
+use crate::wrong::wrong_at;
 use rm_model::{Place, Verdict};
 use rm_val::{ErrorStatus, Oid};
 
@@ -32,7 +33,7 @@ impl<C: Columns> Controls<C> {
         requires entry { entry.now ≡ C.table.entry }
         requires status { status ≡ C.table.status }
         requires fine { IsFirstFault (length (A.bindings set.now)) (first_pass C.table (A.bindings set.now)) Verdict.Fine }
-        ensures verdict { let bs = A.bindings set.now in IsFirstFault (length bs) (second_pass C.table (rows_before C.set_to self.now) bs) result }
+        ensures verdict { let bindings = A.bindings set.now in IsFirstFault (length bindings) (second_pass C.table (rows_before C.set_to self.now) bindings) result }
         ensures rows { AreControlRows self.now }
     {
         let _ = &self.rows;
@@ -41,10 +42,7 @@ impl<C: Columns> Controls<C> {
         for place in 0..count {
             match self.second_fault(set, entry, status, crowded, place) {
                 None => {}
-                Some(status) => {
-                    let index = place as u32 + 1;
-                    return Verdict::Wrong { status, index };
-                }
+                Some(fault) => return wrong_at(place, fault),
             }
         }
         Verdict::Fine
@@ -80,7 +78,7 @@ impl<C: Columns> Controls<C> {
         requires entry { entry.now ≡ C.table.entry }
         requires status { status ≡ C.table.status }
         requires within { place < length (A.bindings set.now) }
-        ensures value { let bs = A.bindings set.now in result ≡ made_by C.table (state_in self.now) bs (is_again bs place) (place_of C.table.entry (name_at bs place)) }
+        ensures value { let bindings = A.bindings set.now in result ≡ made_by C.table (state_in self.now) bindings (is_again bindings place) (place_of C.table.entry (name_at bindings place)) }
         ensures few { result ≤ 1 }
     {
         let name = set.name(place);

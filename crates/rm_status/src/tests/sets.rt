@@ -44,259 +44,130 @@ const WRONG_VALUE_2: Verdict = Verdict::Wrong {
 // What the columns 2, 3 and 4 are set to.
 type Numbers = (Option<i32>, Option<i32>, Option<i32>);
 
-// Before, Set, verdict, and the row's state and columns after it.
-type Case = (&'static [Columns], Columns, Verdict, State, Option<Numbers>);
+// Before, and a Set that is refused, with its verdict.
+type Refused = (&'static [Columns], Columns, Verdict);
+
+// Before, and a Set that is accepted, with the row's state and columns after it.
+type Accepted = (&'static [Columns], Columns, State, Option<Numbers>);
 
 const BLANK: Option<Numbers> = Some((None, None, None));
 
 const NEEDED: Option<Numbers> = Some((Some(4), None, None));
 
-const ABSENT_CASES: [Case; 14] = [
-    (ABSENT, &[(3, 7)], WRONG_NAME_1, State::Absent, None),
-    (ABSENT, &[(4, 8)], WRONG_NAME_1, State::Absent, None),
-    (ABSENT, &[(STATUS, 1)], WRONG_NAME_1, State::Absent, None),
-    (
-        ABSENT,
-        &[(2, 4), (STATUS, 1)],
-        WRONG_NAME_1,
-        State::Absent,
-        None,
-    ),
-    (ABSENT, &[(STATUS, 2)], FINE, State::UnderCreation, BLANK),
+const ABSENT_REFUSED: [Refused; 10] = [
+    (ABSENT, &[(3, 7)], WRONG_NAME_1),
+    (ABSENT, &[(4, 8)], WRONG_NAME_1),
+    (ABSENT, &[(STATUS, 1)], WRONG_NAME_1),
+    (ABSENT, &[(2, 4), (STATUS, 1)], WRONG_NAME_1),
+    (ABSENT, &[(STATUS, 3)], WRONG_NAME_1),
+    (ABSENT, &[(4, 8), (STATUS, 3)], WRONG_NAME_1),
+    (ABSENT, &[(STATUS, 4), (4, 8)], WRONG_NAME_2),
+    (ABSENT, &[(3, 7), (STATUS, 4)], WRONG_NAME_1),
+    (ABSENT, &[(STATUS, 2), (STATUS, 2)], WRONG_VALUE_2),
+    (ABSENT, &[(STATUS, 4), (STATUS, 2)], WRONG_VALUE_2),
+];
+
+const ABSENT_ACCEPTED: [Accepted; 4] = [
+    (ABSENT, &[(STATUS, 2)], State::UnderCreation, BLANK),
     (
         ABSENT,
         &[(STATUS, 2), (3, 7)],
-        FINE,
         State::UnderCreation,
         Some((None, Some(7), None)),
     ),
     (
         ABSENT,
         &[(2, 4), (4, 8), (STATUS, 2)],
-        FINE,
         State::UnderCreation,
         Some((Some(4), None, Some(8))),
     ),
-    (ABSENT, &[(STATUS, 3)], WRONG_NAME_1, State::Absent, None),
-    (
-        ABSENT,
-        &[(4, 8), (STATUS, 3)],
-        WRONG_NAME_1,
-        State::Absent,
-        None,
-    ),
-    (ABSENT, &[(STATUS, 4)], FINE, State::Absent, None),
-    (
-        ABSENT,
-        &[(STATUS, 4), (4, 8)],
-        WRONG_NAME_2,
-        State::Absent,
-        None,
-    ),
-    (
-        ABSENT,
-        &[(3, 7), (STATUS, 4)],
-        WRONG_NAME_1,
-        State::Absent,
-        None,
-    ),
-    (
-        ABSENT,
-        &[(STATUS, 2), (STATUS, 2)],
-        WRONG_VALUE_2,
-        State::Absent,
-        None,
-    ),
-    (
-        ABSENT,
-        &[(STATUS, 4), (STATUS, 2)],
-        WRONG_VALUE_2,
-        State::Absent,
-        None,
-    ),
+    (ABSENT, &[(STATUS, 4)], State::Absent, None),
 ];
 
-const UNDER_CREATION_CASES: [Case; 19] = [
+const UNDER_CREATION_REFUSED: [Refused; 7] = [
+    (NOT_READY, &[(STATUS, 1)], WRONG_VALUE_1),
+    (NOT_READY, &[(3, 7), (STATUS, 1)], WRONG_VALUE_2),
+    (NOT_READY, &[(STATUS, 2)], WRONG_VALUE_1),
+    (NOT_READY, &[(3, 7), (STATUS, 2)], WRONG_VALUE_2),
+    (NOT_READY, &[(3, 7), (3, 7)], WRONG_VALUE_2),
+    (NOT_READY, &[(STATUS, 3), (STATUS, 1)], WRONG_VALUE_2),
+    (READY, &[(STATUS, 2)], WRONG_VALUE_1),
+];
+
+const UNDER_CREATION_ACCEPTED: [Accepted; 12] = [
     (
         NOT_READY,
         &[(3, 7), (4, 8)],
-        FINE,
         State::UnderCreation,
         Some((None, Some(7), Some(8))),
     ),
-    (
-        NOT_READY,
-        &[(STATUS, 1)],
-        WRONG_VALUE_1,
-        State::UnderCreation,
-        BLANK,
-    ),
-    (
-        NOT_READY,
-        &[(3, 7), (STATUS, 1)],
-        WRONG_VALUE_2,
-        State::UnderCreation,
-        BLANK,
-    ),
-    (
-        NOT_READY,
-        &[(2, 4), (STATUS, 1)],
-        FINE,
-        State::Valid,
-        NEEDED,
-    ),
-    (
-        NOT_READY,
-        &[(STATUS, 1), (2, 4)],
-        FINE,
-        State::Valid,
-        NEEDED,
-    ),
-    (
-        NOT_READY,
-        &[(STATUS, 2)],
-        WRONG_VALUE_1,
-        State::UnderCreation,
-        BLANK,
-    ),
-    (
-        NOT_READY,
-        &[(3, 7), (STATUS, 2)],
-        WRONG_VALUE_2,
-        State::UnderCreation,
-        BLANK,
-    ),
-    (NOT_READY, &[(STATUS, 3)], FINE, State::UnderCreation, BLANK),
+    (NOT_READY, &[(2, 4), (STATUS, 1)], State::Valid, NEEDED),
+    (NOT_READY, &[(STATUS, 1), (2, 4)], State::Valid, NEEDED),
+    (NOT_READY, &[(STATUS, 3)], State::UnderCreation, BLANK),
     (
         NOT_READY,
         &[(STATUS, 3), (3, 7)],
-        FINE,
         State::UnderCreation,
         Some((None, Some(7), None)),
     ),
-    (NOT_READY, &[(STATUS, 4)], FINE, State::Absent, None),
-    (NOT_READY, &[(3, 7), (STATUS, 4)], FINE, State::Absent, None),
-    (
-        NOT_READY,
-        &[(3, 7), (3, 7)],
-        WRONG_VALUE_2,
-        State::UnderCreation,
-        BLANK,
-    ),
-    (
-        NOT_READY,
-        &[(STATUS, 3), (STATUS, 1)],
-        WRONG_VALUE_2,
-        State::UnderCreation,
-        BLANK,
-    ),
-    (READY, &[(STATUS, 1)], FINE, State::Valid, NEEDED),
+    (NOT_READY, &[(STATUS, 4)], State::Absent, None),
+    (NOT_READY, &[(3, 7), (STATUS, 4)], State::Absent, None),
+    (READY, &[(STATUS, 1)], State::Valid, NEEDED),
     (
         READY,
         &[(3, 7), (STATUS, 1)],
-        FINE,
         State::Valid,
         Some((Some(4), Some(7), None)),
     ),
-    (
-        READY,
-        &[(STATUS, 2)],
-        WRONG_VALUE_1,
-        State::UnderCreation,
-        NEEDED,
-    ),
-    (READY, &[(STATUS, 3)], FINE, State::UnderCreation, NEEDED),
-    (READY, &[(STATUS, 4)], FINE, State::Absent, None),
+    (READY, &[(STATUS, 3)], State::UnderCreation, NEEDED),
+    (READY, &[(STATUS, 4)], State::Absent, None),
     (
         READY,
         &[(2, 9)],
-        FINE,
         State::UnderCreation,
         Some((Some(9), None, None)),
     ),
 ];
 
-const VALID_CASES: [Case; 16] = [
-    (VALID, &[(3, 7)], WRONG_VALUE_1, State::Valid, NEEDED),
+const VALID_REFUSED: [Refused; 9] = [
+    (VALID, &[(3, 7)], WRONG_VALUE_1),
+    (VALID, &[(4, 8), (3, 7)], WRONG_VALUE_2),
+    (VALID, &[(3, 7), (STATUS, 1)], WRONG_VALUE_1),
+    (VALID, &[(STATUS, 2)], WRONG_VALUE_1),
+    (VALID, &[(3, 7), (STATUS, 2)], WRONG_VALUE_1),
+    (VALID, &[(4, 8), (STATUS, 2)], WRONG_VALUE_2),
+    (VALID, &[(STATUS, 4), (3, 7)], WRONG_VALUE_2),
+    (VALID, &[(4, 8), (4, 9)], WRONG_VALUE_2),
+    (VALID, &[(STATUS, 1), (STATUS, 4)], WRONG_VALUE_2),
+];
+
+const VALID_ACCEPTED: [Accepted; 7] = [
     (
         VALID,
         &[(4, 8)],
-        FINE,
         State::Valid,
         Some((Some(4), None, Some(8))),
     ),
-    (
-        VALID,
-        &[(4, 8), (3, 7)],
-        WRONG_VALUE_2,
-        State::Valid,
-        NEEDED,
-    ),
-    (VALID, &[(STATUS, 1)], FINE, State::Valid, NEEDED),
-    (
-        VALID,
-        &[(3, 7), (STATUS, 1)],
-        WRONG_VALUE_1,
-        State::Valid,
-        NEEDED,
-    ),
+    (VALID, &[(STATUS, 1)], State::Valid, NEEDED),
     (
         VALID,
         &[(STATUS, 1), (4, 8)],
-        FINE,
         State::Valid,
         Some((Some(4), None, Some(8))),
     ),
-    (VALID, &[(STATUS, 2)], WRONG_VALUE_1, State::Valid, NEEDED),
-    (
-        VALID,
-        &[(3, 7), (STATUS, 2)],
-        WRONG_VALUE_1,
-        State::Valid,
-        NEEDED,
-    ),
-    (
-        VALID,
-        &[(4, 8), (STATUS, 2)],
-        WRONG_VALUE_2,
-        State::Valid,
-        NEEDED,
-    ),
-    (VALID, &[(STATUS, 3)], FINE, State::UnderCreation, NEEDED),
+    (VALID, &[(STATUS, 3)], State::UnderCreation, NEEDED),
     (
         VALID,
         &[(3, 7), (STATUS, 3), (2, 9)],
-        FINE,
         State::UnderCreation,
         Some((Some(9), Some(7), None)),
     ),
-    (VALID, &[(STATUS, 4)], FINE, State::Absent, None),
-    (VALID, &[(4, 8), (STATUS, 4)], FINE, State::Absent, None),
-    (
-        VALID,
-        &[(STATUS, 4), (3, 7)],
-        WRONG_VALUE_2,
-        State::Valid,
-        NEEDED,
-    ),
-    (
-        VALID,
-        &[(4, 8), (4, 9)],
-        WRONG_VALUE_2,
-        State::Valid,
-        NEEDED,
-    ),
-    (
-        VALID,
-        &[(STATUS, 1), (STATUS, 4)],
-        WRONG_VALUE_2,
-        State::Valid,
-        NEEDED,
-    ),
+    (VALID, &[(STATUS, 4)], State::Absent, None),
+    (VALID, &[(4, 8), (STATUS, 4)], State::Absent, None),
 ];
 
 // A Set that is refused by its first pass, the status that refuses it, and the number of the binding.
-const REFUSED: [(&[(u32, u32, i32)], ErrorStatus, u32); 14] = [
+const REFUSED_ALONE: [(&[(u32, u32, i32)], ErrorStatus, u32); 13] = [
     (&[(1, 5, 1)], ErrorStatus::NotWritable, 1),
     (&[(9, 0, 0)], ErrorStatus::NotWritable, 1),
     (&[(2, 5, 0)], ErrorStatus::WrongValue, 1),
@@ -308,10 +179,9 @@ const REFUSED: [(&[(u32, u32, i32)], ErrorStatus, u32); 14] = [
     (&[(2, 0, 0)], ErrorStatus::WrongValue, 1),
     (&[(3, 0, 7)], ErrorStatus::NoCreation, 1),
     (&[(STATUS, 5, 2), (3, 5, 0)], ErrorStatus::WrongValue, 2),
-    // what is wrong with any binding alone comes before what is wrong with the bindings of a row
+    // a column of a row that is not there is fine alone
     (&[(3, 6, 7), (3, 5, 0)], ErrorStatus::WrongValue, 2),
     (&[(3, 6, 7), (3, 0, 7)], ErrorStatus::NoCreation, 2),
-    (&[(3, 6, 7), (3, 5, 7)], ErrorStatus::InconsistentName, 1),
 ];
 
 // The Set of these columns of row 5.
@@ -367,19 +237,32 @@ fn apply(rows: &mut Controls<MadeUp>, set: &Set) -> Verdict {
     }
 }
 
-fn try_cases(rt: &impl Abort, cases: &[Case]) {
-    for &(before, columns, verdict, state, left) in cases {
-        let mut rows = Controls::new(StatusKind::EntryStatus);
-        for first in before {
-            assert_eq!(rt;
-                apply(&mut rows, &set_of_row_5(first)),
-                Verdict::Fine,
-                "{first:?}"
-            );
-        }
+// The rows after these Sets of row 5, which are all accepted.
+fn rows_after(rt: &impl Abort, before: &[Columns]) -> Controls<MadeUp> {
+    let mut rows = Controls::new(StatusKind::EntryStatus);
+    for first in before {
+        assert_eq!(rt; apply(&mut rows, &set_of_row_5(first)), FINE, "{first:?}");
+    }
+    rows
+}
+
+fn try_refused(rt: &impl Abort, cases: &[Refused]) {
+    for &(before, columns, verdict) in cases {
+        let mut rows = rows_after(rt, before);
         assert_eq!(rt;
             apply(&mut rows, &set_of_row_5(columns)),
             verdict,
+            "{before:?} {columns:?}"
+        );
+    }
+}
+
+fn try_accepted(rt: &impl Abort, cases: &[Accepted]) {
+    for &(before, columns, state, left) in cases {
+        let mut rows = rows_after(rt, before);
+        assert_eq!(rt;
+            apply(&mut rows, &set_of_row_5(columns)),
+            FINE,
             "{before:?} {columns:?}"
         );
         assert_eq!(rt; rows.state(5), state, "{before:?} {columns:?}");
@@ -389,30 +272,54 @@ fn try_cases(rt: &impl Abort, cases: &[Case]) {
 
 #[test]
 fn a_row_that_is_not_there(rt: HostRuntime) {
-    try_cases(&rt, &ABSENT_CASES);
+    try_refused(&rt, &ABSENT_REFUSED);
+    try_accepted(&rt, &ABSENT_ACCEPTED);
 }
 
 #[test]
 fn a_row_under_creation(rt: HostRuntime) {
-    try_cases(&rt, &UNDER_CREATION_CASES);
+    try_refused(&rt, &UNDER_CREATION_REFUSED);
+    try_accepted(&rt, &UNDER_CREATION_ACCEPTED);
 }
 
 #[test]
 fn a_valid_row(rt: HostRuntime) {
-    try_cases(&rt, &VALID_CASES);
+    try_refused(&rt, &VALID_REFUSED);
+    try_accepted(&rt, &VALID_ACCEPTED);
 }
 
 #[test]
-fn the_first_pass_comes_first(rt: HostRuntime) {
-    for (columns, status, index) in REFUSED {
-        let mut rows = Controls::new(StatusKind::EntryStatus);
+fn each_binding_alone(rt: HostRuntime) {
+    for (columns, status, index) in REFUSED_ALONE {
+        let rows = Controls::<MadeUp>::new(StatusKind::EntryStatus);
         assert_eq!(rt;
-            apply(&mut rows, &set_of(columns)),
+            rows.judge_alone(&set_of(columns), &entry(), STATUS),
             Verdict::Wrong { status, index },
             "{columns:?}"
         );
-        assert_eq!(rt; rows.len(), 0);
     }
+}
+
+#[test]
+fn rows_are_judged_each_for_itself(rt: HostRuntime) {
+    let mut rows = Controls::new(StatusKind::EntryStatus);
+    assert_eq!(rt;
+        apply(&mut rows, &set_of(&[(3, 6, 7), (3, 5, 7)])),
+        WRONG_NAME_1
+    );
+    assert_eq!(rt;
+        apply(&mut rows, &set_of(&[(STATUS, 6, 2), (3, 5, 7)])),
+        WRONG_NAME_2
+    );
+    assert_eq!(rt;
+        apply(
+            &mut rows,
+            &set_of(&[(3, 5, 7), (STATUS, 6, 2), (STATUS, 5, 2)])
+        ),
+        FINE
+    );
+    assert_eq!(rt; numbers(&rows, 5), Some((None, Some(7), None)));
+    assert_eq!(rt; numbers(&rows, 6), BLANK);
 }
 
 // Rows 1 to `count`, under creation.
@@ -429,6 +336,11 @@ fn no_more_than_sixteen_rows(rt: HostRuntime) {
     let mut rows = many(16);
     assert_eq!(rt; rows.len(), MAX_ROWS);
     assert_eq!(rt; apply(&mut rows, &set_of(&[(STATUS, 17, 2)])), WRONG_NAME_1);
+    // what makes the row too many is wrong with its first binding, whichever column that is of
+    assert_eq!(rt;
+        apply(&mut rows, &set_of(&[(3, 17, 7), (STATUS, 17, 2)])),
+        WRONG_NAME_1
+    );
     // a row that goes makes no room in the same Set, and the rows that there are take columns
     assert_eq!(rt;
         apply(&mut rows, &set_of(&[(STATUS, 1, 4), (STATUS, 17, 2)])),
