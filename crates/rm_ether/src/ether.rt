@@ -67,11 +67,15 @@ impl Group for Ether {
     ghost use Rattle.rm_model.proofs.Rows.{indexes_of, row_listed, one_row_begins};
     ghost use Rattle.rm_ether.specs.Columns.{ether_columns};
     ghost use Rattle.rm_ether.specs.EtherStats.{ether_entry, ether_table, ether_stats, ether_beginning};
-    ghost use Rattle.rm_ether.specs.Group.{Stands, last_given};
+    ghost use Rattle.rm_ether.specs.Group.{Stands, frames_given, last_given};
 
     ghost stands = { Stands };
 
     ghost clock = { last_given };
+
+    ghost frames = { frames_given };
+
+    ghost stocked = { λ s. Unit {0} };
 
     ghost cells = { λ settings journal now. cells_of (ether_table settings journal) };
 

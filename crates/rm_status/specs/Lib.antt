@@ -7,3 +7,4 @@ pub mod Commit
 pub mod Lending
 pub mod Taken
 pub mod MadeUp
+pub mod Change

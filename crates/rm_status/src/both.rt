@@ -29,6 +29,10 @@ impl<G: Group, H: Group> Group for Both<G, H> {
 
     ghost clock = { λ s. max (G.clock s.first) (H.clock s.second) };
 
+    ghost frames = { λ s. max (G.frames s.first) (H.frames s.second) };
+
+    ghost stocked = { λ s. G.stocked s.first × H.stocked s.second };
+
     ghost cells = { λ settings journal now name. option_or (G.cells settings journal now name) (H.cells settings journal now name) };
 
     ghost alone = { λ name value. option_or (G.alone name value) (H.alone name value) };

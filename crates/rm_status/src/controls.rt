@@ -1,5 +1,6 @@
 // The rows of a control table.
 mod commit;
+mod each;
 mod judge;
 
 ghost use Rattle.std.specs.Prelude.{◌≡◌, ℕ, ◌<◌, ◌≤◌, ◌+◌, List, [], length, Bool, true, false, Option, Some, None, is_some, IfSome, IfNone, IsTrue, position, find, nat_eq, nat_lt, if◌then◌else◌, slice_get};

@@ -30,6 +30,13 @@ pub trait Group {
     /// The least moment at which the group may be given a Set, in milliseconds.
     ghost clock: { Self → ℕ };
 
+    /// How many frames the group was given.
+    ghost frames: { Self → ℕ };
+
+    /// The group has the storage of one row of each of its tables whose rows take storage while they are valid. A group without
+    /// such a table always has.
+    ghost stocked: { Self → Type 0 };
+
     /// The group's cells after a journal, at a moment in milliseconds, by what the probe was set to.
     ghost cells: { Settings → Journal → ℕ → Cells };
 
@@ -81,8 +88,9 @@ pub trait Group {
         ensures verdict { let bindings = A.bindings set.now in (settings : Settings) (journal : Journal) → stands self.now settings journal → last_moment journal ≤ now
             → IsFirstFault (length bindings) (together settings journal now (L.readings look.now now) bindings) result };
 
-    /// Makes ready for a Set at a moment in milliseconds, with which both passes found nothing wrong. Denied where there is
-    /// no memory for a row that the Set makes valid; a group that held nothing then holds nothing. No variable changes.
+    /// Makes ready for a Set at a moment in milliseconds, with which both passes found nothing wrong, in a group that is
+    /// stocked. Denied where there is no memory for a row that the Set makes valid beside another; a group that held nothing
+    /// then holds nothing. No variable changes.
     fn prepare<A: Assigns, L: Look>(
         &mut self,
         alloc: Global,
@@ -92,7 +100,10 @@ pub trait Group {
     ) -> Result<(), Denied>
         requires later { clock self.old ≤ now }
         requires accepted { accepts self.old now (L.readings look.now now) (A.bindings set.now) }
+        requires stocked { stocked self.old }
         ensures clock { clock self.new ≡ clock self.old }
+        ensures frames { frames self.new ≡ frames self.old }
+        ensures stocked { stocked self.new }
         ensures stands { (settings : Settings) (journal : Journal) → stands self.old settings journal → stands self.new settings journal }
         ensures ready { OnOk result (prepared self.new now (A.bindings set.now)) }
         ensures released { OnErr result (released self.old → released self.new) }
@@ -104,7 +115,10 @@ pub trait Group {
     fn commit<A: Assigns>(&mut self, set: &A, now: u32)
         requires later { clock self.old ≤ now }
         requires ready { prepared self.old now (A.bindings set.now) }
+        requires stocked { stocked self.old }
         ensures clock { clock self.new ≤ now }
+        ensures frames { frames self.new ≡ frames self.old }
+        ensures stocked { stocked self.new }
         ensures stands { (settings : Settings) (journal : Journal) (values : Assignments) → stands self.old settings journal → last_moment journal ≤ now
             → ((name : List ℕ) → value_given values name ≡ value_given (A.bindings set.now) name) → stands self.new settings (assigns now values ∷ journal) }
         ensures released { released self.new };
@@ -112,6 +126,8 @@ pub trait Group {
     /// Gives back what was made ready for a Set that isn't committed. No variable changes.
     fn discard(&mut self)
         ensures clock { clock self.new ≡ clock self.old }
+        ensures frames { frames self.new ≡ frames self.old }
+        ensures stocked { stocked self.old → stocked self.new }
         ensures stands { (settings : Settings) (journal : Journal) → stands self.old settings journal → stands self.new settings journal }
         ensures released { released self.new };
 

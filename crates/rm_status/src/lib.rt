@@ -4,6 +4,7 @@
 
 mod assigns;
 mod both;
+mod change;
 mod columns;
 mod controls;
 mod denied;
@@ -30,6 +31,7 @@ mod wrong;
 
 pub use assigns::Assigns;
 pub use both::Both;
+pub use change::Change;
 pub use columns::Columns;
 pub use controls::{Controls, MAX_ROWS};
 pub use denied::Denied;

@@ -41,6 +41,10 @@ impl Group for System {
 
     ghost clock = { λ s. 0 };
 
+    ghost frames = { λ s. 0 };
+
+    ghost stocked = { λ s. Unit {0} };
+
     ghost cells = { λ settings journal now. cells_of (system_table now) };
 
     ghost alone = { read_only (is_of_column system_entry system_columns) };

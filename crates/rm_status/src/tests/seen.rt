@@ -62,6 +62,10 @@ impl Group for Seen {
 
     ghost clock = { λ s. 0 };
 
+    ghost frames = { λ s. s.frames };
+
+    ghost stocked = { λ s. Unit {0} };
+
     ghost alone = { read_only (is_of_column (1 ∷ 3 ∷ 6 ∷ 1 ∷ 2 ∷ 1 ∷ 1 ∷ []) (2 ∷ 4 ∷ [])) };
 
     ghost together = { λ settings journal now readings bindings place. None };

@@ -24,6 +24,10 @@ impl Group for Slot {
 
     ghost clock = { λ s. 0 };
 
+    ghost frames = { λ s. 0 };
+
+    ghost stocked = { λ s. Unit {0} };
+
     ghost cells = { λ settings journal now name. None };
 
     ghost alone = { λ name value. unless (not (is_of_column (1 ∷ 3 ∷ 6 ∷ 1 ∷ 2 ∷ 1 ∷ 1 ∷ []) (3 ∷ 5 ∷ []) name)) WrongValue };
