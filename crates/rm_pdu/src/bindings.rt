@@ -34,7 +34,7 @@ impl Model for Bindings {
 }
 
 impl Bindings {
-    ghost use Rattle.rm_val.specs.Spellable.{IsSpellable};
+    ghost use Rattle.rm_val.specs.Spellable.{IsSpellable, HasSpelling};
     ghost use Rattle.rm_pdu.specs.Message.{Binding};
     ghost use Rattle.rm_pdu.specs.Placed.{ArePlaced};
 
@@ -71,9 +71,11 @@ impl Bindings {
     pub fn value<'a>(&self, bytes: &'a [u8], place: usize) -> Value<'a>
         requires held { (bindings : List Binding) × ArePlaced bytes.now self.now bindings }
         requires place { place < length self.now }
-        ensures { (bindings : List Binding) → ArePlaced bytes.entry.now self.now bindings
+        ensures value { (bindings : List Binding) → ArePlaced bytes.entry.now self.now bindings
             → IfSome (slice_get bindings place) (λ binding. val_of result ≡ binding.value) }
+        ensures spelling { HasSpelling (val_of result) }
     {
+        values_are_spellable();
         let offsets = self.offsets_at(place);
         value_at(bytes, offsets.value)
     }

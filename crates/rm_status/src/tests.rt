@@ -181,7 +181,8 @@ enum Outcome {
 
 // Judges a Set at the moment 1000, and makes ready for it.
 fn prepare<G: Group>(alloc: Global, groups: &mut G, set: &Two) -> Outcome
-    requires { G.clock groups.old ≤ 1000 }
+    requires later { G.clock groups.old ≤ 1000 }
+    requires stocked { G.stocked groups.old }
 {
     if let Verdict::Wrong { status, index } = groups.judge_alone(set) {
         return Outcome::Refused(status, index);
