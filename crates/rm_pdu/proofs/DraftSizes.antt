@@ -30,6 +30,11 @@ short_size : (n : ℕ) → n ≤ 127 → element_size n ≤ n + 2
 unfolding header_size
 short_size n h = grind (arith, nat_tests)
 
+-- the element of a number
+pub length-integer : (z : ℤ) → length (value_element (int z)) ≡ element_size (integer_size z)
+unfolding integer_octets
+length-integer z = length-element 0x02 (integer_octets z) ∙ ap element_size (length-bytes (integer_size z) _)
+
 pub integer_short : (z : ℤ) → length (value_element (int z)) ≤ 11
 unfolding integer_octets
 integer_short z =

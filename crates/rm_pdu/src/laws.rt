@@ -1,5 +1,5 @@
 // Laws of messages and of what octets are. The bodies cite the laws of elements, and do nothing else.
-ghost use Rattle.std.specs.Prelude.{◌≡◌, ◌≤◌, ◌<◌, ◌++◌, ℕ, Bool, List, [], length, take};
+ghost use Rattle.std.specs.Prelude.{◌≡◌, ◌≤◌, ◌<◌, ◌++◌, ℕ, pos, Bool, List, [], length, take};
 ghost use Rattle.rm_pdu.specs.Message.{Binding, Message, message_octets};
 ghost use Rattle.rm_pdu.specs.Spells.{Spells};
 ghost use Rattle.rm_pdu.specs.Verdict.{Verdict, IsVerdict};
@@ -47,4 +47,11 @@ pub fn bindings_lengthen()
 /// A law: a message with no bindings and a community of at most 127 octets has at most 1472 canonical octets.
 pub fn empty_messages_are_short()
     ensures { (m : Message) → length m.community ≤ 127 → m.bindings ≡ [] → length (message_octets m) ≤ 1472 }
+{}
+
+/// A law: of the responses with an error-status of at most 127 and an error-index of at most 128, one with error-index 128 has the
+/// most canonical octets.
+pub fn index_128_is_longest()
+    ensures { (m : Message) (status index : ℕ) → status ≤ 127 → index ≤ 128
+        → length (message_octets (record m { first = pos status; second = pos index })) ≤ length (message_octets (record m { first = pos 0; second = pos 128 })) }
 {}

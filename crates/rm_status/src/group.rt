@@ -10,7 +10,7 @@ ghost use Rattle.rm_model.specs.Cells.{Cells, IsNext};
 ghost use Rattle.rm_model.specs.Finite.{AreFinite};
 ghost use Rattle.rm_model.specs.Judgement.{Bindings, IsFirstFault};
 ghost use Rattle.rm_status.specs.Look.{Readings};
-ghost use Rattle.rm_status.specs.Alone.{alone_at, AreFineAlone};
+ghost use Rattle.rm_status.specs.Alone.{alone_at, AreFineAlone, IsWithin};
 
 use crate::assigns::Assigns;
 use crate::denied::Denied;
@@ -86,7 +86,8 @@ pub trait Group {
         requires alone { AreFineAlone alone (A.bindings set.now) }
         ensures accepted { result ≡ Verdict.Fine → accepts self.now now (L.readings look.now now) (A.bindings set.now) }
         ensures verdict { let bindings = A.bindings set.now in (settings : Settings) (journal : Journal) → stands self.now settings journal → last_moment journal ≤ now
-            → IsFirstFault (length bindings) (together settings journal now (L.readings look.now now) bindings) result };
+            → IsFirstFault (length bindings) (together settings journal now (L.readings look.now now) bindings) result }
+        ensures within { IsWithin (length (A.bindings set.now)) result };
 
     /// Makes ready for a Set at a moment in milliseconds, with which both passes found nothing wrong, in a group that is
     /// stocked. Denied where there is no memory for a row that the Set makes valid beside another; a group that held nothing
@@ -108,7 +109,8 @@ pub trait Group {
         ensures ready { OnOk result (prepared self.new now (A.bindings set.now)) }
         ensures released { OnErr result (released self.old → released self.new) }
         ensures denied { IfErr result (λ denied. (settings : Settings) (journal : Journal) → stands self.old settings journal
-            → reserves settings journal (A.bindings set.now) denied.index) };
+            → reserves settings journal (A.bindings set.now) denied.index) }
+        ensures within { IfErr result (λ denied. denied.index ≤ length (A.bindings set.now)) };
 
     /// Does a Set at a moment in milliseconds, for which it was made ready. The values act all at once: of each variable the
     /// first binding counts. No memory is taken.

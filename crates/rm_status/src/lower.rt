@@ -3,6 +3,7 @@ ghost use Rattle.std.specs.Prelude.{◌≡◌, ℕ, Option};
 ghost use Rattle.std.specs.Option.{option_or};
 ghost use Rattle.rm_val.specs.declared.error.ErrorStatus.{ErrorStatus};
 ghost use Rattle.rm_model.specs.Judgement.{IsFirstFault};
+ghost use Rattle.rm_status.specs.Alone.{IsWithin};
 
 use rm_model::Verdict;
 
@@ -11,6 +12,7 @@ use rm_model::Verdict;
 pub fn lower_verdict(first: Verdict, second: Verdict) -> Verdict
     ensures lowest { (count : ℕ) (fault other_fault : ℕ → Option ErrorStatus) → IsFirstFault count fault first → IsFirstFault count other_fault second
         → IsFirstFault count (λ place. option_or (fault place) (other_fault place)) result }
+    ensures within { (count : ℕ) → IsWithin count first → IsWithin count second → IsWithin count result }
     ensures fine { result ≡ Verdict.Fine → (first ≡ Verdict.Fine) × (second ≡ Verdict.Fine) }
 {
     match (first, second) {

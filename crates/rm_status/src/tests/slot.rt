@@ -1,5 +1,5 @@
 // A group that holds a slot for a Set, where it has one.
-ghost use Rattle.std.specs.Prelude.{◌≡◌, ℕ, List, [], ◌∷◌, false, not, None};
+ghost use Rattle.std.specs.Prelude.{◌≡◌, ℕ, List, [], ◌∷◌, length, false, not, None};
 ghost use Rattle.rm_val.specs.declared.error.ErrorStatus.TheVariants.{WrongValue};
 ghost use Rattle.rm_model.specs.Cells.{is_of_column};
 ghost use Rattle.rm_model.specs.Judgement.{unless};
@@ -34,7 +34,7 @@ impl Group for Slot {
 
     ghost together = { λ settings journal now readings bindings place. None };
 
-    ghost reserves = { λ settings journal bindings index. index ≡ 2 };
+    ghost reserves = { λ settings journal bindings index. index ≡ length bindings };
 
     ghost accepts = { λ s now readings bindings. Unit {0} };
 
@@ -71,12 +71,14 @@ impl Group for Slot {
     fn prepare<A: Assigns, L: Look>(
         &mut self,
         _alloc: Global,
-        _set: &A,
+        set: &A,
         _now: u32,
         _look: &L,
     ) -> Result<(), Denied> {
         if !self.room {
-            return Err(Denied { index: 2 });
+            return Err(Denied {
+                index: set.count() as u32,
+            });
         }
         self.held = true;
         Ok(())

@@ -8,3 +8,7 @@ returns-clause-verdict g c settings journal stands later =
     c.lower_verdict.ensures.lowest (length b)
     (g.G.Group.together settings journal c.args.now read b) (g.H.Group.together settings journal c.args.now read b)
     (c.judge_rows-first.ensures.verdict settings journal stands.0 later) (c.judge_rows-second.ensures.verdict settings journal stands.1 later)
+
+pub returns-clause-within : goal.returns-clause-within
+returns-clause-within g c =
+    c.lower_verdict.ensures.within (length (g.A.Assigns.bindings c.args.set.now)) c.judge_rows-first.ensures.within c.judge_rows-second.ensures.within
