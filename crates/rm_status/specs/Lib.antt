@@ -8,3 +8,5 @@ pub mod Lending
 pub mod Taken
 pub mod MadeUp
 pub mod Change
+pub mod Values
+pub mod Indexes
