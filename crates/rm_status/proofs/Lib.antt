@@ -22,3 +22,4 @@ pub mod ReadOnly
 pub mod ColumnLaws
 pub mod IndexLemmas
 pub mod Named
+pub mod RowsAfterLemmas

@@ -10,3 +10,4 @@ pub mod MadeUp
 pub mod Change
 pub mod Values
 pub mod Indexes
+pub mod RowsAfter
