@@ -1,5 +1,5 @@
 -- The rows and their counters after each act.
-use Rattle.std.proofs.Common.{◌≡◌, ℕ, ◌+◌, ◌%◌, ◌^◌, ◌<◌, List, [], ◌∷◌, length, refl, sym, ◌∙◌, ap, subst, Bool, true, false, cond, ◌&&◌, Option, Some, None, nat_eq, option_map, arith}
+use Rattle.std.proofs.Common.{◌≡◌, ℕ, ◌+◌, ◌%◌, ◌^◌, ◌<◌, List, [], ◌∷◌, length, refl, sym, ◌∙◌, ap, Bool, true, false, cond, ◌&&◌, Option, Some, None, nat_eq, option_map, arith}
 use Rattle.std.specs.Prelude.{filter, unwrap_or}
 use Rattle.std.specs.List.{sum_by}
 use Rattle.std.specs.Option.{option_or, option_and_then}
@@ -12,14 +12,14 @@ use Rattle.rm_model.specs.Journal.{Frame, Assignments, Journal, passes, assigns,
 use Rattle.rm_model.specs.FrameFacts.{frame_facts}
 use Rattle.rm_model.specs.Interfaces.{interface_name, is_interface, frames_of}
 use Rattle.rm_model.specs.ControlTable.{default_of}
-use Rattle.rm_model.specs.ControlRows.{cell_name, value_ask, set_ask, next_state, is_absent, is_valid, state_of, set_value, since, stays_valid}
-use Rattle.rm_model.specs.Judgement.{Bindings, second_pass, rows_after}
+use Rattle.rm_model.specs.ControlRows.{cell_name, set_ask, next_state, is_absent, is_valid, set_value, since, stays_valid}
+use Rattle.rm_model.specs.Judgement.{Bindings, second_pass}
 use Rattle.rm_model.specs.declared.row.State.{State}
 use Rattle.rm_model.specs.declared.row.State.TheVariants.{Absent, UnderCreation, Valid}
 use Rattle.rm_status.specs.declared.row.Row.{Row}
 use Rattle.rm_status.specs.Rows.{row_in, rows_before, state_seen, columns_seen, AreControlRows}
 use Rattle.rm_status.specs.Change.{changed_row}
-use Rattle.rm_status.specs.Commit.{put_all, if_there, row_after}
+use Rattle.rm_status.specs.Commit.{put_all, row_after}
 use Rattle.rm_status.specs.RowsAfter.{AreRowsAfter}
 use Rattle.rm_status.proofs.Puts.{AllFine}
 use Rattle.rm_status.proofs.RowsAfterLemmas.{rows_passes, rows_changed, rows_assigns, since_idle, since_starts, frames_kept, all_leave, fixed_column}

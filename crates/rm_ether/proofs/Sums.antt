@@ -1,5 +1,5 @@
 -- Sums that are exact.
-use Rattle.std.proofs.Common.{◌≡◌, ℕ, ◌+◌, ◌*◌, ◌%◌, ◌^◌, ◌<◌, ◌≤◌, refl, sym, ap, ◌∙◌, subst, Bool, true, false, arith}
+use Rattle.std.proofs.Common.{◌≡◌, ◌+◌, ◌^◌, ◌<◌, ◌≤◌, ◌∙◌, Bool, true, false, arith}
 use Rattle.std.proofs.Math.Nat.{mod-eq_of_lt}
 use Rattle.rm_proto.specs.declared.known.Facts.{Facts}
 use Rattle.rm_ether.specs.declared.bounds.TheConstants.{MOST_OCTETS, MOST_FRAMES}

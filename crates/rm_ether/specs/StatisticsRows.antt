@@ -1,16 +1,15 @@
 -- The columns of a row of etherStats, as they are kept.
-use Rattle.std.specs.Prelude.{◌≡◌, ℕ, [], ◌∷◌, false, true, cond, nat_eq, Option, Some, None, refl, ◌&&◌, if◌then◌else◌, codes}
+use Rattle.std.specs.Prelude.{◌≡◌, ℕ, [], ◌∷◌, cond, nat_eq, Option, Some, None, refl, ◌&&◌, if◌then◌else◌, codes}
 use Rattle.arrayvec.specs.ArrayVec.{ArrayVec}
 use Rattle.rm_val.specs.Val.{Val, octets, name}
 use Rattle.rm_model.specs.Interfaces.{interface_name}
-use Rattle.rm_model.specs.ControlTable.{Column, data_source, text}
 use Rattle.rm_model.specs.ControlRows.{is_valid}
 use Rattle.rm_model.specs.Alike.{HasSameColumns}
 use Rattle.rm_model.specs.Judgement.{column_kind, value_fault}
 use Rattle.rm_model.specs.declared.row.State.{State}
 use Rattle.rm_proto.specs.declared.known.Facts.{Facts}
 use Rattle.rm_status.specs.Values.{interface_in, octets_in}
-use Rattle.rm_status.proofs.ColumnLaws.{Sets, no_columns, one_more, set_of, source_taken, text_taken}
+use Rattle.rm_status.proofs.ColumnLaws.{no_columns, one_more, set_of, source_taken, text_taken}
 use Rattle.rm_ether.specs.declared.row.StatisticsRow.{StatisticsRow}
 use Rattle.rm_ether.specs.EtherStats.{ether_stats, source_column, owner_column}
 use Rattle.rm_ether.specs.Standing.{no_sums, with_frame}

@@ -1,6 +1,3 @@
-use Rattle.std.proofs.Common.{ap, ◌∙◌, ◌+◌, sym, subst}
-use Rattle.rm_ether.specs.Counted.{counted_from}
-use Rattle.rm_ether.specs.Standing.{counter_of, AreBounded}
 use Rattle.rm_ether.proofs.Sums.{still_bounded}
 use Rattle.rm_ether.proofs.statistics.Statistics.pass.Goals as goal
 
