@@ -3,7 +3,7 @@ use Rattle.std.proofs.Common.{◌≡◌, ℕ, ◌+◌, [], ◌∷◌, refl, true
 use Rattle.std.specs.Prelude.{pos, codes}
 use Rattle.rm_val.specs.Val.{int, octets, name, counter}
 use Rattle.rm_model.specs.Settings.{Settings}
-use Rattle.rm_model.specs.Journal.{Act, passes, Journal}
+use Rattle.rm_model.specs.Journal.{Act, passes, assigns, Journal}
 use Rattle.rm_model.specs.Cells.{cells_of}
 use Rattle.rm_ether.specs.declared.counter.Counter.TheVariants.{Octets, Pkts, UndersizePkts, OversizePkts, Pkts64Octets, Pkts1024to1518Octets}
 use Rattle.rm_ether.specs.EtherStats.{ether_table, counter_sum}
@@ -73,3 +73,37 @@ source_shown = refl
 status_shown : cells_of (ether_table padded journal) (1 ∷ 3 ∷ 6 ∷ 1 ∷ 2 ∷ 1 ∷ 16 ∷ 1 ∷ 1 ∷ 1 ∷ 21 ∷ 1 ∷ []) ≡ Some (int (pos 1))
 unfolding column_of
 status_shown = refl
+
+-- Row 2 is made, set up and made valid, and counts from then on. Row 1 counts all frames.
+
+abbrev status_2 : ℕ → Act
+status_2 n = assigns 1000 ((record { name = 1 ∷ 3 ∷ 6 ∷ 1 ∷ 2 ∷ 1 ∷ 16 ∷ 1 ∷ 1 ∷ 1 ∷ 21 ∷ 2 ∷ []; value = int (pos n) }) ∷ [])
+
+abbrev owner_2 : Act
+owner_2 = assigns 1000 ((record { name = 1 ∷ 3 ∷ 6 ∷ 1 ∷ 2 ∷ 1 ∷ 16 ∷ 1 ∷ 1 ∷ 1 ∷ 20 ∷ 2 ∷ []; value = octets (codes "ops") }) ∷ [])
+
+abbrev two_rows : Journal
+two_rows = frame 1 60 ∷ owner_2 ∷ frame 1 60 ∷ status_2 1 ∷ status_2 1 ∷ frame 1 60 ∷ status_2 2 ∷ frame 1 60 ∷ []
+
+packets_of_2 : counter_sum padded two_rows (2 ∷ []) Pkts ≡ 2
+packets_of_2 = refl
+
+packets_of_1 : counter_sum padded two_rows (1 ∷ []) Pkts ≡ 4
+packets_of_1 = refl
+
+stopped : counter_sum padded (frame 1 60 ∷ status_2 3 ∷ two_rows) (2 ∷ []) Pkts ≡ 0
+stopped = refl
+
+started_anew : counter_sum padded (frame 1 60 ∷ status_2 1 ∷ frame 1 60 ∷ status_2 3 ∷ two_rows) (2 ∷ []) Pkts ≡ 1
+started_anew = refl
+
+owner_of_2 : cells_of (ether_table padded two_rows) (1 ∷ 3 ∷ 6 ∷ 1 ∷ 2 ∷ 1 ∷ 16 ∷ 1 ∷ 1 ∷ 1 ∷ 20 ∷ 2 ∷ []) ≡ Some (octets (codes "ops"))
+unfolding column_of
+owner_of_2 = refl
+
+under_creation : cells_of (ether_table padded (status_2 3 ∷ two_rows)) (1 ∷ 3 ∷ 6 ∷ 1 ∷ 2 ∷ 1 ∷ 16 ∷ 1 ∷ 1 ∷ 1 ∷ 21 ∷ 2 ∷ []) ≡ Some (int (pos 3))
+unfolding column_of
+under_creation = refl
+
+removed : cells_of (ether_table padded (status_2 4 ∷ two_rows)) (1 ∷ 3 ∷ 6 ∷ 1 ∷ 2 ∷ 1 ∷ 16 ∷ 1 ∷ 1 ∷ 1 ∷ 21 ∷ 2 ∷ []) ≡ None
+removed = refl

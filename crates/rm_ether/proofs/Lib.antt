@@ -1,4 +1,4 @@
-mod Steps
-mod Shown
 mod Examples
-mod Sets
+mod Steps
+mod Cells
+mod Sums

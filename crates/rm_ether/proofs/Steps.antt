@@ -1,21 +1,37 @@
--- The counters of row 1 after one more frame.
-use Rattle.std.proofs.Common.{◌≡◌, ℕ, ◌+◌, List, [], ◌∷◌, refl, sym, ◌∙◌, ap, Bool, true, false, cond, ◌&&◌, nat_eq, arith}
+-- The rows and their counters after each act.
+use Rattle.std.proofs.Common.{◌≡◌, ℕ, ◌+◌, ◌%◌, ◌^◌, ◌<◌, List, [], ◌∷◌, length, refl, sym, ◌∙◌, ap, Bool, true, false, cond, ◌&&◌, Option, Some, None, nat_eq, option_map, arith}
 use Rattle.std.specs.Prelude.{filter, unwrap_or}
 use Rattle.std.specs.List.{sum_by}
+use Rattle.std.specs.Option.{option_or, option_and_then}
 use Rattle.std.proofs.lemmas.List.Sums.{sum_by-cons}
-use Rattle.rm_model.specs.Settings.{Settings}
-use Rattle.rm_model.specs.Journal.{Frame, Journal, passes, frames_in}
-use Rattle.rm_model.specs.Interfaces.{interface_name, is_interface}
-use Rattle.rm_model.specs.ControlTable.{default_of}
-use Rattle.rm_model.specs.ControlRows.{since}
-use Rattle.rm_val.specs.Val.{name}
+use Rattle.std.proofs.Math.Nat.{mod-add-mod}
+use Rattle.rm_val.specs.Val.{Val, name}
 use Rattle.rm_proto.specs.declared.known.Facts.{Facts}
-use Rattle.rm_ether.specs.declared.counter.Counter.{Counter}
-use Rattle.rm_ether.specs.declared.statistics.Statistics.{Statistics}
+use Rattle.rm_model.specs.Settings.{Settings}
+use Rattle.rm_model.specs.Journal.{Frame, Assignments, Journal, passes, assigns, frames_in, value_given}
 use Rattle.rm_model.specs.FrameFacts.{frame_facts}
-use Rattle.rm_ether.specs.Counted.{counted, counted_from}
-use Rattle.rm_ether.specs.EtherStats.{ether_stats, ether_beginning, ether_column, counted_frames, counter_sum}
-use Rattle.rm_ether.specs.Standing.{counter_of, IsRow1}
+use Rattle.rm_model.specs.Interfaces.{interface_name, is_interface, frames_of}
+use Rattle.rm_model.specs.ControlTable.{default_of}
+use Rattle.rm_model.specs.ControlRows.{cell_name, set_ask, next_state, is_absent, is_valid, set_value, since, stays_valid}
+use Rattle.rm_model.specs.Judgement.{Bindings, second_pass}
+use Rattle.rm_model.specs.declared.row.State.{State}
+use Rattle.rm_model.specs.declared.row.State.TheVariants.{Absent, UnderCreation, Valid}
+use Rattle.rm_status.specs.declared.row.Row.{Row}
+use Rattle.rm_status.specs.Rows.{row_in, rows_before, state_seen, columns_seen, AreControlRows}
+use Rattle.rm_status.specs.Change.{changed_row}
+use Rattle.rm_status.specs.Commit.{put_all, row_after}
+use Rattle.rm_status.specs.RowsAfter.{AreRowsAfter}
+use Rattle.rm_status.proofs.Puts.{AllFine}
+use Rattle.rm_status.proofs.RowsAfterLemmas.{rows_passes, rows_changed, rows_assigns, since_idle, since_starts, frames_kept, all_leave, fixed_column}
+use Rattle.rm_ether.specs.declared.counter.Counter.{Counter}
+use Rattle.rm_ether.specs.declared.counter.Counter.TheVariants.{DropEvents, Octets, Pkts, BroadcastPkts, MulticastPkts, CRCAlignErrors, UndersizePkts, OversizePkts, Fragments, Jabbers, Collisions, Pkts64Octets, Pkts65to127Octets, Pkts128to255Octets, Pkts256to511Octets, Pkts512to1023Octets, Pkts1024to1518Octets}
+use Rattle.rm_ether.specs.declared.statistics.Statistics.{Statistics}
+use Rattle.rm_ether.specs.declared.row.StatisticsRow.{StatisticsRow}
+use Rattle.rm_ether.specs.Counted.{counted}
+use Rattle.rm_ether.specs.EtherStats.{ether_stats, ether_beginning, ether_state, ether_column, counted_frames, counter_sum}
+use Rattle.rm_ether.specs.Standing.{counter_of, no_sums, with_frame}
+use Rattle.rm_ether.specs.StatisticsRows.{set_to, with_column, blank_row, blank_alike, set_with, counting, resting}
+use Rattle.rm_ether.specs.Group.{AreCounted}
 
 -- a sum over the frames that pass a test, with one more
 sum_by-filter-cons : (f : Frame → ℕ) (test : Frame → Bool) (frame : Frame) (frames : List Frame) → sum_by f (filter test (frame ∷ frames)) ≡ sum_by f (filter test frames) + cond (test frame) (f frame) 0
@@ -29,41 +45,257 @@ and_true : (b : Bool) → (b && true) ≡ b
 and_true true = refl
 and_true false = refl
 
-is_source : (number : ℕ) → is_interface (name (interface_name 1)) number ≡ nat_eq 1 number
-is_source number = and_true (nat_eq 1 number)
+is_source : (source number : ℕ) → is_interface (name (interface_name source)) number ≡ nat_eq source number
+is_source source number = and_true (nat_eq source number)
 
-module _ (settings : Settings) (journal : Journal) (statistics : Statistics) (is : IsRow1 statistics settings journal) where
-  -- the data source of row 1 is interface 1
-  pub row_source : ether_column journal (1 ∷ []) 2 ≡ name (interface_name 1)
-  row_source = ap (λ set. unwrap_or set (default_of ether_stats 2)) (is.columns 2 refl)
+pub no_sum : (each : Counter) → counter_of no_sums each ≡ 0
+no_sum DropEvents = refl
+no_sum Octets = refl
+no_sum Pkts = refl
+no_sum BroadcastPkts = refl
+no_sum MulticastPkts = refl
+no_sum CRCAlignErrors = refl
+no_sum UndersizePkts = refl
+no_sum OversizePkts = refl
+no_sum Fragments = refl
+no_sum Jabbers = refl
+no_sum Collisions = refl
+no_sum Pkts64Octets = refl
+no_sum Pkts65to127Octets = refl
+no_sum Pkts128to255Octets = refl
+no_sum Pkts256to511Octets = refl
+no_sum Pkts512to1023Octets = refl
+no_sum Pkts1024to1518Octets = refl
 
-  module _ (frame : Frame) where
+pub one_more_sum : (facts : Facts) (statistics : Statistics) (each : Counter) → counter_of (with_frame facts statistics) each ≡ (counter_of statistics each + counted each facts) % 2 ^ 64
+one_more_sum facts statistics DropEvents = refl
+one_more_sum facts statistics Octets = refl
+one_more_sum facts statistics Pkts = refl
+one_more_sum facts statistics BroadcastPkts = refl
+one_more_sum facts statistics MulticastPkts = refl
+one_more_sum facts statistics CRCAlignErrors = refl
+one_more_sum facts statistics UndersizePkts = refl
+one_more_sum facts statistics OversizePkts = refl
+one_more_sum facts statistics Fragments = refl
+one_more_sum facts statistics Jabbers = refl
+one_more_sum facts statistics Collisions = refl
+one_more_sum facts statistics Pkts64Octets = refl
+one_more_sum facts statistics Pkts65to127Octets = refl
+one_more_sum facts statistics Pkts128to255Octets = refl
+one_more_sum facts statistics Pkts256to511Octets = refl
+one_more_sum facts statistics Pkts512to1023Octets = refl
+one_more_sum facts statistics Pkts1024to1518Octets = refl
+
+-- a row that is changed was there
+was_there : (f : Row StatisticsRow → Row StatisticsRow) (o : Option (Row StatisticsRow)) (row : Row StatisticsRow) → option_map f o ≡ Some row → (old : Row StatisticsRow) × (o ≡ Some old) × (f old ≡ row)
+was_there f None row e = absurd (cc)
+was_there f (Some old) row e = (old, refl, cc)
+
+abbrev of_frames : Settings → Counter → List Frame → ℕ
+of_frames settings each frames = sum_by (λ frame. counted each (frame_facts settings frame)) frames
+
+-- nothing was counted by a row that isn't valid
+idle_sum : (settings : Settings) (journal : Journal) (index : List ℕ) (each : Counter) → since ether_stats ether_beginning journal index ≡ [] → counter_sum settings journal index each ≡ 0
+idle_sum settings journal index each none = ap (λ acts. of_frames settings each (frames_of (ether_column journal index 2) (frames_in acts))) none
+
+module _ (rows : List (Row StatisticsRow)) (journal : Journal) (is : AreRowsAfter ether_stats ether_beginning set_to rows journal) (i : ℕ) (row : Row StatisticsRow) (here : row_in rows i ≡ Some row) where
+  pub state_is : row.state ≡ ether_state journal (i ∷ [])
+  state_is = ap state_seen (sym here) ∙ is.alike.states i
+
+  module _ (there : is_absent row.state ≡ false) where
+    shown_at : is_absent (state_seen (row_in rows i)) ≡ false
+    shown_at = ap (λ o. is_absent (state_seen o)) here ∙ there
+
+    -- what the row shows as its data source and its owner
+    pub source_is : name (interface_name row.columns.source) ≡ ether_column journal (i ∷ []) 2
+    source_is = ap (λ o. unwrap_or (option_and_then (λ c. set_to c 2) (columns_seen o)) (default_of ether_stats 2)) (sym here) ∙ (is.alike.columns i shown_at).0.shown
+
+    pub owner_is : Rattle.rm_val.specs.Val.octets row.columns.owner.items ≡ ether_column journal (i ∷ []) 20
+    owner_is = ap (λ o. unwrap_or (option_and_then (λ c. set_to c 20) (columns_seen o)) (default_of ether_stats 20)) (sym here) ∙ (is.alike.columns i shown_at).1.0.shown
+
+there_is : (s : State) → is_valid s ≡ true → is_absent s ≡ false
+there_is Absent h = cc
+there_is UnderCreation h = refl
+there_is Valid h = refl
+
+-- One more frame.
+module _ (settings : Settings) (journal : Journal) (frame : Frame) (facts : Facts) (known : facts ≡ frame_facts settings frame) (rows new : List (Row StatisticsRow))
+    (changed : (i : ℕ) → row_in new i ≡ option_map (changed_row (λ index state row. counting facts state row)) (row_in rows i))
+    (is : AreRowsAfter ether_stats ether_beginning set_to rows journal) (sums : AreCounted rows settings journal) where
+  abbrev longer : Journal
+  longer = passes frame ∷ journal
+
+  counting_keeps : (index : ℕ) (state : State) (row : StatisticsRow) (n : ℕ) → set_to (counting facts state row) n ≡ set_to row n
+  counting_keeps index state row n =
+      elim (is_valid state && nat_eq row.source facts.interface) as (λ b. set_to (cond b (record row { statistics = with_frame facts row.statistics }) row) n ≡ set_to row n) [ true ↦ refl | false ↦ refl ]
+
+  pub rows_with_frame : AreRowsAfter ether_stats ether_beginning set_to new longer
+  rows_with_frame =
+      rows_passes ether_stats ether_beginning set_to new journal frame
+      (rows_changed ether_stats ether_beginning set_to (λ index state row. counting facts state row) counting_keeps rows new changed journal is)
+
+  module _ (i : ℕ) (row : Row StatisticsRow) (here : row_in rows i ≡ Some row) (each : Counter) where
+    abbrev index : List ℕ
+    index = i ∷ []
+
+    state : row.state ≡ ether_state journal index
+    state = state_is rows journal is i row here
+
+    old_sum : counter_of row.columns.statistics each ≡ counter_sum settings journal index each % 2 ^ 64
+    old_sum = sums i row here each
+
+    idle : is_valid row.state ≡ false → counter_of row.columns.statistics each ≡ counter_sum settings longer index each % 2 ^ 64
+    idle e =
+        let not_valid : is_valid (ether_state journal index) ≡ false = ap is_valid (sym state) ∙ e in
+        old_sum
+        ∙ ap (λ n. n % 2 ^ 64) (idle_sum settings journal index each (since_idle ether_stats ether_beginning journal index not_valid)
+        ∙ sym (idle_sum settings longer index each (since_idle ether_stats ether_beginning longer index not_valid)))
+
     of_source : Frame → Bool
-    of_source other = is_interface (ether_column journal (1 ∷ []) 2) other.interface
+    of_source other = is_interface (ether_column journal index 2) other.interface
 
     frames_before : List Frame
-    frames_before = frames_in (since ether_stats ether_beginning journal (1 ∷ []))
+    frames_before = frames_in (since ether_stats ether_beginning journal index)
 
-    frames_more : counted_frames (passes frame ∷ journal) (1 ∷ []) ≡ filter of_source (frame ∷ frames_before)
+    longer_sum : is_valid row.state ≡ true → counter_sum settings longer index each ≡ counter_sum settings journal index each + cond (nat_eq row.columns.source facts.interface) (counted each facts) 0
     unfolding of_source frames_before
-    frames_more = rw (is.states (1 ∷ [])) refl
-
-    sum_more : (each : Counter) → counter_sum settings (passes frame ∷ journal) (1 ∷ []) each ≡ counter_sum settings journal (1 ∷ []) each + counted_from 1 each (frame_facts settings frame)
-    unfolding of_source frames_before
-    sum_more each =
+    longer_sum e =
+        let valid : is_valid (ether_state journal index) ≡ true = ap is_valid (sym state) ∙ e in
         let f : Frame → ℕ = λ other. counted each (frame_facts settings other) in
-        let source : of_source frame ≡ nat_eq 1 frame.interface = ap (λ source. is_interface source frame.interface) row_source ∙ is_source frame.interface in
-        ap (sum_by f) frames_more ∙ sum_by-filter-cons f of_source frame frames_before
-        ∙ ap (λ counts. counter_sum settings journal (1 ∷ []) each + cond counts (f frame) 0) source
+        let more : counted_frames longer index ≡ filter of_source (frame ∷ frames_before) = rw valid refl in
+        let source : of_source frame ≡ nat_eq row.columns.source frame.interface = ap (λ source. is_interface source frame.interface) (sym (source_is rows journal is i row here (there_is row.state e))) ∙ is_source row.columns.source frame.interface in
+        ap (sum_by f) more ∙ sum_by-filter-cons f of_source frame frames_before
+        ∙ ap (λ counts. counter_sum settings journal index each + cond counts (f frame) 0) source
+        ∙ ap (λ (facts : Facts). counter_sum settings journal index each + cond (nat_eq row.columns.source facts.interface) (counted each facts) 0) (sym known)
 
-    -- one more frame, with these facts
-    pub row_more : (facts : Facts) → facts ≡ frame_facts settings frame → (more : Statistics) → ((each : Counter) → counter_of more each ≡ counter_of statistics each + counted_from 1 each facts) → IsRow1 more settings (passes frame ∷ journal)
-    row_more facts known more sums = record {
-      states = is.states;
-      columns = is.columns;
-      counters = λ each.
-          sums each
-          ∙ ap (λ (facts : Facts). counter_of statistics each + counted_from 1 each facts) known
-          ∙ ap (λ n. n + counted_from 1 each (frame_facts settings frame)) (is.counters each)
-          ∙ sym (sum_more each);
-    }
+    valid_sum : is_valid row.state ≡ true → (b : Bool) → nat_eq row.columns.source facts.interface ≡ b → counter_of (cond b (record row.columns { statistics = with_frame facts row.columns.statistics }) row.columns).statistics each ≡ counter_sum settings longer index each % 2 ^ 64
+    valid_sum e true same =
+        one_more_sum facts row.columns.statistics each
+        ∙ ap (λ n. (n + counted each facts) % 2 ^ 64) old_sum
+        ∙ mod-add-mod (counter_sum settings journal index each) (2 ^ 64) (counted each facts)
+        ∙ ap (λ n. n % 2 ^ 64) (sym (longer_sum e ∙ ap (λ b. counter_sum settings journal index each + cond b (counted each facts) 0) same))
+    valid_sum e false other =
+        old_sum ∙ ap (λ n. n % 2 ^ 64) (sym (longer_sum e ∙ ap (λ b. counter_sum settings journal index each + cond b (counted each facts) 0) other ∙ omega arith))
+
+    counted_sum : (b : Bool) → is_valid row.state ≡ b → counter_of (cond (b && nat_eq row.columns.source facts.interface) (record row.columns { statistics = with_frame facts row.columns.statistics }) row.columns).statistics each ≡ counter_sum settings longer index each % 2 ^ 64
+    counted_sum true e = valid_sum e (nat_eq row.columns.source facts.interface) refl
+    counted_sum false e = idle e
+
+  pub counters_with_frame : AreCounted new settings longer
+  counters_with_frame i row here each =
+      let old = was_there (changed_row (λ index state row. counting facts state row)) (row_in rows i) row (sym (changed i) ∙ here) in
+      ap (λ (r : Row StatisticsRow). counter_of r.columns.statistics each) (sym old.2) ∙ counted_sum i old.0 old.1 each (is_valid old.0.state) refl
+
+-- A Set with which nothing is wrong.
+
+in_some : {A : Type 0} (x y : A) → Some x ≡ Some y → x ≡ y
+in_some x y e = cc
+
+-- a row that is there after a Set has its next state and the bindings in its columns
+is_after : (bs : Bindings) (i : ℕ) (o : Option (Row StatisticsRow)) (row : Row StatisticsRow) → row_after ether_stats with_column blank_row bs i o ≡ Some row
+    → (row.state ≡ next_state (set_ask ether_stats bs (i ∷ [])) (state_seen o)) × (row.columns ≡ put_all ether_stats with_column blank_row bs i (unwrap_or (columns_seen o) blank_row))
+is_after bs i o row is =
+    let next : State = next_state (set_ask ether_stats bs (i ∷ [])) (state_seen o) in
+    let columns : StatisticsRow = put_all ether_stats with_column blank_row bs i (unwrap_or (columns_seen o) blank_row) in
+    let made : Row StatisticsRow = record { index = i; state = next; columns = columns } in
+    let same : made ≡ row = there made (is_absent next) is in
+    (ap (λ r. r.state) (sym same), ap (λ r. r.columns) (sym same))
+  where
+    there : (made : Row StatisticsRow) (b : Bool) → cond b None (Some made) ≡ Some row → made ≡ row
+    there made true e = absurd (cc)
+    there made false e = in_some made row e
+
+valid_is : (s : State) → is_valid s ≡ true → s ≡ Valid
+valid_is Absent h = cc
+valid_is UnderCreation h = cc
+valid_is Valid h = refl
+
+both : (a b : Bool) → (a && b) ≡ true → (a ≡ true) × (b ≡ true)
+both true b h = (refl, h)
+both false b h = absurd (cc)
+
+not_first : (a b : Bool) → b ≡ true → (a && b) ≡ false → a ≡ false
+not_first true b is h = absurd (cc)
+not_first false b is h = refl
+
+module _ (settings : Settings) (journal : Journal) (moment : ℕ) (bs : Bindings) (values : Assignments)
+    (gives : (name : List ℕ) → value_given values name ≡ value_given bs name)
+    (fine : AllFine ether_stats bs)
+    (rows middle new : List (Row StatisticsRow)) (held : AreControlRows rows)
+    (together : (k : ℕ) → k < length bs → second_pass ether_stats (rows_before set_to rows) bs k ≡ None)
+    (after : (i : ℕ) → row_in middle i ≡ row_after ether_stats with_column blank_row bs i (row_in rows i))
+    (rested : (i : ℕ) → row_in new i ≡ option_map (changed_row (λ index state row. resting state row)) (row_in middle i))
+    (is : AreRowsAfter ether_stats ether_beginning set_to rows journal) (sums : AreCounted rows settings journal) where
+  abbrev with_set : Journal
+  with_set = assigns moment values ∷ journal
+
+  resting_keeps : (number : ℕ) (state : State) (row : StatisticsRow) (n : ℕ) → set_to (resting state row) n ≡ set_to row n
+  resting_keeps number state row n = elim (is_valid state) as (λ b. set_to (cond b row (record row { statistics = no_sums })) n ≡ set_to row n) [ true ↦ refl | false ↦ refl ]
+
+  middle_rows : AreRowsAfter ether_stats ether_beginning set_to middle with_set
+  middle_rows = rows_assigns ether_stats ether_beginning set_to with_column blank_row set_with blank_alike refl journal moment bs values gives fine rows middle held is after
+
+  pub rows_with_set : AreRowsAfter ether_stats ether_beginning set_to new with_set
+  rows_with_set = rows_changed ether_stats ether_beginning set_to (λ index state row. resting state row) resting_keeps middle new rested with_set middle_rows
+
+  module _ (i : ℕ) (mid : Row StatisticsRow) (here : row_in middle i ≡ Some mid) (each : Counter) where
+    abbrev place : List ℕ
+    place = i ∷ []
+
+    abbrev was : Option (Row StatisticsRow)
+    was = row_in rows i
+
+    next : (mid.state ≡ next_state (set_ask ether_stats bs place) (state_seen was)) × (mid.columns ≡ put_all ether_stats with_column blank_row bs i (unwrap_or (columns_seen was) blank_row))
+    next = is_after bs i was mid (sym (after i) ∙ here)
+
+    new_state : mid.state ≡ ether_state with_set place
+    new_state = state_is middle with_set middle_rows i mid here
+
+    sums_left : mid.columns.statistics ≡ (unwrap_or (columns_seen was) blank_row).statistics
+    sums_left = ap (λ c. c.statistics) next.1 ∙ all_leave ether_stats with_column blank_row (λ c. c.statistics) (λ c n v. refl) bs i (unwrap_or (columns_seen was) blank_row)
+
+    -- a row that wasn't valid had counted nothing
+    none_before : (o : Option (Row StatisticsRow)) → was ≡ o → is_valid (ether_state journal place) ≡ false → counter_of (unwrap_or (columns_seen o) blank_row).statistics each ≡ 0
+    none_before None e idle = no_sum each
+    none_before (Some row) e idle = sums i row e each ∙ ap (λ n. n % 2 ^ 64) (idle_sum settings journal place each (since_idle ether_stats ether_beginning journal place idle))
+
+    -- a row that was valid had counted what the journal gives
+    sum_before : (o : Option (Row StatisticsRow)) → was ≡ o → is_valid (ether_state journal place) ≡ true → counter_of (unwrap_or (columns_seen o) blank_row).statistics each ≡ counter_sum settings journal place each % 2 ^ 64
+    sum_before None e valid =
+        let absent : Absent ≡ ether_state journal place = ap state_seen (sym e) ∙ is.alike.states i in
+        let no : is_valid Absent ≡ true = ap is_valid absent ∙ valid in
+        absurd (cc)
+    sum_before (Some row) e valid = sums i row e each
+
+    -- the data source of a row that stays valid is as it was
+    same_source : is_valid (ether_state journal place) ≡ true → is_valid mid.state ≡ true → ether_column with_set place 2 ≡ ether_column journal place 2
+    same_source old valid =
+        let was_valid : state_seen was ≡ Valid = is.alike.states i ∙ valid_is (ether_state journal place) old in
+        let stays : is_valid (next_state (set_ask ether_stats bs place) Valid) ≡ true = ap (λ s. is_valid (next_state (set_ask ether_stats bs place) s)) (sym was_valid) ∙ sym (ap is_valid next.0) ∙ valid in
+        let unbound : value_given values (cell_name ether_stats.entry 2 place) ≡ None = gives (cell_name ether_stats.entry 2 place) ∙ fixed_column ether_stats (rows_before set_to rows) bs together 2 i refl refl was_valid stays in
+        ap (λ o. unwrap_or (option_or o (cond (is_absent (ether_state journal place)) None (set_value ether_stats ether_beginning journal place 2))) (default_of ether_stats 2)) unbound
+        ∙ ap (λ b. unwrap_or (cond b None (set_value ether_stats ether_beginning journal place 2)) (default_of ether_stats 2)) (there_is (ether_state journal place) old)
+
+    valid_with_set : is_valid mid.state ≡ true → (b : Bool) → stays_valid ether_stats ether_beginning (assigns moment values) journal place ≡ b → counter_of mid.columns.statistics each ≡ counter_sum settings with_set place each % 2 ^ 64
+    valid_with_set valid true stays =
+        let old : is_valid (ether_state journal place) ≡ true = (both (is_valid (ether_state journal place)) (is_valid (ether_state with_set place)) stays).0 in
+        let frames : frames_in (since ether_stats ether_beginning with_set place) ≡ frames_in (since ether_stats ether_beginning journal place) = frames_kept ether_stats ether_beginning moment values journal place stays in
+        ap (λ s. counter_of s each) sums_left ∙ sum_before was refl old
+        ∙ ap (λ n. n % 2 ^ 64) (sym (
+        ap (λ source. of_frames settings each (frames_of source (frames_in (since ether_stats ether_beginning with_set place)))) (same_source old valid)
+        ∙ ap (λ frames. of_frames settings each (frames_of (ether_column journal place 2) frames)) frames))
+    valid_with_set valid false starts =
+        let idle : is_valid (ether_state journal place) ≡ false = not_first (is_valid (ether_state journal place)) (is_valid (ether_state with_set place)) (sym (ap is_valid new_state) ∙ valid) starts in
+        ap (λ s. counter_of s each) sums_left ∙ none_before was refl idle
+        ∙ sym (ap (λ n. n % 2 ^ 64) (idle_sum settings with_set place each (since_starts ether_stats ether_beginning (assigns moment values) journal place starts)))
+
+    rested_sum : (b : Bool) → is_valid mid.state ≡ b → counter_of (cond b mid.columns (record mid.columns { statistics = no_sums })).statistics each ≡ counter_sum settings with_set place each % 2 ^ 64
+    rested_sum true valid = valid_with_set valid (stays_valid ether_stats ether_beginning (assigns moment values) journal place) refl
+    rested_sum false idle =
+        let not_valid : is_valid (ether_state with_set place) ≡ false = ap is_valid (sym new_state) ∙ idle in
+        no_sum each ∙ sym (ap (λ n. n % 2 ^ 64) (idle_sum settings with_set place each (since_idle ether_stats ether_beginning with_set place not_valid)))
+
+  pub counters_with_set : AreCounted new settings with_set
+  counters_with_set i row here each =
+      let mid = was_there (changed_row (λ index state row. resting state row)) (row_in middle i) row (sym (rested i) ∙ here) in
+      ap (λ (r : Row StatisticsRow). counter_of r.columns.statistics each) (sym mid.2) ∙ rested_sum i mid.0 mid.1 each (is_valid mid.0.state) refl

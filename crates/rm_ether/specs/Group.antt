@@ -1,25 +1,46 @@
 -- The group statistics, as a caller sees it.
-use Rattle.std.specs.Prelude.{ℕ, ◌≤◌, List, [], ◌∷◌}
+use Rattle.std.specs.Prelude.{◌≡◌, ℕ, ◌%◌, ◌^◌, List, [], ◌∷◌, length, Option, Some}
+use Rattle.rm_val.specs.Val.{Val}
+use Rattle.rm_val.specs.declared.error.ErrorStatus.{ErrorStatus}
 use Rattle.rm_model.specs.Settings.{Settings}
-use Rattle.rm_model.specs.Journal.{Frame, Journal, frames_in}
+use Rattle.rm_model.specs.Journal.{Journal}
+use Rattle.rm_model.specs.Judgement.{Bindings, place_of, alone_fault, second_pass, IsFirstFault}
+use Rattle.rm_model.specs.declared.verdict.Verdict.TheVariants.{Fine}
+use Rattle.rm_status.specs.declared.row.Row.{Row}
+use Rattle.rm_status.specs.Rows.{row_in, rows_before}
+use Rattle.rm_status.specs.Alone.{AreFineAlone}
+use Rattle.rm_status.specs.RowsAfter.{AreRowsAfter}
+use Rattle.rm_ether.specs.declared.counter.Counter.{Counter}
+use Rattle.rm_ether.specs.declared.row.StatisticsRow.{StatisticsRow}
 use Rattle.rm_ether.specs.declared.ether.Ether.{Ether}
-use Rattle.rm_ether.specs.Standing.{IsRow1}
+use Rattle.rm_ether.specs.EtherStats.{ether_entry, ether_stats, ether_beginning, counter_sum}
+use Rattle.rm_ether.specs.Standing.{counter_of}
+use Rattle.rm_ether.specs.StatisticsRows.{set_to}
 
 -- how many frames the group was given
 abbrev pub frames_given : Ether → ℕ
 frames_given ether = ether.frames
 
--- the moment of the frame that it was given last, 0 before the first
+-- the moment of the frame or the Set that it was given last, 0 before the first
 abbrev pub last_given : Ether → ℕ
 last_given ether = ether.last
 
--- the moment of the newest of some frames, 0 where there is none
-abbrev pub newest_moment : List Frame → ℕ
-newest_moment [] = 0
-newest_moment (frame ∷ earlier) = frame.moment
+-- each counter of each row is the sum that the journal gives, modulo 2 ^ 64
+abbrev pub AreCounted : List (Row StatisticsRow) → Settings → Journal → Type 0
+AreCounted rows settings journal =
+    (index : ℕ) (row : Row StatisticsRow) → row_in rows index ≡ Some row
+    → (each : Counter) → counter_of row.columns.statistics each ≡ counter_sum settings journal (index ∷ []) each % 2 ^ 64
 
--- The group stands for a journal: it keeps the counters that the journal gives, and no frame of the journal is later
--- than the one that it was given last.
+-- The group stands for a journal: its rows are those after the journal, with the counters that the journal gives.
 pub record Stands (ether : Ether) (settings : Settings) (journal : Journal) : Type 0 where
-  pub row : IsRow1 ether.statistics settings journal
-  pub last : newest_moment (frames_in journal) ≤ ether.last
+  pub rows : AreRowsAfter ether_stats ether_beginning set_to ether.rows journal
+  pub counters : AreCounted ether.rows settings journal
+
+-- what is wrong with a binding alone
+abbrev pub ether_alone : List ℕ → Val → Option ErrorStatus
+ether_alone name value = alone_fault ether_stats (place_of ether_entry name) value
+
+-- both passes find nothing wrong with a Set, by the rows that are kept
+pub record AreFine (ether : Ether) (bindings : Bindings) : Type 0 where
+  pub alone : AreFineAlone ether_alone bindings
+  pub together : IsFirstFault (length bindings) (second_pass ether_stats (rows_before set_to ether.rows) bindings) Fine

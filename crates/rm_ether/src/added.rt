@@ -1,8 +1,7 @@
 // What a frame adds to a counter.
-ghost use Rattle.std.specs.Prelude.{◌≡◌, ◌≤◌};
+ghost use Rattle.std.specs.Prelude.{◌≡◌, ◌+◌, ◌%◌, ◌^◌};
 ghost use Rattle.rm_ether.specs.Counted.{counted, one_if, has_octets};
 
-use crate::bounds::MOST_OCTETS;
 use crate::counter::Counter;
 use rm_proto::{Cast, Facts};
 
@@ -13,9 +12,7 @@ const UNDERSIZE: u8 = 2;
 
 /// What a frame adds to a counter. A capture doesn't tell of frames that were dropped or damaged, nor of collisions.
 pub fn added(counter: Counter, facts: &Facts) -> u64
-    requires { facts.now.length ≤ MOST_OCTETS }
-    ensures value { result ≡ counted counter facts.now }
-    ensures fits { result ≤ MOST_OCTETS }
+    ensures { result ≡ counted counter facts.now }
 {
     match counter {
         Counter::Octets => u64::from(facts.length),
@@ -38,10 +35,16 @@ pub fn added(counter: Counter, facts: &Facts) -> u64
     }
 }
 
+/// Adds to a sum what a frame adds to that counter, modulo 2^64.
+pub fn add(sum: &mut u64, counter: Counter, facts: &Facts)
+    ensures { sum.new ≡ (sum.old + counted counter facts.now) % 2 ^ 64 }
+{
+    *sum = sum.wrapping_add(added(counter, facts));
+}
+
 // 1 for a frame that counts, 0 for one that doesn't.
 fn one_if(counts: bool) -> u64
-    ensures value { result ≡ one_if counts }
-    ensures fits { result ≤ 1 }
+    ensures { result ≡ one_if counts }
 {
     u64::from(counts)
 }

@@ -1,28 +1,19 @@
-// The cells of row 1.
-ghost use Rattle.std.specs.Prelude.{◌≡◌, ◌%◌, ◌^◌, IfSome};
+// The cells of etherStats.
+ghost use Rattle.std.specs.Prelude.{◌≡◌, ◌≤◌, ◌%◌, ◌^◌, Some, IfSome};
 ghost use Rattle.std.specs.Option.{option_map};
 ghost use Rattle.rm_val.specs.Val.{val_of};
 ghost use Rattle.rm_val.specs.Spellable.{HasSpelling};
-ghost use Rattle.rm_model.specs.Cells.{cells_of};
+ghost use Rattle.rm_model.specs.Cells.{cells_of, cell_at};
+ghost use Rattle.rm_model.specs.ControlRows.{entry_status};
 ghost use Rattle.rm_ether.specs.EtherStats.{ether_entry};
-ghost use Rattle.rm_ether.specs.Standing.{row_value, row_table};
+ghost use Rattle.rm_ether.specs.Columns.{column_of};
+ghost use Rattle.rm_ether.specs.Shown.{row_value, rows_table};
 
 use crate::column::{COLUMNS, Column};
-use crate::statistics::Statistics;
-use rm_status::{OneRow, instance_of, interface_name};
+use crate::row::StatisticsRow;
+use rm_model::Instance;
+use rm_status::{Controls, State, instance_of, interface_name};
 use rm_val::{Oid, Value};
-
-/// The index of the row.
-const ROW: u32 = 1;
-
-/// The rows of the table: row 1.
-pub const ROWS: OneRow = OneRow { number: ROW };
-
-/// The interface whose frames row 1 counts.
-pub const SOURCE: u32 = 1;
-
-/// The status of a valid row, as an EntryStatus (RFC 1757, section 5).
-const VALID: i32 = 1;
 
 /// The identifier of etherStatsEntry.
 pub fn entry() -> Oid
@@ -31,29 +22,53 @@ pub fn entry() -> Oid
     Oid::from_slice(&[1, 3, 6, 1, 2, 1, 16, 1, 1, 1]).unwrap()
 }
 
-/// The value of the cell with that name, by the counters of row 1. None where the table has no such cell.
-pub fn cell_of(statistics: &Statistics, name: &Oid) -> Option<Value<'static>>
-    ensures value { option_map val_of result ≡ cells_of (row_table statistics.now) name.now }
+/// The value of the cell with that name, by the rows. None where the table has no such cell.
+pub fn cell_of<'a>(rows: &'a Controls<StatisticsRow>, name: &Oid) -> Option<Value<'a>>
+    ensures value { option_map val_of result ≡ cells_of (rows_table rows.now) name.now }
     ensures spelling { IfSome result (λ value. HasSpelling (val_of value)) }
 {
     let at = instance_of(name, &entry(), &COLUMNS)?;
-    if !ROWS.has(&at.index) {
-        return None;
-    }
-    Some(value_of(statistics, Column::numbered(at.column)))
+    instance_value(rows, &at)
 }
 
-// What a column of row 1 shows.
-fn value_of(statistics: &Statistics, column: Column) -> Value<'static>
-    ensures value { val_of result ≡ row_value statistics.now column }
+// The value at an instance, if there is such a row.
+fn instance_value<'a>(rows: &'a Controls<StatisticsRow>, at: &Instance) -> Option<Value<'a>>
+    ensures value { option_map val_of result ≡ cell_at (rows_table rows.now) (Some at.now) }
+    ensures spelling { IfSome result (λ value. HasSpelling (val_of value)) }
+{
+    if at.index.len() != 1 {
+        return None;
+    }
+    let index = at.index.at(0);
+    let state = rows.state(index);
+    let columns = rows.get(index)?;
+    prove!(rows.len() <= 16);
+    Some(value_of(index, state, columns, Column::numbered(at.column)))
+}
+
+// What a column of a row shows.
+fn value_of(index: u32, state: State, row: &StatisticsRow, column: Column) -> Value<'_>
+    requires { index ≤ 65535 }
+    ensures value { val_of result ≡ row_value index state row.now column }
     ensures spelling { HasSpelling (val_of result) }
 {
     match column {
-        Column::Index => Value::Int(ROW as i32),
-        Column::DataSource => Value::Name(interface_name(SOURCE)),
-        Column::Counts(counter) => Value::Counter(shown(statistics.of(counter))),
-        Column::Owner => Value::Octets(b"monitor"),
-        Column::Status => Value::Int(VALID),
+        Column::Index => Value::Int(index as i32),
+        Column::DataSource => Value::Name(interface_name(row.source)),
+        Column::Counts(counter) => Value::Counter(shown(row.statistics.of(counter))),
+        Column::Owner => Value::Octets(row.owner.as_slice()),
+        Column::Status => Value::Int(status_of(state)),
+    }
+}
+
+// The number of a state, as an EntryStatus (RFC 1757, section 5).
+fn status_of(state: State) -> i32
+    ensures { result ≡ entry_status state }
+{
+    match state {
+        State::Valid => 1,
+        State::UnderCreation => 3,
+        State::Absent => 4,
     }
 }
 

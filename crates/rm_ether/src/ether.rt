@@ -1,27 +1,33 @@
 // The group statistics.
 ghost use Rattle.std.specs.Prelude.{◌≡◌, ℕ, ◌+◌, ◌<◌, ◌≤◌, List, [], ◌∷◌, None};
 
-use crate::bounds::{MOST_FRAMES, MOST_OCTETS};
-use crate::cell::{ROWS, SOURCE, cell_of, entry};
+use crate::bounds::MOST_FRAMES;
+use crate::cell::{cell_of, entry};
+use crate::change::{Counting, Resting};
 use crate::column::COLUMNS;
-use crate::statistics::Statistics;
+use crate::row::StatisticsRow;
 use rm_proto::Facts;
 use rm_status::{
-    Assigns, Denied, Group, Look, Objects, Verdict, is_of_column, judge_read_only, next_name,
+    Assigns, Controls, Denied, Group, Look, Objects, State, StatusKind, Verdict, is_of_column,
+    next_name,
 };
 use rm_val::{Oid, Value};
 use std::alloc::Global;
 
-/// The statistics of interface 1: row 1 of etherStats (RFC 1757, section 5), which is valid from before the first act. The
-/// table isn't writable yet, so that no Set makes, changes or ends a row.
+/// The index of the row of the monitor.
+const ROW: u32 = 1;
+
+/// The number of etherStatsStatus.
+const STATUS: u32 = 21;
+
+/// The statistics of interfaces: etherStatsTable (RFC 1757, section 5). Row 1 is valid from before the first act.
 #[derive(Drop)]
 pub struct Ether {
-    statistics: Statistics,
+    rows: Controls<StatisticsRow>,
     // How many frames it was given.
     frames: u32,
-    // The moment of the last frame, in milliseconds.
+    // The moment of the last frame or Set, in milliseconds.
     last: u32,
-    ghost few: { statistics.packets ≤ frames },
 }
 
 impl Ether {
@@ -36,38 +42,38 @@ impl Ether {
         ensures frames { frames_given result ≡ 0 }
         ensures last { last_given result ≡ 0 }
     {
+        let mut rows = Controls::new(StatusKind::EntryStatus);
+        rows.insert(ROW, State::Valid, StatisticsRow::of_monitor());
         Ether {
-            statistics: Statistics::new(),
+            rows,
             frames: 0,
             last: 0,
         }
     }
 
-    /// Counts a frame that passed at a moment, in milliseconds, which isn't below the one given last. It has at most
-    /// `MOST_OCTETS` on the wire, and fewer than `MOST_FRAMES` frames were given before.
+    /// Counts a frame that passed at a moment, in milliseconds, which isn't below the one given last. Fewer than `MOST_FRAMES`
+    /// frames were given before.
     pub fn frame(&mut self, facts: &Facts, moment: u32)
         requires later { last_given self.old ≤ moment }
-        requires length { facts.now.length ≤ MOST_OCTETS }
         requires room { frames_given self.old < MOST_FRAMES }
         ensures stands { (settings : Settings) (journal : Journal) (frame : Frame) → Stands self.old settings journal → facts.now ≡ frame_facts settings frame
             → frame.moment ≡ moment → Stands self.new settings (passes frame ∷ journal) }
         ensures frames { frames_given self.new ≡ frames_given self.old + 1 }
         ensures last { last_given self.new ≡ moment }
     {
-        self.statistics.pass(SOURCE, facts);
+        self.rows.change_each(&Counting { facts });
         self.frames += 1;
         self.last = moment;
     }
 }
 
 impl Group for Ether {
-    ghost use Rattle.rm_model.specs.Cells.{cells_of, is_of_column};
-    ghost use Rattle.rm_status.specs.Alone.{AreFineAlone, read_only};
+    ghost use Rattle.rm_model.specs.Cells.{cells_of};
+    ghost use Rattle.rm_model.specs.Judgement.{second_pass, rows_after};
     ghost use Rattle.rm_model.proofs.Finite.{table_finite};
     ghost use Rattle.rm_model.proofs.Rows.{indexes_of, row_listed, one_row_begins};
-    ghost use Rattle.rm_ether.specs.Columns.{ether_columns};
-    ghost use Rattle.rm_ether.specs.EtherStats.{ether_entry, ether_table, ether_stats, ether_beginning};
-    ghost use Rattle.rm_ether.specs.Group.{Stands, frames_given, last_given};
+    ghost use Rattle.rm_ether.specs.EtherStats.{ether_table, ether_stats, ether_beginning};
+    ghost use Rattle.rm_ether.specs.Group.{Stands, frames_given, last_given, ether_alone, AreFine};
 
     ghost stands = { Stands };
 
@@ -79,15 +85,15 @@ impl Group for Ether {
 
     ghost cells = { λ settings journal now. cells_of (ether_table settings journal) };
 
-    ghost alone = { read_only (is_of_column ether_entry ether_columns) };
+    ghost alone = { ether_alone };
 
-    ghost together = { λ settings journal now readings bindings place. None };
+    ghost together = { λ settings journal now readings bindings place. second_pass ether_stats (rows_after ether_stats ether_beginning journal) bindings place };
 
     ghost reserves = { λ settings journal bindings index. ⊥ };
 
-    ghost accepts = { λ s now readings bindings. AreFineAlone (read_only (is_of_column ether_entry ether_columns)) bindings };
+    ghost accepts = { λ s now readings bindings. AreFine s bindings };
 
-    ghost prepared = { λ s now bindings. AreFineAlone (read_only (is_of_column ether_entry ether_columns)) bindings };
+    ghost prepared = { λ s now bindings. AreFine s bindings };
 
     ghost released = { λ s. Unit {0} };
 
@@ -96,20 +102,22 @@ impl Group for Ether {
         (row_listed ether_stats ether_beginning ((1 ∷ []) ∷ []) (one_row_begins (1 ∷ [])) journal) };
 
     fn cell(&self, name: &Oid, _now: u32) -> Option<Value<'_>> {
-        cell_of(&self.statistics, name)
+        prove!(self.rows.len() <= 16);
+        cell_of(&self.rows, name)
     }
 
     fn after(&self, name: &Oid, now: u32, out: &mut Oid) -> Option<Value<'_>> {
-        *out = next_name(&ROWS, &entry(), &COLUMNS, name, now)?;
-        cell_of(&self.statistics, out)
+        prove!(self.rows.len() <= 16);
+        *out = next_name(&self.rows, &entry(), &COLUMNS, name, now)?;
+        cell_of(&self.rows, out)
     }
 
     fn judge_alone<A: Assigns>(&self, set: &A) -> Verdict {
-        judge_read_only(set, &entry(), &COLUMNS)
+        self.rows.judge_alone(set, &entry(), STATUS)
     }
 
-    fn judge_rows<A: Assigns, L: Look>(&self, _set: &A, _now: u32, _look: &L) -> Verdict {
-        Verdict::Fine
+    fn judge_rows<A: Assigns, L: Look>(&self, set: &A, _now: u32, _look: &L) -> Verdict {
+        self.rows.judge_rows(set, &entry(), STATUS)
     }
 
     fn prepare<A: Assigns, L: Look>(
@@ -122,7 +130,12 @@ impl Group for Ether {
         Ok(())
     }
 
-    fn commit<A: Assigns>(&mut self, _set: &A, _now: u32) {}
+    fn commit<A: Assigns>(&mut self, set: &A, now: u32) {
+        prove!(self.rows.len() <= 16);
+        self.rows.commit(set, &entry(), STATUS);
+        self.rows.change_each(&Resting);
+        self.last = now;
+    }
 
     fn discard(&mut self) {}
 }

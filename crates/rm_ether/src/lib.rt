@@ -4,12 +4,17 @@
 mod added;
 mod bounds;
 mod cell;
+mod change;
 mod column;
 mod counter;
 mod ether;
+mod row;
 mod statistics;
 #[cfg(test)]
 mod tests;
 
 pub use bounds::{MOST_FRAMES, MOST_OCTETS};
+pub use counter::Counter;
 pub use ether::Ether;
+pub use row::StatisticsRow;
+pub use statistics::Statistics;

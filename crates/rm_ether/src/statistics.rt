@@ -1,14 +1,13 @@
 // What a row of etherStats counts.
-ghost use Rattle.std.specs.Prelude.{◌≡◌, ◌+◌, ◌*◌, ◌<◌, ◌≤◌};
-ghost use Rattle.rm_ether.specs.declared.bounds.TheConstants.{MOST_OCTETS};
+ghost use Rattle.std.specs.Prelude.{◌≡◌, ◌+◌, ◌<◌, ◌≤◌};
 
-use crate::added::added;
+use crate::added::add;
 use crate::bounds::{MOST_FRAMES, MOST_OCTETS};
 use crate::counter::Counter;
 use rm_proto::Facts;
 
-/// The exact sums over the frames that a row of etherStats counted.
-#[derive(Clone, Copy)]
+/// The sums over frames that a row of etherStats or of etherHistory counts, each modulo 2^64.
+#[derive(Clone, Copy, Default)]
 pub struct Statistics {
     /// All packets, bad ones included.
     pub packets: u64,
@@ -29,28 +28,19 @@ pub struct Statistics {
     pub of_256_to_511: u64,
     pub of_512_to_1023: u64,
     pub of_1024_to_1518: u64,
-    ghost octets_fits: { octets ≤ MOST_OCTETS * packets },
-    ghost broadcast_fits: { broadcast ≤ MOST_OCTETS * packets },
-    ghost multicast_fits: { multicast ≤ MOST_OCTETS * packets },
-    ghost undersize_fits: { undersize ≤ MOST_OCTETS * packets },
-    ghost oversize_fits: { oversize ≤ MOST_OCTETS * packets },
-    ghost of_64_fits: { of_64 ≤ MOST_OCTETS * packets },
-    ghost of_65_to_127_fits: { of_65_to_127 ≤ MOST_OCTETS * packets },
-    ghost of_128_to_255_fits: { of_128_to_255 ≤ MOST_OCTETS * packets },
-    ghost of_256_to_511_fits: { of_256_to_511 ≤ MOST_OCTETS * packets },
-    ghost of_512_to_1023_fits: { of_512_to_1023 ≤ MOST_OCTETS * packets },
-    ghost of_1024_to_1518_fits: { of_1024_to_1518 ≤ MOST_OCTETS * packets },
 }
 
 impl Statistics {
-    ghost use Rattle.rm_ether.specs.Counted.{counted, counted_from};
-    ghost use Rattle.rm_ether.specs.Standing.{counter_of};
+    ghost use Rattle.rm_ether.specs.Counted.{counted_from};
+    ghost use Rattle.rm_ether.specs.Standing.{counter_of, no_sums, with_frame, AreBounded};
     ghost use Rattle.rm_ether.specs.declared.counter.Counter.{Counter};
 
     /// Of no frame.
     pub fn new() -> Statistics
+        ensures value { result ≡ no_sums }
         ensures counters { (each : Counter) → counter_of result each ≡ 0 }
         ensures packets { result.packets ≡ 0 }
+        ensures bounded { AreBounded result }
     {
         Statistics {
             packets: 0,
@@ -68,41 +58,47 @@ impl Statistics {
         }
     }
 
-    /// Counts a frame where it is of that interface.
+    /// Counts a frame where it is of that interface. So few were counted that the sums are exact.
     pub fn pass(&mut self, source: u32, facts: &Facts)
         requires length { facts.now.length ≤ MOST_OCTETS }
         requires room { self.old.packets < MOST_FRAMES }
+        requires bounded { AreBounded self.old }
         ensures sums { (each : Counter) → counter_of self.new each ≡ counter_of self.old each + counted_from source each facts.now }
         ensures packets { self.new.packets ≤ self.old.packets + 1 }
+        ensures bounded { AreBounded self.new }
     {
         if facts.interface == source {
             self.count(facts);
         }
     }
 
-    // Counts a frame.
-    fn count(&mut self, facts: &Facts)
-        requires length { facts.now.length ≤ MOST_OCTETS }
-        requires room { self.old.packets < MOST_FRAMES }
-        ensures sums { (each : Counter) → counter_of self.new each ≡ counter_of self.old each + counted each facts.now }
-        ensures packets { self.new.packets ≡ self.old.packets + 1 }
+    /// Counts a frame.
+    pub fn count(&mut self, facts: &Facts)
+        ensures { self.new ≡ with_frame facts.now self.old }
     {
-        self.packets += added(Counter::Pkts, facts);
-        self.octets += added(Counter::Octets, facts);
-        self.broadcast += added(Counter::BroadcastPkts, facts);
-        self.multicast += added(Counter::MulticastPkts, facts);
-        self.undersize += added(Counter::UndersizePkts, facts);
-        self.oversize += added(Counter::OversizePkts, facts);
-        self.of_64 += added(Counter::Pkts64Octets, facts);
-        self.of_65_to_127 += added(Counter::Pkts65to127Octets, facts);
-        self.of_128_to_255 += added(Counter::Pkts128to255Octets, facts);
-        self.of_256_to_511 += added(Counter::Pkts256to511Octets, facts);
-        self.of_512_to_1023 += added(Counter::Pkts512to1023Octets, facts);
-        self.of_1024_to_1518 += added(Counter::Pkts1024to1518Octets, facts);
+        add(&mut self.packets, Counter::Pkts, facts);
+        add(&mut self.octets, Counter::Octets, facts);
+        add(&mut self.broadcast, Counter::BroadcastPkts, facts);
+        add(&mut self.multicast, Counter::MulticastPkts, facts);
+        add(&mut self.undersize, Counter::UndersizePkts, facts);
+        add(&mut self.oversize, Counter::OversizePkts, facts);
+        add(&mut self.of_64, Counter::Pkts64Octets, facts);
+        add(&mut self.of_65_to_127, Counter::Pkts65to127Octets, facts);
+        add(&mut self.of_128_to_255, Counter::Pkts128to255Octets, facts);
+        add(&mut self.of_256_to_511, Counter::Pkts256to511Octets, facts);
+        add(
+            &mut self.of_512_to_1023,
+            Counter::Pkts512to1023Octets,
+            facts,
+        );
+        add(
+            &mut self.of_1024_to_1518,
+            Counter::Pkts1024to1518Octets,
+            facts,
+        );
     }
 
-    /// The exact value of a counter. That of frames that were lost, damaged or collided is 0, since a capture doesn't
-    /// have these.
+    /// The value of a counter. That of frames that were lost, damaged or collided is 0, since a capture doesn't have these.
     pub fn of(&self, counter: Counter) -> u64
         ensures { result ≡ counter_of self.now counter }
     {

@@ -1,11 +1,11 @@
 // The counters of each frame were worked out from the descriptions of the objects in RFC 1757, section 5.
-ghost use Rattle.std.specs.Prelude.{◌≤◌, [], ◌∷◌};
-ghost use Rattle.rm_val.specs.Val.{null};
+mod given;
+mod sets;
 
-use crate::{Ether, MOST_OCTETS};
+use crate::Ether;
 use rm_proto::{Facts, facts};
-use rm_status::{Assigns, Group, Objects, Verdict};
-use rm_val::{ErrorStatus, Oid, Value};
+use rm_status::{Group, Objects};
+use rm_val::{Oid, Value};
 use std::process::Abort;
 use std::test::Fail;
 
@@ -101,9 +101,7 @@ fn counter_at(ether: &Ether, column: u32) -> Result<Option<u32>, Fail> {
 }
 
 // The facts of a frame of which the addresses were captured.
-fn facts_of(rt: &impl Abort, addresses: &[u8; 12], original: u32, keep_short: bool) -> Facts
-    ensures { result.length ≤ MOST_OCTETS }
-{
+fn facts_of(rt: &impl Abort, addresses: &[u8; 12], original: u32, keep_short: bool) -> Facts {
     assert!(rt; original >= 12 && original <= 262_144, "{original}");
     facts(addresses, original, keep_short)
 }
@@ -237,57 +235,5 @@ fn a_walk(rt: HostRuntime) -> Result<(), Fail> {
     let mut next = Oid::new();
     assert!(rt; ether.after(&name, 0, &mut next).is_none());
     assert_eq!(rt; next.len(), 0);
-    Ok(())
-}
-
-// A Set of the cell of row 1 in a column, which is given Null.
-#[derive(Clone, Copy)]
-struct One {
-    column: u32,
-}
-
-impl Assigns for One {
-    ghost bindings = { λ s. record { name = 1 ∷ 3 ∷ 6 ∷ 1 ∷ 2 ∷ 1 ∷ 16 ∷ 1 ∷ 1 ∷ 1 ∷ s.column ∷ 1 ∷ []; value = null } ∷ [] };
-
-    fn count(&self) -> usize {
-        1
-    }
-
-    fn name(&self, _place: usize) -> Oid {
-        Oid::from_slice(&[1, 3, 6, 1, 2, 1, 16, 1, 1, 1, self.column, 1]).unwrap()
-    }
-
-    fn value(&self, _place: usize) -> Value<'_> {
-        Value::Null
-    }
-}
-
-#[test]
-fn no_column_is_writable(rt: HostRuntime) -> Result<(), Fail> {
-    let ether = Ether::new();
-    for column in 0..23u32 {
-        let expected = if column >= 1 && column <= 21 {
-            Verdict::Wrong {
-                status: ErrorStatus::NotWritable,
-                index: 1,
-            }
-        } else {
-            Verdict::Fine
-        };
-        assert_eq!(rt; ether.judge_alone(&One { column }), expected, "{column}");
-    }
-    Ok(())
-}
-
-#[test]
-fn a_set_of_other_objects_leaves_the_counters(rt: HostRuntime) -> Result<(), Fail> {
-    let mut ether = Ether::new();
-    ether.frame(&facts_of(&rt, &STATION, 60, false), 7);
-    let set = One { column: 22 };
-    match ether.judge_alone(&set) {
-        Verdict::Fine => ether.commit(&set, 9),
-        Verdict::Wrong { .. } => assert!(rt; false),
-    }
-    assert_eq!(rt; counter_at(&ether, 5)?, Some(1));
     Ok(())
 }

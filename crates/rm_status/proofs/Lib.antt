@@ -19,3 +19,7 @@ pub mod Seconds
 pub mod Rooms
 pub mod After
 pub mod ReadOnly
+pub mod ColumnLaws
+pub mod IndexLemmas
+pub mod Named
+pub mod RowsAfterLemmas

@@ -8,3 +8,6 @@ pub mod Lending
 pub mod Taken
 pub mod MadeUp
 pub mod Change
+pub mod Values
+pub mod Indexes
+pub mod RowsAfter

@@ -10,6 +10,7 @@ mod controls;
 mod denied;
 mod given;
 mod group;
+mod indexes;
 mod instance;
 mod interface;
 mod laws;
@@ -27,6 +28,7 @@ mod steps;
 mod system;
 #[cfg(test)]
 mod tests;
+mod values;
 mod wrong;
 
 pub use assigns::Assigns;
@@ -50,3 +52,4 @@ pub use row::Row;
 pub use row_indexes::RowIndexes;
 pub use search::next_name;
 pub use system::System;
+pub use values::{interface_in, natural_in, number_fault, put_text, source_fault, text_fault};

@@ -1,9 +1,8 @@
-use Rattle.std.proofs.Common.{arith}
-use Rattle.rm_ether.proofs.Steps.{row_more}
+use Rattle.rm_ether.proofs.Steps.{rows_with_frame, counters_with_frame}
 use Rattle.rm_ether.proofs.ether.Ether.frame.Goals as goal
 
 pub returns-clause-stands : goal.returns-clause-stands
 returns-clause-stands c settings journal frame stands known moment = record {
-  row = row_more settings journal c.args.self.now.statistics stands.row frame c.args.facts.now known c.pass.new.self c.pass.ensures.sums;
-  last = omega arith;
+  rows = rows_with_frame settings journal frame c.args.facts.now known c.args.self.now.rows c.change_each.new.self c.change_each.ensures stands.rows stands.counters;
+  counters = counters_with_frame settings journal frame c.args.facts.now known c.args.self.now.rows c.change_each.new.self c.change_each.ensures stands.rows stands.counters;
 }

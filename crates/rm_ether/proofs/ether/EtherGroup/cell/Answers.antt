@@ -1,7 +1,7 @@
 use Rattle.std.proofs.Common.{◌∙◌}
-use Rattle.rm_ether.proofs.Shown.{same_cells}
+use Rattle.rm_ether.proofs.Cells.{same_cells}
 use Rattle.rm_ether.proofs.ether.EtherGroup.cell.Goals as goal
 
 pub returns-clause-value : goal.returns-clause-value
 returns-clause-value c settings journal stands later =
-    c.cell_of.ensures.value ∙ same_cells c.args.self.now.statistics settings journal stands.row c.args.name.now
+    c.cell_of.ensures.value ∙ same_cells c.args.self.now.rows c.len.ensures.rows settings journal stands.rows stands.counters c.args.name.now

@@ -1,15 +1,13 @@
-use Rattle.std.proofs.Common.{◌∙◌}
-use Rattle.rm_model.specs.ControlRows.{cell_name}
-use Rattle.rm_status.proofs.ReadOnly.{no_cell_given}
-use Rattle.rm_ether.specs.Columns.{ether_columns}
-use Rattle.rm_ether.specs.EtherStats.{ether_entry}
-use Rattle.rm_ether.proofs.Sets.{row_stays}
+use Rattle.rm_status.proofs.Puts.{all_fine}
+use Rattle.rm_ether.specs.EtherStats.{ether_stats}
+use Rattle.rm_ether.proofs.Steps.{rows_with_set, counters_with_set}
 use Rattle.rm_ether.proofs.ether.EtherGroup.commit.Goals as goal
 
 pub returns-clause-stands : goal.returns-clause-stands
-returns-clause-stands g c settings journal values stands later same = record {
-  row = row_stays c.args.self.now.statistics settings journal stands.row c.args._now values (λ column index one.
-      same (cell_name ether_entry column index)
-      ∙ no_cell_given ether_entry ether_columns (g.A.Assigns.bindings c.args._set.now) c.requires.ready column index one);
-  last = stands.last;
-}
+returns-clause-stands g c settings journal values stands later gives =
+    let bs = g.A.Assigns.bindings c.args.set.now in
+    let fine = all_fine ether_stats bs c.requires.ready.alone in
+    record {
+      rows = rows_with_set settings journal c.args.now bs values gives fine c.args.self.now.rows c.commit.new.self c.change_each.new.self c.len.ensures.rows c.requires.ready.together c.commit.ensures c.change_each.ensures stands.rows stands.counters;
+      counters = counters_with_set settings journal c.args.now bs values gives fine c.args.self.now.rows c.commit.new.self c.change_each.new.self c.len.ensures.rows c.requires.ready.together c.commit.ensures c.change_each.ensures stands.rows stands.counters;
+    }

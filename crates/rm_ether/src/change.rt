@@ -1,0 +1,45 @@
+// What frames and Sets make of the sums of each row.
+ghost use Rattle.std.specs.Prelude.{◌≡◌};
+ghost use Rattle.rm_ether.specs.StatisticsRows.{counting, resting};
+
+use crate::row::StatisticsRow;
+use crate::statistics::Statistics;
+use rm_proto::Facts;
+use rm_status::{Change, State};
+
+/// A frame is counted in each valid row whose data source is the interface of the frame.
+#[derive(Clone, Copy)]
+pub struct Counting<'a> {
+    /// The facts of the frame.
+    pub facts: &'a Facts,
+}
+
+impl Change<StatisticsRow> for Counting<'_> {
+    ghost changed = { λ s index state row. counting s.facts.now state row };
+
+    fn change(&self, _index: u32, state: State, columns: &mut StatisticsRow) {
+        match state {
+            State::Valid => {
+                if columns.source == self.facts.interface {
+                    columns.statistics.count(self.facts);
+                }
+            }
+            _ => {}
+        }
+    }
+}
+
+/// A row that isn't valid loses its sums.
+#[derive(Clone, Copy)]
+pub struct Resting;
+
+impl Change<StatisticsRow> for Resting {
+    ghost changed = { λ s index state row. resting state row };
+
+    fn change(&self, _index: u32, state: State, columns: &mut StatisticsRow) {
+        match state {
+            State::Valid => {}
+            _ => columns.statistics = Statistics::new(),
+        }
+    }
+}

@@ -1,0 +1,193 @@
+-- The rows of a control table after each act.
+use Rattle.std.proofs.Common.{◌≡◌, ℕ, ◌<◌, suc, List, [], ◌∷◌, length, Bool, true, false, cond, not, ◌&&◌, Option, Some, None, refl, sym, ap, subst, ◌∙◌, nat_eq, find, option_map, arith}
+use Rattle.std.specs.Option.{option_or, option_and_then}
+use Rattle.std.specs.Str.{bytes_eq}
+use Rattle.std.proofs.lemmas.Slice.Eq.{bytes_eq-Decides}
+use Rattle.rm_val.specs.Val.{Val}
+use Rattle.rm_val.specs.declared.error.ErrorStatus.{ErrorStatus}
+use Rattle.rm_val.specs.declared.error.ErrorStatus.TheVariants.{InconsistentValue, NoCreation}
+use Rattle.rm_model.specs.declared.row.State.{State}
+use Rattle.rm_model.specs.declared.row.State.TheVariants.{Absent, UnderCreation, Valid}
+use Rattle.rm_model.specs.declared.row.Ask.{Ask}
+use Rattle.rm_model.specs.declared.row.Ask.TheVariants.{Nothing, Create, CreateValid, Enable, Disable, Destroy}
+use Rattle.rm_model.specs.declared.place.Place.{Place}
+use Rattle.rm_model.specs.declared.place.Place.TheVariants.{Outside, Entry, Column, Cell}
+use Rattle.rm_model.specs.Journal.{Act, Frame, Assignments, passes, assigns, Journal, frames_in, value_given}
+use Rattle.rm_model.specs.ControlTable.{ControlTable}
+use Rattle.rm_model.specs.ControlRows.{Beginning, cell_name, value_ask, set_ask, next_state, is_absent, is_valid, state_of, set_value, stays_valid, since}
+use Rattle.rm_model.specs.Judgement.{Bindings, name_at, place_of, place_behind, value_fault, writable_kind, alone_fault, second_pass, together_fault, row_fault, column_fault, is_always, is_made, is_again, is_crowded, is_ready_with, column_kind, is_sound, unless}
+use Rattle.rm_model.specs.Alike.{HasSameColumns}
+use Rattle.rm_model.proofs.Tables.{behind_front}
+use Rattle.rm_status.specs.declared.row.Row.{Row}
+use Rattle.rm_status.specs.Rows.{row_in, state_seen, columns_seen, state_in, columns_in, AreControlRows}
+use Rattle.rm_status.specs.Change.{changed_row}
+use Rattle.rm_status.specs.Commit.{put_at, put_all, row_after}
+use Rattle.rm_status.specs.Indexes.{is_index_in}
+use Rattle.rm_status.specs.RowsAfter.{is_one_number, AreRowsAfter}
+use Rattle.rm_status.proofs.After.{alike_after}
+use Rattle.rm_status.proofs.Held.{held_is}
+use Rattle.rm_status.proofs.Puts.{AllFine}
+
+-- A name that isn't that of a cell has no fault alone only outside the table, so that a Set with which nothing is wrong
+-- makes no row whose index isn't one number.
+
+place_other : (entry : List ℕ) (column : ℕ) (index : List ℕ) → is_one_number index ≡ false → place_of entry (cell_name entry column index) ≡ Column column
+place_other entry column [] other = ap place_behind (behind_front entry (column ∷ []))
+place_other entry column (n ∷ []) other = absurd (cc)
+place_other entry column (n ∷ m ∷ more) other = ap place_behind (behind_front entry (column ∷ n ∷ m ∷ more))
+
+never_none : (o : Option ErrorStatus) → option_or o (Some NoCreation) ≡ None → ⊥
+never_none None e = cc
+never_none (Some x) e = cc
+
+none_given : (t : ControlTable) (column : ℕ) (index : List ℕ) → is_one_number index ≡ false → (bs : Bindings) → AllFine t bs → value_given bs (cell_name t.entry column index) ≡ None
+none_given t column index other [] fine = refl
+none_given t column index other (b ∷ more) fine =
+    elim (bytes_eq b.name (cell_name t.entry column index)) as (λ s. bytes_eq b.name (cell_name t.entry column index) ≡ s → option_map (λ a. a.value) (cond s (Some b) (find (λ a. bytes_eq a.name (cell_name t.entry column index)) more)) ≡ None) [
+      | true ↦ λ e.
+          let is : b.name ≡ cell_name t.entry column index = (bytes_eq-Decides b.name (cell_name t.entry column index)).0 e in
+          let place : place_of t.entry b.name ≡ Column column = ap (place_of t.entry) is ∙ place_other t.entry column index other in
+          let fault : alone_fault t (Column column) b.value ≡ None = ap (λ p. alone_fault t p b.value) (sym place) ∙ fine.0 in
+          absurd (never_none (value_fault (writable_kind t column) b.value) fault)
+      | false ↦ λ _. none_given t column index other more fine.1
+    ] refl
+
+module _ {C : Type 0} (t : ControlTable) (beginning : Beginning) (set_to : C → ℕ → Option Val) where
+  -- a frame changes no row
+  pub rows_passes : (rows : List (Row C)) (journal : Journal) (frame : Frame) → AreRowsAfter t beginning set_to rows journal → AreRowsAfter t beginning set_to rows (passes frame ∷ journal)
+  rows_passes rows journal frame is = record { alike = record { states = is.alike.states; columns = is.alike.columns }; others = is.others }
+
+  -- a change of the rows' other data leaves what their columns were set to
+  module _ (change : ℕ → State → C → C) (keeps : (index : ℕ) (state : State) (columns : C) (n : ℕ) → set_to (change index state columns) n ≡ set_to columns n) (rows new : List (Row C)) (changed : (i : ℕ) → row_in new i ≡ option_map (changed_row change) (row_in rows i)) where
+    state_kept : (o : Option (Row C)) → state_seen (option_map (changed_row change) o) ≡ state_seen o
+    state_kept None = refl
+    state_kept (Some row) = refl
+
+    set_kept : (o : Option (Row C)) (n : ℕ) → option_and_then (λ c. set_to c n) (columns_seen (option_map (changed_row change) o)) ≡ option_and_then (λ c. set_to c n) (columns_seen o)
+    set_kept None n = refl
+    set_kept (Some row) n = keeps row.index row.state row.columns n
+
+    pub rows_changed : (journal : Journal) → AreRowsAfter t beginning set_to rows journal → AreRowsAfter t beginning set_to new journal
+    rows_changed journal is = record {
+      alike = record {
+        states = λ i. ap state_seen (changed i) ∙ state_kept (row_in rows i) ∙ is.alike.states i;
+        columns = λ i there.
+            let was : is_absent (state_in rows i) ≡ false = ap is_absent (sym (ap state_seen (changed i) ∙ state_kept (row_in rows i))) ∙ there in
+            let same : (n : ℕ) → option_and_then (λ c. set_to c n) (columns_in new i) ≡ option_and_then (λ c. set_to c n) (columns_in rows i) = λ n. ap (λ o. option_and_then (λ c. set_to c n) (columns_seen o)) (changed i) ∙ set_kept (row_in rows i) n in
+            subst (λ (f : ℕ → Option Val). HasSameColumns t f (set_value t beginning journal (i ∷ []))) (sym (λ d n. same n d)) (is.alike.columns i was);
+      };
+      others = is.others;
+    }
+
+  -- the indexes of the rows are those of the rows after the journal
+  pub is_row_after : (rows : List (Row C)) (journal : Journal) → AreControlRows rows → AreRowsAfter t beginning set_to rows journal → (index : List ℕ) → not (is_absent (state_of t beginning journal index)) ≡ is_index_in rows index
+  is_row_after rows journal held is [] = ap (λ s. not (is_absent s)) (is.others [] refl)
+  is_row_after rows journal held is (n ∷ []) = ap (λ s. not (is_absent s)) (sym (is.alike.states n)) ∙ held_is rows n held.1
+  is_row_after rows journal held is (n ∷ m ∷ more) = ap (λ s. not (is_absent s)) (is.others (n ∷ m ∷ more) refl)
+
+  -- a Set with which nothing is wrong
+  module _ (with_column : C → ℕ → Val → C) (blank : C)
+      (set_with : (c : C) (n m : ℕ) (v : Val) → value_fault (column_kind t n) v ≡ None → set_to (with_column c n v) m ≡ cond (nat_eq n m) (Some v) (set_to c m))
+      (blank_alike : HasSameColumns t (set_to blank) (λ column. None))
+      (sound : is_sound t ≡ true)
+      (journal : Journal) (moment : ℕ) (bs : Bindings) (values : Assignments)
+      (gives : (name : List ℕ) → value_given values name ≡ value_given bs name)
+      (fine : AllFine t bs)
+      (rows new : List (Row C)) (held : AreControlRows rows)
+      (is : AreRowsAfter t beginning set_to rows journal)
+      (after : (i : ℕ) → row_in new i ≡ row_after t with_column blank bs i (row_in rows i)) where
+    pub rows_assigns : AreRowsAfter t beginning set_to new (assigns moment values ∷ journal)
+    rows_assigns = record {
+      alike = alike_after t with_column blank set_to set_with blank_alike sound beginning journal moment bs values gives fine rows new held is.alike after;
+      others = λ index other.
+          ap (λ value. next_state (value_ask t.status_kind value) (state_of t beginning journal index)) (gives (cell_name t.entry t.status index) ∙ none_given t t.status index other bs fine)
+          ∙ is.others index other;
+    }
+
+-- What a row counts after a Set, by what it counted before.
+
+pub since_idle : (t : ControlTable) (beginning : Beginning) (journal : Journal) (index : List ℕ) → is_valid (state_of t beginning journal index) ≡ false → since t beginning journal index ≡ []
+since_idle t beginning [] index idle = refl
+since_idle t beginning (act ∷ earlier) index idle =
+    ap (λ b. cond b (act ∷ since t beginning earlier index) []) (ap (λ b. is_valid (state_of t beginning earlier index) && b) idle ∙ and_false (is_valid (state_of t beginning earlier index)))
+  where
+    and_false : (b : Bool) → (b && false) ≡ false
+    and_false true = refl
+    and_false false = refl
+
+-- a row counts nothing from the act on by which it became valid, and where it isn't valid
+pub since_starts : (t : ControlTable) (beginning : Beginning) (act : Act) (journal : Journal) (index : List ℕ) → stays_valid t beginning act journal index ≡ false → since t beginning (act ∷ journal) index ≡ []
+since_starts t beginning act journal index starts = ap (λ b. cond b (act ∷ since t beginning journal index) []) starts
+
+-- a Set is no frame
+pub frames_kept : (t : ControlTable) (beginning : Beginning) (moment : ℕ) (values : Assignments) (journal : Journal) (index : List ℕ) → stays_valid t beginning (assigns moment values) journal index ≡ true → frames_in (since t beginning (assigns moment values ∷ journal) index) ≡ frames_in (since t beginning journal index)
+frames_kept t beginning moment values journal index stays = ap (λ b. frames_in (cond b (assigns moment values ∷ since t beginning journal index) [])) stays
+
+-- other data of a row stays where each column leaves it
+module _ {C D : Type 0} (t : ControlTable) (with_column : C → ℕ → Val → C) (blank : C) (other : C → D) (leaves : (c : C) (n : ℕ) (v : Val) → other (with_column c n v) ≡ other c) where
+  put_leaves : (i : ℕ) (p : Place) (v : Val) (c : C) → other (put_at t with_column blank i p v c) ≡ other c
+  put_leaves i Outside v c = refl
+  put_leaves i Entry v c = refl
+  put_leaves i (Column n) v c = refl
+  put_leaves i (Cell n k) v c =
+      elim (nat_eq k i) as (λ s. other (cond s (cond (nat_eq n t.status) c (with_column c n v)) c) ≡ other c) [
+        | true ↦ elim (nat_eq n t.status) as (λ s. other (cond s c (with_column c n v)) ≡ other c) [ true ↦ refl | false ↦ leaves c n v ]
+        | false ↦ refl
+      ]
+
+  pub all_leave : (bs : Bindings) (i : ℕ) (c : C) → other (put_all t with_column blank bs i c) ≡ other c
+  all_leave [] i c = refl
+  all_leave (b ∷ more) i c = put_leaves i (place_of t.entry b.name) b.value (put_all t with_column blank more i c) ∙ all_leave more i c
+
+-- A Set gives nothing to a column that is fixed while its row is valid, where the row was valid and stays so.
+
+no_second : (a b : Option ErrorStatus) → option_or a b ≡ None → a ≡ None
+no_second None b e = refl
+no_second (Some x) b e = cc
+
+fixed_fault : (ask : Ask) → column_fault Valid ask false ≡ None → is_valid (next_state ask Valid) ≡ true → ⊥
+fixed_fault Nothing fine stays = cc
+fixed_fault Create fine stays = cc
+fixed_fault CreateValid fine stays = cc
+fixed_fault Enable fine stays = cc
+fixed_fault Disable fine stays = cc
+fixed_fault Destroy fine stays = cc
+
+not_made : (ask : Ask) → is_made Valid ask ≡ false
+not_made Nothing = refl
+not_made Create = refl
+not_made CreateValid = refl
+not_made Enable = refl
+not_made Disable = refl
+not_made Destroy = refl
+
+valid_is : (s : State) → is_valid s ≡ true → s ≡ Valid
+valid_is Absent h = cc
+valid_is UnderCreation h = cc
+valid_is Valid h = refl
+
+module _ (t : ControlTable) (before : Beginning) (bs : Bindings) (fine : (k : ℕ) → k < length bs → second_pass t before bs k ≡ None) (n i : ℕ) (column : nat_eq n t.status ≡ false) (fixed : is_always t n ≡ false)
+    (was : before.state (i ∷ []) ≡ Valid) (stays : is_valid (next_state (set_ask t bs (i ∷ [])) Valid) ≡ true) where
+  abbrev its_name : List ℕ
+  its_name = cell_name t.entry n (i ∷ [])
+
+  not_bound : (k : ℕ) → k < length bs → name_at bs k ≡ its_name → ⊥
+  not_bound k within same =
+      let ask : Ask = set_ask t bs (i ∷ []) in
+      let place : place_of t.entry (name_at bs k) ≡ Cell n i = ap (place_of t.entry) same ∙ ap place_behind (behind_front t.entry (n ∷ i ∷ [])) in
+      let together : together_fault t before bs k (Cell n i) ≡ None = ap (together_fault t before bs k) (sym place) ∙ fine k within in
+      let at_valid : row_fault t Valid ask (is_ready_with t before bs (i ∷ [])) (is_crowded t before bs) (is_again bs k) n ≡ None = ap (λ s. row_fault t s ask (is_ready_with t before bs (i ∷ [])) (is_crowded t before bs) (is_again bs k) n) (sym was) ∙ together in
+      let fault : option_or (column_fault Valid ask false) (unless (not (is_again bs k)) InconsistentValue) ≡ None =
+      rw (not_made ask, column, fixed) at at_valid in
+      fixed_fault ask (no_second _ _ fault) stays
+
+  unbound : (some : Bindings) → ((k : ℕ) → k < length some → name_at some k ≡ its_name → ⊥) → value_given some its_name ≡ None
+  unbound [] none = refl
+  unbound (b ∷ more) none =
+      elim (bytes_eq b.name its_name) as (λ s. bytes_eq b.name its_name ≡ s → option_map (λ a. a.value) (cond s (Some b) (find (λ a. bytes_eq a.name its_name) more)) ≡ None) [
+        | true ↦ λ e. absurd (none 0 (omega arith) ((bytes_eq-Decides b.name its_name).0 e))
+        | false ↦ λ _. unbound more (λ k within. none (suc k) (omega arith))
+      ] refl
+
+  pub fixed_column : value_given bs its_name ≡ None
+  fixed_column = unbound bs not_bound
