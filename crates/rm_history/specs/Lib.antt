@@ -1,0 +1,4 @@
+pub mod Buckets
+pub mod HistoryControl
+pub mod Columns
+pub mod EtherHistory
