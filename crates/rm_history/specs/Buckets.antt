@@ -7,19 +7,18 @@ use Rattle.rm_model.specs.Journal.{Frame}
 use Rattle.rm_model.specs.FrameFacts.{frame_facts}
 use Rattle.rm_ether.specs.declared.counter.Counter.{Counter}
 use Rattle.rm_ether.specs.Counted.{counted}
+use Rattle.rm_history.specs.declared.plan.Plan.{Plan}
 
--- How a history is taken: the moment at which it began, the length of a bucket, and how many buckets are kept.
-pub record Plan : Type 0 where
-  pub start : ℕ
-  pub length : ℕ
-  pub kept : ℕ
+-- the length of a bucket
+abbrev pub length_of : Plan → ℕ
+length_of plan = 1000 * plan.seconds
 
 -- the moment at which a bucket begins, and the one at which it ends, which is no longer in it
 abbrev pub begin_of : Plan → ℕ → ℕ
-begin_of plan bucket = plan.start + plan.length * (bucket - 1)
+begin_of plan bucket = plan.start + length_of plan * (bucket - 1)
 
 abbrev pub end_of : Plan → ℕ → ℕ
-end_of plan bucket = plan.start + plan.length * bucket
+end_of plan bucket = plan.start + length_of plan * bucket
 
 -- whether a frame is in a bucket
 abbrev pub falls_in : Plan → ℕ → Frame → Bool
@@ -32,7 +31,7 @@ bucket_sum settings plan frames bucket each =
 
 -- how many buckets are complete at a moment
 abbrev pub complete_at : Plan → ℕ → ℕ
-complete_at plan now = (now - plan.start) / plan.length
+complete_at plan now = (now - plan.start) / length_of plan
 
 -- whether a bucket is one of the last complete ones, as many as are kept
 abbrev pub is_shown : Plan → ℕ → ℕ → Bool

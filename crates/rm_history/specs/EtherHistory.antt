@@ -11,7 +11,7 @@ use Rattle.rm_history.specs.declared.sample_column.SampleColumn.{SampleColumn}
 use Rattle.rm_history.specs.declared.sample_column.SampleColumn.TheVariants.{Index, SampleIndex, IntervalStart, Counts, Utilization}
 use Rattle.rm_history.specs.Columns.{sample_columns, sample_column}
 use Rattle.rm_history.specs.Buckets.{begin_of, bucket_sum, is_shown, utilization}
-use Rattle.rm_history.specs.HistoryControl.{control_state, control_set, number_of, plan_of, counted_frames}
+use Rattle.rm_history.specs.HistoryControl.{control_state, plan_of, counted_frames}
 
 -- the identifier of etherHistoryEntry
 abbrev pub sample_entry : List ℕ
@@ -36,7 +36,7 @@ sample_value settings journal row bucket SampleIndex = int (pos bucket)
 sample_value settings journal row bucket IntervalStart = ticks (begin_of (plan_of journal (row ∷ [])) bucket / 10)
 sample_value settings journal row bucket (Counts each) = counter (sample_sum settings journal row bucket each % 2 ^ 32)
 sample_value settings journal row bucket Utilization =
-    int (pos (utilization (sample_sum settings journal row bucket Pkts) (sample_sum settings journal row bucket Octets) (number_of (control_set journal (row ∷ []) 5))))
+    int (pos (utilization (sample_sum settings journal row bucket Pkts) (sample_sum settings journal row bucket Octets) (plan_of journal (row ∷ [])).seconds))
 
 -- the same by the numbers of an index
 abbrev pub sample_at : Settings → Journal → List ℕ → SampleColumn → Val

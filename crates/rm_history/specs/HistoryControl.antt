@@ -1,5 +1,5 @@
 -- The table historyControl (RFC 1757, section 5.2), and what it shows after a journal.
-use Rattle.std.specs.Prelude.{ℕ, ◌*◌, pos, min, List, [], ◌∷◌, true, false, not, if◌then◌else◌}
+use Rattle.std.specs.Prelude.{ℕ, pos, min, List, [], ◌∷◌, true, false, not, if◌then◌else◌}
 use Rattle.rm_val.specs.Val.{Val, int, octets, name}
 use Rattle.rm_model.specs.Journal.{Frame, Journal, frames_in}
 use Rattle.rm_model.specs.Interfaces.{interface_name, frames_of}
@@ -11,7 +11,7 @@ use Rattle.rm_model.specs.declared.row.State.{State}
 use Rattle.rm_history.specs.declared.control_column.ControlColumn.{ControlColumn}
 use Rattle.rm_history.specs.declared.control_column.ControlColumn.TheVariants.{Index, DataSource, BucketsRequested, BucketsGranted, Interval, Owner, Status}
 use Rattle.rm_history.specs.Columns.{control_columns, control_column}
-use Rattle.rm_history.specs.Buckets.{Plan}
+use Rattle.rm_history.specs.declared.plan.Plan.{Plan}
 
 -- the identifier of historyControlEntry
 abbrev pub control_entry : List ℕ
@@ -55,7 +55,7 @@ granted requested = min requested 1024
 abbrev pub plan_of : Journal → List ℕ → Plan
 plan_of journal index = record {
   start = activated history_control no_rows journal index;
-  length = 1000 * number_of (control_set journal index 5);
+  seconds = number_of (control_set journal index 5);
   kept = granted (number_of (control_set journal index 3));
 }
 

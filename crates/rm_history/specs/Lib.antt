@@ -2,3 +2,4 @@ pub mod Buckets
 pub mod HistoryControl
 pub mod Columns
 pub mod EtherHistory
+pub mod Run

@@ -2,4 +2,6 @@
 #![tactic(auto)]
 
 mod control_column;
+mod plan;
+mod run;
 mod sample_column;
