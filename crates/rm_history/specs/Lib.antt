@@ -3,3 +3,5 @@ pub mod HistoryControl
 pub mod Columns
 pub mod EtherHistory
 pub mod Run
+pub mod ControlColumns
+pub mod ColumnLaws

@@ -2,6 +2,7 @@
 #![tactic(auto)]
 
 mod control_column;
+mod control_columns;
 mod plan;
 mod run;
 mod sample_column;
