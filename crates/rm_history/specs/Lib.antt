@@ -5,3 +5,4 @@ pub mod EtherHistory
 pub mod Run
 pub mod ControlColumns
 pub mod ColumnLaws
+pub mod Standing
