@@ -1,3 +1,4 @@
 mod Examples
 mod Rings
 mod Frames
+mod Each

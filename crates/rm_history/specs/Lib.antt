@@ -6,3 +6,4 @@ pub mod Run
 pub mod ControlColumns
 pub mod ColumnLaws
 pub mod Standing
+pub mod Runs

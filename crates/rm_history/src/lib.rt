@@ -5,4 +5,5 @@ mod control_column;
 mod control_columns;
 mod plan;
 mod run;
+mod runs;
 mod sample_column;
