@@ -2,3 +2,4 @@ mod Examples
 mod Rings
 mod Frames
 mod Each
+mod Spares

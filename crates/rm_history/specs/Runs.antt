@@ -5,6 +5,11 @@ use Rattle.rm_proto.specs.declared.known.Facts.{Facts}
 use Rattle.rm_ether.specs.declared.counter.Counter.{Counter}
 use Rattle.rm_ether.specs.declared.bounds.TheConstants.{MOST_FRAMES}
 use Rattle.rm_ether.specs.Counted.{counted_from}
+use Rattle.rm_model.specs.ControlRows.{is_valid}
+use Rattle.rm_status.specs.declared.row.Row.{Row}
+use Rattle.rm_status.specs.Rows.{state_in}
+use Rattle.rm_history.specs.declared.control_columns.ControlColumns.{ControlColumns}
+use Rattle.rm_history.specs.declared.plan.Plan.{Plan}
 use Rattle.rm_history.specs.declared.run.Run.{Run}
 use Rattle.rm_history.specs.declared.runs.Runs.{Runs}
 use Rattle.rm_history.specs.Buckets.{end_of, complete_at}
@@ -51,3 +56,16 @@ EachBecomes becomes (run ∷ runs) [] = ⊥
 -- a history whose row isn't valid any more is spare
 abbrev pub released : (ℕ → Bool) → Run → Run
 released is_valid run = record run { row = if is_valid run.row then run.row else 0 }
+
+-- whether a row of the control table is valid
+abbrev pub valid_in : List (Row ControlColumns) → ℕ → Bool
+valid_in rows row = is_valid (state_in rows row)
+
+-- what was made of a row's history where it has none yet: one whose buckets are empty
+pub record IsBegun (row source : ℕ) (plan : Plan) (run : Run) : Type 0 where
+  pub row_is : run.row ≡ row
+  pub source_is : run.source ≡ source
+  pub plan_is : run.plan ≡ plan
+  pub closed : run.closed ≡ 0
+  pub packets : run.current.packets ≡ 0
+  pub buckets : (bucket : ℕ) (each : Counter) → 1 ≤ bucket → kept_counter run bucket each ≡ 0

@@ -1,0 +1,18 @@
+use Rattle.std.proofs.Common.{◌≡◌, ◌-◌, ◌<◌, ◌∙◌, ap, sym, subst, length, get_or, arith}
+use Rattle.rm_history.specs.Runs.{run_in, AreDistinct}
+use Rattle.rm_history.proofs.Spares.{removed_in, distinct_removed}
+use Rattle.rm_history.proofs.runs.trim_in.Goals as goal
+
+pub loop-place-preserved-then-index-eq0 : goal.loop-place-preserved-then-index-eq0
+loop-place-preserved-then-index-eq0 c =
+    let runs = c.loop-place.list.items in
+    let k = c.loop-place.place - 1 in
+    let d = c.index.result.now in
+    let within : k < length runs = omega (arith, c.loop-place.invariant.within) in
+    let none : (get_or runs k d).row ≡ 0 = ap (λ r. r.row) (sym c.index.ensures) ∙ c.if-index-eq0.true in
+    record {
+      same = λ row some. ap (λ l. run_in l row) c.remove.ensures.items ∙ removed_in runs k d within none row some ∙ c.loop-place.invariant.same row some;
+      distinct = λ h. subst AreDistinct (sym c.remove.ensures.items) (distinct_removed runs k d within none (c.loop-place.invariant.distinct h));
+      enough = omega (arith, c.remove.ensures.len, c.len.ensures, c.loop-place.invariant.enough);
+      within = omega (arith, c.remove.ensures.len, c.loop-place.invariant.within);
+    }
