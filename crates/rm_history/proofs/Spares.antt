@@ -2,14 +2,18 @@
 use Rattle.std.proofs.Common.{◌≡◌, ℕ, zero, suc, ◌+◌, ◌<◌, ◌≤◌, List, [], ◌∷◌, ◌++◌, length, map, Bool, true, false, cond, not, ◌||◌, Option, Some, None, refl, sym, ◌∙◌, ap, subst, find, nat_eq, get_or, slice_set, arith}
 use Rattle.std.specs.Prelude.{is_some, is_none, remove}
 use Rattle.std.proofs.lemmas.Bool.Decides.{nat_tests}
-use Rattle.std.specs.List.{position, position_or_len}
+use Rattle.std.specs.List.{AllByRecursion, position, position_or_len}
 use Rattle.std.proofs.lemmas.List.Quantifiers.{position-Some}
 use Rattle.rm_status.proofs.Places.{place_of_none}
 use Rattle.rm_model.specs.Judgement.{count_below}
 use Rattle.rm_status.proofs.Held.{count_none, count_one, count_or}
 use Rattle.rm_status.proofs.Valid.{count_less}
+use Rattle.std.proofs.Common.{Vec, Global}
+use Rattle.std.specs.Option.{option_map_or}
 use Rattle.rm_history.specs.declared.run.Run.{Run}
-use Rattle.rm_history.specs.Runs.{run_in, AreDistinct, released}
+use Rattle.rm_history.specs.declared.runs.Runs.{Runs}
+use Rattle.rm_history.specs.Buckets.{end_of}
+use Rattle.rm_history.specs.Runs.{kept, run_in, AreDistinct, Fits, released}
 use Rattle.rm_history.proofs.Rings.{eq_is}
 
 some_no_row : (row : ℕ) → 1 ≤ row → nat_eq 0 row ≡ false
@@ -237,3 +241,35 @@ not_found p (x ∷ xs) e h =
 
 pub no_spare : (runs : List Run) → None ≡ position (λ run. nat_eq run.row 0) runs → is_some (run_in runs 0) ≡ true → ⊥
 no_spare runs e h = not_found (λ (run : Run). nat_eq run.row 0) runs (place_of_none (λ (run : Run). nat_eq run.row 0) runs e) h
+
+-- What holds of all of them.
+module _ (P : Run → Type 0) where
+  pub all_more : (runs : List Run) (run : Run) → AllByRecursion P runs → P run → AllByRecursion P (runs ++ run ∷ [])
+  all_more [] run h p = (p, tt)
+  all_more (x ∷ runs) run h p = (h.0, all_more runs run h.1 p)
+
+  pub all_removed : (runs : List Run) (k : ℕ) → AllByRecursion P runs → AllByRecursion P (remove runs k)
+  all_removed [] zero h = tt
+  all_removed [] (suc k) h = tt
+  all_removed (x ∷ runs) zero h = h.1
+  all_removed (x ∷ runs) (suc k) h = (h.0, all_removed runs k h.1)
+
+  pub all_set : (runs : List Run) (k : ℕ) (run : Run) → AllByRecursion P runs → P run → AllByRecursion P (slice_set runs k run)
+  all_set [] zero run h p = tt
+  all_set [] (suc k) run h p = tt
+  all_set (x ∷ runs) zero run h p = (p, h.1)
+  all_set (x ∷ runs) (suc k) run h p = (h.0, all_set runs k run h.1 p)
+
+  pub all_map : (f : Run → Run) → ((run : Run) → P run → P (f run)) → (runs : List Run) → AllByRecursion P runs → AllByRecursion P (map f runs)
+  all_map f keeps [] h = tt
+  all_map f keeps (x ∷ runs) h = (keeps x h.0, all_map f keeps runs h.1)
+
+-- one that was begun, or is spare and new, fits
+pub begun_fits : (last frames : ℕ) (run : Run) → run.plan.start ≤ last → run.closed ≡ 0 → run.current.packets ≡ 0 → Fits last frames run
+begun_fits last frames run start closed packets = (
+  subst (λ n. end_of run.plan n ≤ last) (sym closed) (omega (arith, start)),
+  omega (arith, packets),
+)
+
+pub kept_is : (runs : Runs) (list : Vec Run Global) → runs.list ≡ Some list → kept runs ≡ list.items
+kept_is runs list e = ap (λ o. option_map_or (λ (l : Vec Run Global). l.items) o []) e

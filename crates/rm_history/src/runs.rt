@@ -1,10 +1,10 @@
 // The histories that are kept.
-ghost use Rattle.std.specs.Prelude.{◌≡◌, ℕ, ◌+◌, ◌<◌, ◌≤◌, [], ◌∷◌, ◌++◌, map, length, min, true, false, None, is_some, position, nat_eq, OnOk, IfSome, is_ok, if◌then◌else◌};
+ghost use Rattle.std.specs.Prelude.{◌≡◌, ℕ, ◌+◌, ◌<◌, ◌≤◌, [], ◌∷◌, ◌++◌, map, length, min, true, false, None, is_some, position, nat_eq, OnOk, OnErr, IfSome, is_ok, if◌then◌else◌};
 ghost use Rattle.std.specs.Option.{option_copied};
 ghost use Rattle.std.specs.List.{AllByRecursion};
 ghost use Rattle.rm_ether.specs.declared.bounds.TheConstants.{MOST_OCTETS};
 ghost use Rattle.rm_history.specs.declared.run.TheConstants.{MOST_BUCKETS};
-ghost use Rattle.rm_history.specs.Runs.{kept, run_in, AreDistinct, IsReady, Counts, EachBecomes, IsBegun, released, valid_in};
+ghost use Rattle.rm_history.specs.Runs.{kept, run_in, AreDistinct, Fits, IsReady, Counts, EachBecomes, IsBegun, released, valid_in};
 
 use crate::control_columns::ControlColumns;
 use crate::plan::Plan;
@@ -67,7 +67,9 @@ impl Runs {
         ensures same { (row : ℕ) → 1 ≤ row → run_in (kept self.new) row ≡ run_in (kept self.old) row }
         ensures distinct { AreDistinct (kept self.old) → AreDistinct (kept self.new) }
         ensures more { length (kept self.old) ≤ length (kept self.new) }
+        ensures fits { (last frames : ℕ) → AllByRecursion (Fits last frames) (kept self.old) → AllByRecursion (Fits last frames) (kept self.new) }
         ensures ok { OnOk result (count ≤ length (kept self.new)) }
+        ensures err { OnErr result (length (kept self.old) < count) }
     {
         while self.len() < count {
             let run = Run::spare(alloc)?;
@@ -89,6 +91,7 @@ impl Runs {
         ensures same { (row : ℕ) → 1 ≤ row → run_in (kept self.new) row ≡ run_in (kept self.old) row }
         ensures distinct { AreDistinct (kept self.old) → AreDistinct (kept self.new) }
         ensures enough { min count (length (kept self.old)) ≤ length (kept self.new) }
+        ensures fits { (last frames : ℕ) → AllByRecursion (Fits last frames) (kept self.old) → AllByRecursion (Fits last frames) (kept self.new) }
     {
         if let Some(list) = &mut self.list {
             trim_in(list, count);
@@ -108,9 +111,10 @@ impl Runs {
         ensures others { (other : ℕ) → 1 ≤ other → nat_eq row other ≡ false → run_in (kept self.new) other ≡ run_in (kept self.old) other }
         ensures distinct { AreDistinct (kept self.old) → AreDistinct (kept self.new) }
         ensures count { length (kept self.new) ≡ length (kept self.old) }
+        ensures fits { (last frames : ℕ) → plan.start ≤ last → AllByRecursion (Fits last frames) (kept self.old) → AllByRecursion (Fits last frames) (kept self.new) }
     {
         if let Some(list) = &mut self.list {
-            begin_in(list.as_mut_slice(), row, source, plan);
+            begin_in(list, row, source, plan);
         }
     }
 
@@ -129,6 +133,7 @@ fn trim_in(list: &mut Vec<Run>, count: usize)
     ensures same { (row : ℕ) → 1 ≤ row → run_in list.new.items row ≡ run_in list.old.items row }
     ensures distinct { AreDistinct list.old.items → AreDistinct list.new.items }
     ensures enough { min count (length list.old.items) ≤ length list.new.items }
+    ensures fits { (last frames : ℕ) → AllByRecursion (Fits last frames) list.old.items → AllByRecursion (Fits last frames) list.new.items }
 {
     let mut place = list.len();
     while place > 0 && list.len() > count {
@@ -140,21 +145,22 @@ fn trim_in(list: &mut Vec<Run>, count: usize)
 }
 
 // Begins the history of a row in the first spare one.
-fn begin_in(runs: &mut [Run], row: u32, source: u32, plan: Plan)
+fn begin_in(list: &mut Vec<Run>, row: u32, source: u32, plan: Plan)
     requires some_row { 1 ≤ row }
-    requires none { run_in runs.old row ≡ None }
-    requires spare { is_some (run_in runs.old 0) ≡ true }
+    requires none { run_in list.old.items row ≡ None }
+    requires spare { is_some (run_in list.old.items 0) ≡ true }
     requires some { 1 ≤ plan.seconds }
     requires hour { plan.seconds ≤ 3600 }
     requires fewer { plan.kept ≤ MOST_BUCKETS }
-    ensures begun { IfSome (run_in runs.new row) (IsBegun row source plan) }
-    ensures there { is_some (run_in runs.new row) ≡ true }
-    ensures others { (other : ℕ) → 1 ≤ other → nat_eq row other ≡ false → run_in runs.new other ≡ run_in runs.old other }
-    ensures distinct { AreDistinct runs.old → AreDistinct runs.new }
-    ensures count { length runs.new ≡ length runs.old }
+    ensures begun { IfSome (run_in list.new.items row) (IsBegun row source plan) }
+    ensures there { is_some (run_in list.new.items row) ≡ true }
+    ensures others { (other : ℕ) → 1 ≤ other → nat_eq row other ≡ false → run_in list.new.items other ≡ run_in list.old.items other }
+    ensures distinct { AreDistinct list.old.items → AreDistinct list.new.items }
+    ensures count { length list.new.items ≡ length list.old.items }
+    ensures fits { (last frames : ℕ) → plan.start ≤ last → AllByRecursion (Fits last frames) list.old.items → AllByRecursion (Fits last frames) list.new.items }
 {
-    if let Some(place) = first_spare(runs) {
-        runs[place].begin(row, source, plan);
+    if let Some(place) = first_spare(list.as_slice()) {
+        list[place].begin(row, source, plan);
     }
 }
 
