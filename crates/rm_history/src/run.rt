@@ -2,6 +2,7 @@
 ghost use Rattle.std.specs.Prelude.{◌≡◌, ℕ, ◌+◌, ◌*◌, ◌<◌, ◌≤◌, [], nat_eq, IfOk, if◌then◌else◌};
 ghost use Rattle.rm_ether.specs.declared.bounds.TheConstants.{MOST_OCTETS, MOST_FRAMES};
 ghost use Rattle.rm_history.specs.declared.run.TheConstants.{MOST_BUCKETS};
+ghost use Rattle.rm_ether.specs.Standing.{AreBounded};
 
 use crate::plan::Plan;
 use circular_buffer::HeapCircularBuffer;
@@ -32,6 +33,7 @@ pub struct Run {
     ghost hour: { plan.seconds ≤ 3600 },
     ghost room: { ring.capacity ≡ MOST_BUCKETS },
     ghost fewer: { plan.kept ≤ MOST_BUCKETS },
+    ghost bounded: { AreBounded current },
 }
 
 impl Run {
