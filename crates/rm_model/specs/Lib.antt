@@ -10,3 +10,4 @@ pub mod ControlRows
 pub mod Judgement
 pub mod Alike
 pub mod Accepted
+pub mod Reserves

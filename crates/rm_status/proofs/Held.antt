@@ -58,7 +58,7 @@ module _ {C : Type 0} where
       let apart = count_or (nat_eq r.index) (λ i. is_some (row_in rows i)) n (λ i e. let is = eqb-true r.index i e in ap is_some (above_none r.index i rows rise.0 (omega arith))) in
       omega (arith, split, apart, count_one r.index n low.0, length-count rows n rise.1 low.1)
 
-  all_below : (rows : List (Row C)) → AllThere rows → AllBelow 65536 rows
+  pub all_below : (rows : List (Row C)) → AllThere rows → AllBelow 65536 rows
   all_below [] h = tt
   all_below (r ∷ rows) h = (below r.index h.0.0, all_below rows h.1)
 

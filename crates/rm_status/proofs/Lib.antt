@@ -23,3 +23,5 @@ pub mod ColumnLaws
 pub mod IndexLemmas
 pub mod Named
 pub mod RowsAfterLemmas
+pub mod Valid
+pub mod Bares

@@ -11,3 +11,4 @@ pub mod Change
 pub mod Values
 pub mod Indexes
 pub mod RowsAfter
+pub mod Bare

@@ -1,7 +1,9 @@
 // The rows of a control table.
+mod after;
 mod commit;
 mod each;
 mod judge;
+mod valid;
 
 ghost use Rattle.std.specs.Prelude.{◌≡◌, ℕ, ◌<◌, ◌≤◌, ◌+◌, List, [], length, Bool, true, false, Option, Some, None, is_some, IfSome, IfNone, IsTrue, position, find, nat_eq, nat_lt, if◌then◌else◌, slice_get};
 ghost use Rattle.std.specs.Option.{option_copied};

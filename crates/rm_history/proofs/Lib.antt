@@ -1,0 +1,5 @@
+mod Examples
+mod Rings
+mod Frames
+mod Each
+mod Spares

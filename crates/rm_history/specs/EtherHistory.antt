@@ -1,0 +1,53 @@
+-- The table etherHistory (RFC 1757, section 5.3): the last complete buckets of each row of historyControl.
+use Rattle.std.specs.Prelude.{ℕ, pos, ◌/◌, ◌%◌, ◌^◌, List, [], ◌∷◌, Bool, false, ◌&&◌}
+use Rattle.rm_val.specs.Val.{Val, int, counter, ticks}
+use Rattle.rm_model.specs.Settings.{Settings}
+use Rattle.rm_model.specs.Journal.{Journal}
+use Rattle.rm_model.specs.Cells.{Table}
+use Rattle.rm_model.specs.ControlRows.{is_valid}
+use Rattle.rm_ether.specs.declared.counter.Counter.{Counter}
+use Rattle.rm_ether.specs.declared.counter.Counter.TheVariants.{Octets, Pkts}
+use Rattle.rm_history.specs.declared.sample_column.SampleColumn.{SampleColumn}
+use Rattle.rm_history.specs.declared.sample_column.SampleColumn.TheVariants.{Index, SampleIndex, IntervalStart, Counts, Utilization}
+use Rattle.rm_history.specs.Columns.{sample_columns, sample_column}
+use Rattle.rm_history.specs.Buckets.{begin_of, bucket_sum, is_shown, utilization}
+use Rattle.rm_history.specs.HistoryControl.{control_state, plan_of, counted_frames}
+
+-- the identifier of etherHistoryEntry
+abbrev pub sample_entry : List ℕ
+sample_entry = 1 ∷ 3 ∷ 6 ∷ 1 ∷ 2 ∷ 1 ∷ 16 ∷ 2 ∷ 2 ∷ 1 ∷ []
+
+-- whether these numbers are those of a valid control row and of a bucket of it that is shown at a moment
+abbrev pub is_sample : Journal → ℕ → List ℕ → Bool
+is_sample journal now (row ∷ bucket ∷ []) =
+    is_valid (control_state journal (row ∷ [])) && is_shown (plan_of journal (row ∷ [])) now bucket
+is_sample journal now index = false
+
+-- a counter of a bucket of a control row
+abbrev pub sample_sum : Settings → Journal → ℕ → ℕ → Counter → ℕ
+sample_sum settings journal row bucket each =
+    bucket_sum settings (plan_of journal (row ∷ [])) (counted_frames journal (row ∷ [])) bucket each
+
+-- What a column of a bucket of a control row shows. It began at a moment in hundredths of a second, and a Counter32 is shown
+-- modulo 2 ^ 32; the utilization is that of the exact sums.
+abbrev pub sample_value : Settings → Journal → ℕ → ℕ → SampleColumn → Val
+sample_value settings journal row bucket Index = int (pos row)
+sample_value settings journal row bucket SampleIndex = int (pos bucket)
+sample_value settings journal row bucket IntervalStart = ticks (begin_of (plan_of journal (row ∷ [])) bucket / 10)
+sample_value settings journal row bucket (Counts each) = counter (sample_sum settings journal row bucket each % 2 ^ 32)
+sample_value settings journal row bucket Utilization =
+    int (pos (utilization (sample_sum settings journal row bucket Pkts) (sample_sum settings journal row bucket Octets) (plan_of journal (row ∷ [])).seconds))
+
+-- the same by the numbers of an index
+abbrev pub sample_at : Settings → Journal → List ℕ → SampleColumn → Val
+sample_at settings journal (row ∷ bucket ∷ []) column = sample_value settings journal row bucket column
+sample_at settings journal index column = int (pos 0)
+
+-- the table after a journal, at a moment
+abbrev pub sample_table : Settings → Journal → ℕ → Table
+sample_table settings journal now = record {
+  entry = sample_entry;
+  columns = sample_columns;
+  is_row = is_sample journal now;
+  value = λ column index. sample_at settings journal index (sample_column column);
+}

@@ -1,0 +1,88 @@
+-- The table historyControl (RFC 1757, section 5.2), and what it shows after a journal.
+use Rattle.std.specs.Prelude.{ℕ, pos, min, List, [], ◌∷◌, true, false, not, if◌then◌else◌}
+use Rattle.rm_val.specs.Val.{Val, int, octets, name}
+use Rattle.rm_model.specs.Journal.{Frame, Journal, frames_in}
+use Rattle.rm_model.specs.Interfaces.{interface_name, frames_of}
+use Rattle.rm_model.specs.Cells.{Table}
+use Rattle.rm_model.specs.ControlTable.{Column, ControlTable, number, data_source, text}
+use Rattle.rm_model.specs.ControlRows.{no_rows, is_absent, is_valid, state_of, value_of, since, activated, index_value, entry_status}
+use Rattle.rm_model.specs.declared.row.StatusKind.TheVariants.{EntryStatus}
+use Rattle.rm_model.specs.declared.row.State.{State}
+use Rattle.rm_history.specs.declared.control_column.ControlColumn.{ControlColumn}
+use Rattle.rm_history.specs.declared.control_column.ControlColumn.TheVariants.{Index, DataSource, BucketsRequested, BucketsGranted, Interval, Owner, Status}
+use Rattle.rm_history.specs.Columns.{control_columns, control_column}
+use Rattle.rm_status.specs.Values.{natural_in}
+use Rattle.rm_history.specs.declared.plan.Plan.{Plan}
+
+-- the identifier of historyControlEntry
+abbrev pub control_entry : List ℕ
+control_entry = 1 ∷ 3 ∷ 6 ∷ 1 ∷ 2 ∷ 1 ∷ 16 ∷ 2 ∷ 1 ∷ 1 ∷ []
+
+-- the columns that can be set: the data source, which is interface 1 until it is set; the buckets requested; the interval in
+-- seconds; and the owner, which may be set at any time
+abbrev pub data_source_column : Column
+data_source_column = record { number = 2; kind = data_source; always = false; needed = false; default = name (interface_name 1) }
+
+abbrev pub requested_column : Column
+requested_column = record { number = 3; kind = number (record { least = pos 1; greatest = pos 65535 } ∷ []); always = false; needed = false; default = int (pos 50) }
+
+abbrev pub interval_column : Column
+interval_column = record { number = 5; kind = number (record { least = pos 1; greatest = pos 3600 } ∷ []); always = false; needed = false; default = int (pos 1800) }
+
+abbrev pub owner_column : Column
+owner_column = record { number = 6; kind = text 127; always = true; needed = false; default = octets [] }
+
+-- the control table: a row asks for so many buckets of so many seconds each of the frames of a data source
+abbrev pub history_control : ControlTable
+history_control = record {
+  entry = control_entry;
+  status = 7;
+  status_kind = EntryStatus;
+  columns = data_source_column ∷ requested_column ∷ interval_column ∷ owner_column ∷ [];
+  go_together = λ value. true;
+  is_sampled = false;
+}
+
+-- the state of a row
+abbrev pub control_state : Journal → List ℕ → State
+control_state journal index = state_of history_control no_rows journal index
+
+-- the value of a column of a row that can be set: 2 is the data source, 3 the buckets requested, 5 the interval, 6 the owner
+abbrev pub control_set : Journal → List ℕ → ℕ → Val
+control_set journal index column = value_of history_control no_rows journal index column
+
+-- how many buckets are granted, at most 1024
+abbrev pub granted : ℕ → ℕ
+granted requested = min requested 1024
+
+-- how the history of a row is taken: from the moment on at which it became valid
+abbrev pub plan_of : Journal → List ℕ → Plan
+plan_of journal index = record {
+  start = activated history_control no_rows journal index;
+  seconds = natural_in (control_set journal index 5);
+  kept = granted (natural_in (control_set journal index 3));
+}
+
+-- the frames that a row counts: those of its data source, since it became valid
+abbrev pub counted_frames : Journal → List ℕ → List Frame
+counted_frames journal index =
+    frames_of (control_set journal index 2) (frames_in (since history_control no_rows journal index))
+
+-- what a column of a row shows; nothing is granted to a row that isn't valid
+abbrev pub control_value : Journal → List ℕ → ControlColumn → Val
+control_value journal index Index = index_value index
+control_value journal index DataSource = control_set journal index 2
+control_value journal index BucketsRequested = control_set journal index 3
+control_value journal index BucketsGranted = int (pos (if is_valid (control_state journal index) then (plan_of journal index).kept else 0))
+control_value journal index Interval = control_set journal index 5
+control_value journal index Owner = control_set journal index 6
+control_value journal index Status = int (entry_status (control_state journal index))
+
+-- the table after a journal
+abbrev pub control_table : Journal → Table
+control_table journal = record {
+  entry = control_entry;
+  columns = control_columns;
+  is_row = λ index. not (is_absent (control_state journal index));
+  value = λ column index. control_value journal index (control_column column);
+}

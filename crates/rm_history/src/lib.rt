@@ -1,0 +1,9 @@
+//! The history of Ethernet interfaces: historyControlTable and etherHistoryTable (RFC 1757, sections 5.2 and 5.3).
+#![tactic(auto)]
+
+mod control_column;
+mod control_columns;
+mod plan;
+mod run;
+mod runs;
+mod sample_column;

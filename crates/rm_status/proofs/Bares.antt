@@ -1,0 +1,89 @@
+-- Rows that are the same but for their other data.
+use Rattle.std.proofs.Common.{◌≡◌, ℕ, ◌<◌, ◌+◌, zero, suc, true, false, cond, List, [], ◌∷◌, ◌++◌, length, map, Option, Some, None, refl, sym, ap, subst, ◌∙◌, arith, get_or, take, nat_eq, add-one}
+use Rattle.std.specs.Option.{option_map, option_and_then}
+use Rattle.std.proofs.lemmas.List.{map-append}
+use Rattle.rm_val.specs.Val.{Val}
+use Rattle.std.specs.Prelude.{unwrap_or}
+use Rattle.rm_model.specs.declared.row.State.{State}
+use Rattle.rm_model.specs.declared.row.State.TheVariants.{Absent, UnderCreation, Valid}
+use Rattle.rm_model.specs.ControlTable.{ControlTable}
+use Rattle.rm_model.specs.ControlRows.{set_ask, next_state}
+use Rattle.rm_model.specs.Judgement.{Bindings}
+use Rattle.rm_status.specs.Commit.{put_all, if_there, row_after}
+use Rattle.rm_status.specs.declared.row.Row.{Row}
+use Rattle.rm_status.specs.Rows.{row_number, row_in, state_seen, columns_seen, rows_before, AllAbove, Rising, AllThere, AreControlRows}
+use Rattle.rm_status.specs.Bare.{bare_row, bare_rows}
+
+module _ {C : Type 0} (set_to : C → ℕ → Option Val) where
+  taken_more : {X Y : Type 0} (f : X → Y) (xs : List X) (k : ℕ) (d : X) → k < length xs → map f (take (suc k) xs) ≡ map f (take k xs) ++ f (get_or xs k d) ∷ []
+  taken_more f [] k d lt = absurd (omega arith)
+  taken_more f (x ∷ xs) zero d lt = refl
+  taken_more f (x ∷ xs) (suc k) d lt = ap (λ l. f x ∷ l) (taken_more f xs k d (omega arith))
+
+  -- one more row taken over
+  pub one_more_bare : (rows bare new : List (Row C)) (k : ℕ) (d x : Row C) → k < length rows → bare_rows set_to bare ≡ bare_rows set_to (take k rows) → bare_row set_to x ≡ bare_row set_to (get_or rows k d) → new ≡ bare ++ x ∷ [] → bare_rows set_to new ≡ bare_rows set_to (take (k + 1) rows)
+  one_more_bare rows bare new k d x lt before same is =
+      ap (bare_rows set_to) is ∙ map-append (bare_row set_to) bare (x ∷ []) ∙ ap (λ l. l ++ bare_row set_to x ∷ []) before
+      ∙ ap (λ r. bare_rows set_to (take k rows) ++ r ∷ []) same ∙ sym (taken_more (bare_row set_to) rows k d lt) ∙ ap (λ n. bare_rows set_to (take n rows)) (sym (add-one k))
+
+  row_in-bare : (rows : List (Row C)) (i : ℕ) → row_in (bare_rows set_to rows) i ≡ option_map (bare_row set_to) (row_in rows i)
+  row_in-bare [] i = refl
+  row_in-bare (r ∷ rows) i = elim (nat_eq r.index i) as (λ t. cond t (Some (bare_row set_to r)) (row_in (bare_rows set_to rows) i) ≡ option_map (bare_row set_to) (cond t (Some r) (row_in rows i))) [ true ↦ refl | false ↦ row_in-bare rows i ]
+
+  state_of_bare : (o : Option (Row C)) → state_seen (option_map (bare_row set_to) o) ≡ state_seen o
+  state_of_bare None = refl
+  state_of_bare (Some r) = refl
+
+  set_of_bare : (o : Option (Row C)) (n : ℕ) → option_and_then (λ c. c n) (columns_seen (option_map (bare_row set_to) o)) ≡ option_and_then (λ c. set_to c n) (columns_seen o)
+  set_of_bare None n = refl
+  set_of_bare (Some r) n = refl
+
+  before_bare : (rows : List (Row C)) → rows_before (λ c. c) (bare_rows set_to rows) ≡ rows_before set_to rows
+  before_bare rows = λ d. record {
+    state = λ index. (ap state_seen (row_in-bare rows (row_number index)) ∙ state_of_bare (row_in rows (row_number index))) d;
+    set = λ index n. (ap (λ o. option_and_then (λ c. c n) (columns_seen o)) (row_in-bare rows (row_number index)) ∙ set_of_bare (row_in rows (row_number index)) n) d;
+  }
+
+  -- a Set finds the same rows
+  pub same_before : (rows bare : List (Row C)) → bare_rows set_to bare ≡ bare_rows set_to rows → rows_before set_to bare ≡ rows_before set_to rows
+  same_before rows bare same = sym (before_bare bare) ∙ ap (rows_before (λ c. c)) same ∙ before_bare rows
+
+  above-bare : (i : ℕ) (rows : List (Row C)) → AllAbove i rows → AllAbove i (bare_rows set_to rows)
+  above-bare i [] h = tt
+  above-bare i (r ∷ rows) h = (h.0, above-bare i rows h.1)
+
+  above-full : (i : ℕ) (rows : List (Row C)) → AllAbove i (bare_rows set_to rows) → AllAbove i rows
+  above-full i [] h = tt
+  above-full i (r ∷ rows) h = (h.0, above-full i rows h.1)
+
+  rising-bare : (rows : List (Row C)) → Rising rows → Rising (bare_rows set_to rows)
+  rising-bare [] h = tt
+  rising-bare (r ∷ rows) h = (above-bare r.index rows h.0, rising-bare rows h.1)
+
+  rising-full : (rows : List (Row C)) → Rising (bare_rows set_to rows) → Rising rows
+  rising-full [] h = tt
+  rising-full (r ∷ rows) h = (above-full r.index rows h.0, rising-full rows h.1)
+
+  there-bare : (rows : List (Row C)) → AllThere rows → AllThere (bare_rows set_to rows)
+  there-bare [] h = tt
+  there-bare (r ∷ rows) h = (h.0, there-bare rows h.1)
+
+  there-full : (rows : List (Row C)) → AllThere (bare_rows set_to rows) → AllThere rows
+  there-full [] h = tt
+  there-full (r ∷ rows) h = (h.0, there-full rows h.1)
+
+  pub are_rows : (rows bare : List (Row C)) → bare_rows set_to bare ≡ bare_rows set_to rows → AreControlRows rows → AreControlRows bare
+  are_rows rows bare same h = (
+    rising-full bare (subst Rising (sym same) (rising-bare rows h.0)),
+    there-full bare (subst AllThere (sym same) (there-bare rows h.1)),
+  )
+
+module _ {C : Type 0} (t : ControlTable) (with_column : C → ℕ → Val → C) (blank : C) (bs : Bindings) where
+  if_there_state : (i : ℕ) (s : State) (c : C) → state_seen (if_there t with_column blank (record { index = i; state = s; columns = c })) ≡ s
+  if_there_state i Absent c = refl
+  if_there_state i UnderCreation c = refl
+  if_there_state i Valid c = refl
+
+  -- a row's state after a Set
+  pub state_then : (i : ℕ) (o : Option (Row C)) → state_seen (row_after t with_column blank bs i o) ≡ next_state (set_ask t bs (i ∷ [])) (state_seen o)
+  state_then i o = if_there_state i (next_state (set_ask t bs (i ∷ [])) (state_seen o)) (put_all t with_column blank bs i (unwrap_or (columns_seen o) blank))

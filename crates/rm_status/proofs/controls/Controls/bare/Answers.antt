@@ -1,0 +1,6 @@
+use Rattle.rm_status.proofs.Bares.{are_rows}
+use Rattle.rm_status.proofs.controls.Controls.bare.Goals as goal
+
+pub invariant_of-result : goal.invariant_of-result
+invariant_of-result g c =
+    (c.self.invariant.0, are_rows g.C.Columns.set_to c.self.inside.rows.items c.bare_rows.result.items c.bare_rows.ensures c.self.invariant.1)
