@@ -1,0 +1,6 @@
+use Rattle.std.proofs.Common.{arith}
+use Rattle.rm_agent.specs.Known.{counting_by}
+use Rattle.rm_agent.proofs.agent.Agent.new.Goals as goal
+
+pub returns-clause-stands : goal.returns-clause-stands
+returns-clause-stands c = record { ether = c.new.ensures.stands (counting_by c.args.settings); last = omega arith }
