@@ -4,17 +4,22 @@ use Rattle.std.proofs.lemmas.List.{append-nil, append_cancel_left}
 use Rattle.std.proofs.lemmas.Bool.{cases_lt}
 use Rattle.std.proofs.lemmas.Slice.Eq.{bytes_eq-Decides}
 use Rattle.rm_val.specs.Val.{Val, end_of_view}
+use Rattle.rm_val.specs.declared.error.ErrorStatus.{ErrorStatus}
+use Rattle.rm_model.specs.Journal.{Journal}
+use Rattle.rm_model.specs.Judgement.{Bindings}
 use Rattle.rm_model.specs.Cells.{Cells, IsNext}
 use Rattle.rm_pdu.specs.declared.kind.Kind.{Kind}
 use Rattle.rm_pdu.specs.declared.kind.Kind.TheVariants.{Get, Next, Response, Set, Bulk, Inform, Trap, Report}
 use Rattle.rm_pdu.specs.Message.{Binding, Message, message_octets}
-use Rattle.rm_pdu.specs.Verdict.{message}
+use Rattle.rm_pdu.specs.Verdict.{message, is_request}
 use Rattle.rm_pdu.specs.Draft.{binding_of}
 use Rattle.rm_agent.specs.declared.settings.Settings.{Settings}
-use Rattle.rm_agent.specs.declared.answer.Reason.TheVariants.{Community, Unbuilt}
+use Rattle.rm_agent.specs.declared.answer.Reason.TheVariants.{Community}
 use Rattle.rm_agent.specs.Known.{is_known}
 use Rattle.rm_agent.specs.Answered.{IsGetBinding, IsNextBinding, shown_value, AreAnswers, are_end}
-use Rattle.rm_agent.specs.Answers.{reason_for}
+use Rattle.rm_agent.specs.Sets.{alone_among}
+use Rattle.rm_agent.specs.Answers.{reason_for, IsReplyBy}
+use Rattle.rm_agent.proofs.Verdicts.{set_some}
 use Rattle.rm_agent.specs.Replies.{names_of, carrying, too_big, size_with, IsWholeReply, IsFront, AreRepetitions, IsBulkFront, IsLongest, IsBulkReply, counting, non_repeaters, is_built, IsReplyOf, IsReply}
 use Rattle.rm_agent.proofs.BulkLemmas.{Lengthens, next_one, Goes}
 use Rattle.rm_agent.proofs.OneReply.{OneGoesOn, bulk_goes}
@@ -186,16 +191,16 @@ known_short settings community known = of_tests (bytes_eq community settings.rea
     of_tests false true _ is _ = let same = ap length ((bytes_eq-Decides community settings.write.items).0 is) in omega (arith, same, settings.write_high)
     of_tests false false _ _ none = absurd cc
 
--- what isn't dropped has a known community, and is of a kind that gets a reply
-not_dropped : (known built : Bool) → (if known then (if built then None else Some Unbuilt) else Some Community) ≡ None → (known ≡ true) × (built ≡ true)
-not_dropped true true is = (refl, refl)
-not_dropped true false is = absurd cc
-not_dropped false built is = absurd cc
+-- what isn't dropped has a known community
+not_dropped : (known : Bool) → (if known then None else Some Community) ≡ None → known ≡ true
+not_dropped true is = refl
+not_dropped false is = absurd cc
 
-pub reply_some : Lengthens → BeginShort → (settings : Settings) (cells : Cells) (objects : List ℕ → Bool) → FindsNext cells → (request : Message) → reason_for settings (message request) ≡ None
-    → (reply : Message) × IsReply cells objects request reply
-reply_some lengthen begin settings cells objects finds request answered =
-    let (known, built) = not_dropped (is_known settings request.community) (is_built request.kind) answered in
+-- a request of a kind that reads has a reply
+pub reply_some : Lengthens → BeginShort → (settings : Settings) (cells : Cells) (objects : List ℕ → Bool) → FindsNext cells → (request : Message) → is_built request.kind ≡ true
+    → reason_for settings (message request) ≡ None → (reply : Message) × IsReply cells objects request reply
+reply_some lengthen begin settings cells objects finds request built answered =
+    let known = not_dropped (is_known settings request.community) answered in
     let short = begin (carrying request []) (omega (arith, known_short settings request.community known)) refl in
     elim (cases_lt 128 (length request.bindings)) [
       | inl many ↦ (too_big request, record { few = λ few. absurd (omega (arith, few, many)); many = λ _. refl })
@@ -203,3 +208,26 @@ reply_some lengthen begin settings cells objects finds request answered =
           let (reply, is) = kind_some lengthen cells objects finds request.kind request built short in
           (reply, record { few = λ _. is; many = λ many. absurd (omega (arith, few, many)) })
     ]
+
+module _ (lengthen : Lengthens) (begin : BeginShort) (settings : Settings) (cells : Cells) (objects : List ℕ → Bool) (finds : FindsNext cells) (alone : List ℕ → Val → Option ErrorStatus)
+    (together : Bindings → ℕ → Option ErrorStatus) (reserves : Bindings → ℕ → Type 0) (may_write : Bool) (moment : ℕ) (journal : Journal) (request : Message)
+    (answered : reason_for settings (message request) ≡ None) where
+  abbrev HasReply : Kind → Type 0
+  HasReply kind = (reply : Message) × (after : Journal) × IsReplyBy cells objects alone together reserves may_write moment journal kind request reply after
+
+  reads : is_built request.kind ≡ true → HasReply Get
+  reads built = let (reply, is) = reply_some lengthen begin settings cells objects finds request built answered in (reply, journal, (is, refl))
+
+  of_kind : (kind : Kind) → request.kind ≡ kind → is_request kind ≡ true → HasReply kind
+  of_kind Get is asks = reads (ap is_built is)
+  of_kind Next is asks = reads (ap is_built is)
+  of_kind Bulk is asks = reads (ap is_built is)
+  of_kind Set is asks = set_some (alone_among objects alone) together reserves moment journal may_write request
+  of_kind Response is asks = absurd cc
+  of_kind Inform is asks = absurd cc
+  of_kind Trap is asks = absurd cc
+  of_kind Report is asks = absurd cc
+
+  -- a request has a reply
+  pub request_some : is_request request.kind ≡ true → HasReply request.kind
+  request_some asks = of_kind request.kind refl asks

@@ -2,5 +2,8 @@ mod NameLemmas
 mod RowLemmas
 mod BulkLemmas
 mod ReplyLemmas
+mod ReadLemmas
+mod SetLemmas
+mod Verdicts
 mod OneReply
 mod EveryReply

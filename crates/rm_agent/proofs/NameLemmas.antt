@@ -19,7 +19,7 @@ slice_get-drop (x ∷ l) (suc from) k =
     let e : suc from + k ≡ suc (from + k) = omega arith in
     slice_get-drop l from k ∙ sym (ap (slice_get (x ∷ l)) e)
 
-take_more : {X : Type 0} (l : List X) (place : ℕ) (x : X) → slice_get l place ≡ Some x → take (suc place) l ≡ take place l ++ x ∷ []
+pub take_more : {X : Type 0} (l : List X) (place : ℕ) (x : X) → slice_get l place ≡ Some x → take (suc place) l ≡ take place l ++ x ∷ []
 take_more [] place x at = absurd cc
 take_more (y ∷ l) zero x at = let e : y ≡ x = cc in ap (λ z. z ∷ []) e
 take_more (y ∷ l) (suc place) x at = ap (λ zs. y ∷ zs) (take_more l place x at)

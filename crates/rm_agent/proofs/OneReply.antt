@@ -1,13 +1,20 @@
 -- A request has one reply.
-use Rattle.std.proofs.Common.{◌≡◌, ◌≤◌, ℕ, zero, suc, Bool, true, false, List, [], ◌∷◌, ◌++◌, length, take, drop, ◌⊎◌, inl, inr, refl, sym, ap, subst, ◌∙◌, arith}
+use Rattle.std.proofs.Common.{◌≡◌, ◌≤◌, ℕ, zero, suc, Bool, true, false, List, [], ◌∷◌, ◌++◌, length, take, drop, Option, ◌⊎◌, inl, inr, refl, sym, ap, subst, ◌∙◌, arith}
 use Rattle.std.proofs.lemmas.List.{append-nil}
 use Rattle.std.proofs.lemmas.Bool.{cases_lt}
+use Rattle.rm_val.specs.Val.{Val}
+use Rattle.rm_val.specs.declared.error.ErrorStatus.{ErrorStatus}
+use Rattle.rm_model.specs.Journal.{Journal}
+use Rattle.rm_model.specs.Judgement.{Bindings}
 use Rattle.rm_model.specs.Cells.{Cells}
 use Rattle.rm_pdu.specs.declared.kind.Kind.{Kind}
 use Rattle.rm_pdu.specs.declared.kind.Kind.TheVariants.{Get, Next, Response, Set, Bulk, Inform, Trap, Report}
 use Rattle.rm_pdu.specs.Message.{Binding, Message}
 use Rattle.rm_agent.specs.Answered.{IsGetBinding, IsNextBinding, AreFirst, are_end}
 use Rattle.rm_agent.specs.Replies.{names_of, carrying, size_with, IsWholeReply, IsFront, AreRepetitions, IsBulkFront, IsLongest, IsBulkReply, counting, non_repeaters, IsReplyOf, IsReply}
+use Rattle.rm_agent.specs.Sets.{alone_among, given_by}
+use Rattle.rm_agent.specs.Answers.{IsReplyBy}
+use Rattle.rm_agent.proofs.Verdicts.{set_once}
 use Rattle.rm_agent.proofs.BulkLemmas.{HasOne, Lengthens, next_one, Goes}
 
 -- one of two lists goes on where the other one ends
@@ -124,3 +131,22 @@ reply_one lengthen cells objects request a b p q = elim (cases_lt 128 (length re
   | inl many ↦ p.many many ∙ sym (q.many many)
   | inr few ↦ kind_one lengthen cells objects request.kind request a b (p.few few) (q.few few)
 ]
+
+module _ (lengthen : Lengthens) (cells : Cells) (objects : List ℕ → Bool) (alone : List ℕ → Val → Option ErrorStatus) (together : Bindings → ℕ → Option ErrorStatus)
+    (reserves : Bindings → ℕ → Type 0) (may_write : Bool) (moment : ℕ) (journal : Journal) (request a b : Message) (after later : Journal) where
+  abbrev By : Kind → Message → Journal → Type 0
+  By kind reply next = IsReplyBy cells objects alone together reserves may_write moment journal kind request reply next
+
+  reads_one : IsReply cells objects request a × (after ≡ journal) → IsReply cells objects request b × (later ≡ journal) → (a ≡ b) × (after ≡ later)
+  reads_one (p, stays) (q, stays') = (reply_one lengthen cells objects request a b p q, stays ∙ sym stays')
+
+  -- a request of a kind that reserves nothing has one reply
+  pub request_one : ((index : ℕ) → reserves (given_by request.bindings) index → ⊥) → (kind : Kind) → By kind a after → By kind b later → (a ≡ b) × (after ≡ later)
+  request_one nothing Set p q = set_once (alone_among objects alone) together reserves moment journal may_write request nothing a b after later p q
+  request_one nothing Get p q = reads_one p q
+  request_one nothing Next p q = reads_one p q
+  request_one nothing Bulk p q = reads_one p q
+  request_one nothing Response p q = reads_one p q
+  request_one nothing Inform p q = reads_one p q
+  request_one nothing Trap p q = reads_one p q
+  request_one nothing Report p q = reads_one p q

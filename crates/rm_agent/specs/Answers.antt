@@ -1,17 +1,25 @@
 -- What a datagram is answered.
-use Rattle.std.specs.Prelude.{◌≡◌, ◌≤◌, ℕ, Bool, List, if◌then◌else◌, Option, Some, None, length, take}
+use Rattle.std.specs.Prelude.{◌≡◌, ◌≤◌, ℕ, Bool, true, List, if◌then◌else◌, Option, Some, None, length, take}
+use Rattle.rm_val.specs.Val.{Val}
+use Rattle.rm_val.specs.declared.error.ErrorStatus.{ErrorStatus}
 use Rattle.rm_model.specs.Cells.{Cells}
+use Rattle.rm_model.specs.Journal.{Journal}
+use Rattle.rm_model.specs.Judgement.{Bindings}
+use Rattle.rm_pdu.specs.declared.kind.Kind.{Kind}
+use Rattle.rm_pdu.specs.declared.kind.Kind.TheVariants.{Set}
 use Rattle.rm_pdu.specs.Message.{Message, message_octets}
-use Rattle.rm_pdu.specs.Verdict.{Verdict, too_long, malformed, other_version, not_request, message}
+use Rattle.rm_pdu.specs.Verdict.{Verdict, too_long, malformed, other_version, not_request, message, IsVerdict}
 use Rattle.rm_pdu.specs.declared.message.Fault.{Fault}
 use Rattle.rm_pdu.specs.declared.message.Fault.TheVariants.{TooLong as LongFault, Malformed as MalformedFault, Version as VersionFault, NotRequest as OtherFault}
 use Rattle.rm_agent.specs.declared.settings.Settings.{Settings}
 use Rattle.rm_agent.specs.declared.answer.Reason.{Reason}
-use Rattle.rm_agent.specs.declared.answer.Reason.TheVariants.{TooLong, Malformed, Version, NotRequest, Community, Unbuilt}
+use Rattle.rm_agent.specs.declared.answer.Reason.TheVariants.{TooLong, Malformed, Version, NotRequest, Community}
 use Rattle.rm_agent.specs.declared.answer.Answer.{Answer}
 use Rattle.rm_agent.specs.declared.answer.Answer.TheVariants.{Reply, Drop}
-use Rattle.rm_agent.specs.Known.{is_known}
-use Rattle.rm_agent.specs.Replies.{is_built, IsReply}
+use Rattle.rm_agent.specs.Known.{is_known, may_write}
+use Rattle.rm_agent.specs.Replies.{IsReply}
+use Rattle.rm_agent.specs.Sets.{alone_among, IsSetReply}
+use Rattle.rm_agent.specs.Groups.{cells, objects, alone, together, Reserves}
 
 -- Why octets of which that is the verdict get no reply; nothing where they get one. A request is judged whole before
 -- its community is.
@@ -21,7 +29,7 @@ reason_for settings (malformed at) = Some (Malformed at)
 reason_for settings (other_version z) = Some Version
 reason_for settings (not_request tag) = Some NotRequest
 reason_for settings (message request) =
-    if is_known settings request.community then (if is_built request.kind then None else Some Unbuilt) else Some Community
+    if is_known settings request.community then None else Some Community
 
 -- the same of a fault
 abbrev pub reason_of : Fault → Reason
@@ -35,11 +43,27 @@ abbrev pub reason_in : Answer → Option Reason
 reason_in (Reply count) = None
 reason_in (Drop reason) = Some reason
 
--- the octets that are answered are those of the reply to a request, at the front of `out`
-abbrev pub IsReplied : Cells → (List ℕ → Bool) → Message → Answer → List ℕ → Type 0
-IsReplied cells objects request (Reply count) out =
-    (reply : Message) × IsReply cells objects request reply × (count ≡ length (message_octets reply)) × (take count out ≡ message_octets reply)
-IsReplied cells objects request (Drop reason) out = Unit {0}
+-- The reply to a request of a kind, and the journal after it, by what groups answer and how they judge a Set. Only a SetRequest
+-- makes the journal longer.
+abbrev pub IsReplyBy : Cells → (objects : List ℕ → Bool) → (alone : List ℕ → Val → Option ErrorStatus) → (together : Bindings → ℕ → Option ErrorStatus)
+    → (reserves : Bindings → ℕ → Type 0) → (may_write : Bool) → (moment : ℕ) → Journal → Kind → Message → Message → Journal → Type 0
+IsReplyBy cells objects alone together reserves may_write moment journal Set request reply after =
+    IsSetReply (alone_among objects alone) together reserves may_write moment journal request reply after
+IsReplyBy cells objects alone together reserves may_write moment journal kind request reply after =
+    IsReply cells objects request reply × (after ≡ journal)
+
+-- the reply to a request at a moment in milliseconds after a journal, and the journal after it
+abbrev pub IsReplyAfter : Settings → Journal → ℕ → Message → Message → Journal → Type 0
+IsReplyAfter settings journal now request reply after =
+    IsReplyBy (cells settings journal now) objects alone (together journal) (Reserves journal) (may_write settings request.community) now journal request.kind request reply after
+
+-- The octets that are answered to a datagram are those of the reply to its request, at the front of `out`. Where there is
+-- no reply, the journal stays.
+abbrev pub IsReplied : Settings → Journal → ℕ → List ℕ → Answer → List ℕ → Journal → Type 0
+IsReplied settings journal now datagram (Reply count) out after =
+    (request reply : Message) × IsVerdict true datagram (message request) × IsReplyAfter settings journal now request reply after
+    × (count ≡ length (message_octets reply)) × (take count out ≡ message_octets reply)
+IsReplied settings journal now datagram (Drop reason) out after = after ≡ journal
 
 -- a reply has at most 1472 octets
 abbrev pub IsShort : Answer → Type 0

@@ -8,6 +8,10 @@ use Rattle.rm_agent.specs.declared.settings.Settings.{Settings}
 abbrev pub is_known : Settings → List ℕ → Bool
 is_known settings community = bytes_eq community settings.read.items || bytes_eq community settings.write.items
 
+-- whether a community may write: it is the write community, whether or not it is the read community too
+abbrev pub may_write : Settings → List ℕ → Bool
+may_write settings community = bytes_eq community settings.write.items
+
 -- what the counters depend on
 abbrev pub counting_by : Settings → Counting
 counting_by settings = record { keep_short = settings.keep_short }

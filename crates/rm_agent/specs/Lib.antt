@@ -1,6 +1,10 @@
 pub mod Answered
 pub mod Replies
+pub mod Unread
+pub mod Given
+pub mod Sets
 pub mod Drafting
 pub mod Known
+pub mod Groups
 pub mod Answers
 pub mod Agent

@@ -13,18 +13,18 @@ use Rattle.rm_agent.specs.Answered.{IsGetBinding, IsNextBinding, AreFirst, AreAn
 abbrev pub names_of : List Binding → List (List ℕ)
 names_of bindings = map (λ (binding : Binding). binding.name) bindings
 
--- the response to a request, with this error-status and error-index 0
-abbrev pub response_to : Message → ErrorStatus → List Binding → Message
-response_to request status bindings =
-    record { community = request.community; kind = Response; id = request.id; first = number_of status; second = pos 0; bindings = bindings }
+-- the response to a request, with this error-status, this error-index and these bindings
+abbrev pub response_to : Message → ErrorStatus → ℕ → List Binding → Message
+response_to request status index bindings =
+    record { community = request.community; kind = Response; id = request.id; first = number_of status; second = pos index; bindings = bindings }
 
 -- the response that carries bindings
 abbrev pub carrying : Message → List Binding → Message
-carrying request bindings = response_to request NoError bindings
+carrying request bindings = response_to request NoError 0 bindings
 
 -- the response where there is too much to be carried
 abbrev pub too_big : Message → Message
-too_big request = response_to request TooBig []
+too_big request = response_to request TooBig 0 []
 
 -- how many octets the response has that carries bindings
 abbrev pub size_with : Message → List Binding → ℕ

@@ -1,10 +1,10 @@
 // The agent.
 ghost use Rattle.std.specs.Prelude.{◌≡◌, ◌+◌, ◌≤◌, ◌<◌, [], ◌∷◌, true, length, IfOk};
-ghost use Rattle.rm_ether.specs.Group.{last_given as ether_last};
+ghost use Rattle.rm_agent.specs.Groups.{AreStocked, clock_of, frames_of};
 
 use crate::answer::{Answer, Reason};
-use crate::reply::reply;
 use crate::request::Request;
+use crate::respond::respond;
 use crate::settings::Settings;
 use rm_ether::{Ether, MOST_FRAMES};
 use rm_pcap::Frame;
@@ -24,16 +24,19 @@ pub struct Agent {
     groups: Both<System, Ether>,
     // The last moment that it was given, in milliseconds.
     last: u32,
-    ghost later: { ether_last groups.second ≤ last },
+    // How many frames it was given.
+    frames: u32,
+    ghost later: { clock_of groups ≤ last },
+    ghost few: { frames_of groups ≤ frames },
+    ghost stocked: { AreStocked groups },
 }
 
 impl Agent {
     ghost use Rattle.rm_model.specs.Journal.{Journal, passes};
     ghost use Rattle.rm_pcap.specs.Progress.{frame_of};
-    ghost use Rattle.rm_pdu.specs.Message.{Message};
-    ghost use Rattle.rm_pdu.specs.Verdict.{Verdict, IsVerdict, message};
+    ghost use Rattle.rm_pdu.specs.Verdict.{Verdict, IsVerdict};
     ghost use Rattle.rm_agent.specs.Answers.{reason_for, reason_in, IsReplied, IsShort};
-    ghost use Rattle.rm_agent.specs.Agent.{cells, objects, settings_of, last_given, frames_given, Stands};
+    ghost use Rattle.rm_agent.specs.Agent.{settings_of, last_given, frames_given, Stands};
 
     /// The agent before the first frame. It asks for no memory yet.
     pub fn new(_alloc: Global, settings: Settings) -> Result<Agent, NoMemory>
@@ -49,6 +52,7 @@ impl Agent {
                 second: Ether::new(),
             },
             last: 0,
+            frames: 0,
         })
     }
 
@@ -67,38 +71,29 @@ impl Agent {
         let facts = facts(frame.bytes, frame.original, self.settings.keep_short);
         self.groups.second.frame(&facts, frame.moment);
         self.last = frame.moment;
+        self.frames += 1;
     }
 
     /// Answers a datagram at a moment in milliseconds, which isn't below the last one given, and is kept. A reply comes to
-    /// the front of `out`. Drop says why there is none. No answer asks for memory yet.
+    /// the front of `out`. Drop says why there is none. Memory is asked for only by a SetRequest with which nothing is wrong and
+    /// which makes a row valid that takes storage.
     pub fn answer(
         &mut self,
-        _alloc: Global,
+        alloc: Global,
         datagram: &[u8],
         now: u32,
         out: &mut [u8; MOST_REPLY],
     ) -> Answer
         requires { last_given self.old ≤ now }
         ensures reason { (v : Verdict) × IsVerdict true datagram.now v × (reason_in result ≡ reason_for (settings_of self.old) v) }
-        ensures reply { (journal : Journal) (request : Message) → Stands self.old journal → IsVerdict true datagram.now (message request)
-            → IsReplied (cells (settings_of self.old) journal now) objects request result out.new }
+        ensures reply { (journal : Journal) → Stands self.old journal → (after : Journal) × Stands self.new after
+            × IsReplied (settings_of self.old) journal now datagram.now result out.new after }
         ensures short { IsShort result }
-        ensures stands { (journal : Journal) → Stands self.old journal → Stands self.new journal }
         ensures settings { settings_of self.new ≡ settings_of self.old }
         ensures last { last_given self.new ≡ now }
         ensures frames { frames_given self.new ≡ frames_given self.old }
     {
         self.last = now;
-        self.answer_to(datagram, now, out)
-    }
-
-    // The answer to a datagram at a moment in milliseconds.
-    fn answer_to(&self, datagram: &[u8], now: u32, out: &mut [u8; MOST_REPLY]) -> Answer
-        ensures reason { (v : Verdict) × IsVerdict true datagram.now v × (reason_in result ≡ reason_for (settings_of self.now) v) }
-        ensures reply { (journal : Journal) (request : Message) → Stands self.now journal → last_given self.now ≤ now → IsVerdict true datagram.now (message request)
-            → IsReplied (cells (settings_of self.now) journal now) objects request result out.new }
-        ensures short { IsShort result }
-    {
         let mut bindings = Bindings::new();
         let message = match read_message(datagram, &mut bindings) {
             Ok(message) => message,
@@ -107,14 +102,13 @@ impl Agent {
         if !self.settings.is_known(message.community) {
             return Answer::Drop(Reason::Community);
         }
+        let may_write = self.settings.may_write(message.community);
         let request = Request {
             octets: datagram,
             message,
             bindings,
         };
-        match reply(&self.groups, &request, now) {
-            Some(draft) => Answer::Reply(draft.finish(out)),
-            None => Answer::Drop(Reason::Unbuilt),
-        }
+        let draft = respond(&mut self.groups, alloc, &request, may_write, now);
+        Answer::Reply(draft.finish(out))
     }
 }

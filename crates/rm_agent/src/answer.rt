@@ -15,8 +15,6 @@ pub enum Reason {
     NotRequest,
     /// Its community is neither the read nor the write community.
     Community,
-    /// It is a SetRequest of a known community, which isn't answered yet.
-    Unbuilt,
 }
 
 impl From<Fault> for Reason {

@@ -4,14 +4,18 @@
 mod agent;
 mod answer;
 mod found;
+mod given;
 mod laws;
 mod names;
 mod reply;
 mod request;
+mod respond;
 mod row;
+mod set;
 mod settings;
 #[cfg(test)]
 mod tests;
+mod unread;
 
 pub use agent::{Agent, MOST_REPLY};
 pub use answer::{Answer, Reason};

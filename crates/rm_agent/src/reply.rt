@@ -30,7 +30,7 @@ pub(crate) fn reply<G: Group + Objects>(
         Kind::Get if few => Some(whole(groups, Lookup::Exact, request, now)),
         Kind::Next if few => Some(whole(groups, Lookup::Above, request, now)),
         Kind::Bulk if few => Some(bulk(groups, request, now)),
-        Kind::Get | Kind::Next | Kind::Bulk => Some(request.begin(ErrorStatus::TooBig)),
+        Kind::Get | Kind::Next | Kind::Bulk => Some(request.begin(ErrorStatus::TooBig, 0)),
         _ => None,
     }
 }
@@ -41,11 +41,11 @@ fn whole<G: Group + Objects>(groups: &G, lookup: Lookup, request: &Request<'_>, 
     ensures { OfCells (G.stands groups.now) G.cells now (λ cells. (m : Message) → IsAsked request.now m
         → DraftsOne (IsWholeReply (IsFound cells G.objects lookup) m) result) }
 {
-    let mut draft = request.begin(ErrorStatus::NoError);
+    let mut draft = request.begin(ErrorStatus::NoError, 0);
     let names = request.names(0, request.count());
     match Row::put(groups, lookup, &names, now, &mut draft) {
         Ok(_) => draft,
-        Err(_) => request.begin(ErrorStatus::TooBig),
+        Err(_) => request.begin(ErrorStatus::TooBig, 0),
     }
 }
 
@@ -56,7 +56,7 @@ fn bulk<G: Group + Objects>(groups: &G, request: &Request<'_>, now: u32) -> Draf
         → DraftsOne (IsBulkReply (IsNextBinding cells) m) result) }
 {
     bindings_lengthen();
-    let mut draft = request.begin(ErrorStatus::NoError);
+    let mut draft = request.begin(ErrorStatus::NoError, 0);
     let fixed = request.non_repeaters();
     let names = request.names(0, fixed);
     let Ok(_) = Row::put(groups, Lookup::Above, &names, now, &mut draft) else {

@@ -1,10 +1,12 @@
 // A request, and the drafts of its replies.
-ghost use Rattle.std.specs.Prelude.{◌≡◌, ◌≤◌, ◌<◌, ◌↔◌, IsTrue, ℕ, List, [], length, All, slice_range};
+ghost use Rattle.std.specs.Prelude.{◌≡◌, ◌≤◌, ◌<◌, ◌↔◌, IsTrue, ℕ, List, [], length, All, slice_range, MatchResult, false, nat_lt};
 ghost use Rattle.rm_agent.specs.Replies.{counting};
 
 use crate::agent::MOST_REPLY;
+use crate::given::Given;
 use crate::names::Names;
-use rm_pdu::{Bindings, Draft, Kind, Message};
+use rm_ber::Room;
+use rm_pdu::{Bindings, Draft, Kind, Message, bindings_lengthen, index_128_is_longest};
 use rm_val::ErrorStatus;
 
 /// The most bindings of a request that is answered but by tooBig.
@@ -18,12 +20,13 @@ pub(crate) struct Request<'a> {
     pub bindings: Bindings,
 }
 
-impl Request<'_> {
+impl<'a> Request<'a> {
     ghost use Rattle.rm_val.specs.Spellable.{IsSpellable};
     ghost use Rattle.rm_pdu.specs.Message.{Message as Whole, message_octets};
     ghost use Rattle.rm_pdu.specs.Draft.{drafted};
     ghost use Rattle.rm_agent.specs.Replies.{names_of, response_to, non_repeaters};
     ghost use Rattle.rm_agent.specs.Drafting.{IsAsked};
+    ghost use Rattle.rm_agent.specs.Sets.{given_by, returning, is_too_much};
 
     /// Whether it has more bindings than are answered.
     pub fn is_long(&self) -> bool
@@ -40,11 +43,12 @@ impl Request<'_> {
         self.message.count as usize
     }
 
-    /// The response with this status and no bindings yet.
-    pub fn begin(&self, status: ErrorStatus) -> Draft
-        requires { (m : Whole) × IsAsked self.now m }
-        ensures response { (m : Whole) → IsAsked self.now m → result ≡ drafted (response_to m status []) }
-        ensures fits { (m : Whole) → IsAsked self.now m → length (message_octets (response_to m status [])) ≤ MOST_REPLY }
+    /// The response with this status and this index, and no bindings yet.
+    pub fn begin(&self, status: ErrorStatus, index: u32) -> Draft
+        requires asked { (m : Whole) × IsAsked self.now m }
+        requires index { index ≤ 128 }
+        ensures response { (m : Whole) → IsAsked self.now m → result ≡ drafted (response_to m status index []) }
+        ensures fits { (m : Whole) → IsAsked self.now m → length (message_octets (response_to m status index [])) ≤ MOST_REPLY }
     {
         let message = &self.message;
         Draft::new(
@@ -52,8 +56,74 @@ impl Request<'_> {
             Kind::Response,
             message.id,
             status.number(),
-            0,
+            index as i32,
         )
+    }
+
+    /// What the bindings of a SetRequest give.
+    pub fn given(&self) -> Given<'a>
+        requires { (m : Whole) × IsAsked self.now m × (length m.bindings ≤ 128) }
+        ensures { (m : Whole) → IsAsked self.now m → result ≡ given_by m.bindings }
+    {
+        let mut given = Given::new();
+        for place in 0..self.count() {
+            let name = self.bindings.name(self.octets, place);
+            let value = self.bindings.value(self.octets, place);
+            given.push(name, value);
+        }
+        given
+    }
+
+    /// The response with the request's own bindings, this status and this index. Room where it would have too many octets.
+    pub fn returning(&self, status: ErrorStatus, index: u32) -> Result<Draft, Room>
+        requires asked { (m : Whole) × IsAsked self.now m × (length m.bindings ≤ 128) }
+        requires index { index ≤ 128 }
+        ensures { (m : Whole) → IsAsked self.now m → MatchResult result
+            (λ draft. (draft ≡ drafted (returning m status index)) × (length (message_octets (returning m status index)) ≤ MOST_REPLY))
+            (λ room. MOST_REPLY < length (message_octets (returning m status index))) }
+    {
+        bindings_lengthen();
+        let mut draft = self.begin(status, index);
+        for place in 0..self.count() {
+            let name = self.bindings.name(self.octets, place);
+            let value = self.bindings.value(self.octets, place);
+            draft.add(&name, &value)?;
+        }
+        Ok(draft)
+    }
+
+    /// Whether there is too much for such a response, with any index.
+    pub fn is_too_much(&self) -> bool
+        requires { (m : Whole) × IsAsked self.now m }
+        ensures { (m : Whole) → IsAsked self.now m → result ≡ is_too_much m }
+    {
+        self.is_long() || self.has_no_room()
+    }
+
+    // Whether there is no room for it with the greatest index.
+    fn has_no_room(&self) -> bool
+        requires { (m : Whole) × IsAsked self.now m × (length m.bindings ≤ 128) }
+        ensures { (m : Whole) → IsAsked self.now m → result ≡ nat_lt MOST_REPLY (length (message_octets (returning m ErrorStatus.NoError 128))) }
+    {
+        match self.returning(ErrorStatus::NoError, 128) {
+            Ok(_) => false,
+            Err(_) => true,
+        }
+    }
+
+    /// The same response, where there isn't too much for it.
+    pub fn telling(&self, status: ErrorStatus, index: u32) -> Draft
+        requires asked { (m : Whole) × IsAsked self.now m × (length m.bindings ≤ 128) }
+        requires index { index ≤ 128 }
+        requires room { (m : Whole) → IsAsked self.now m → is_too_much m ≡ false }
+        ensures { (m : Whole) → IsAsked self.now m → result ≡ drafted (returning m status index) }
+    {
+        index_128_is_longest();
+        match self.returning(status, index) {
+            Ok(draft) => draft,
+            // It has room.
+            Err(_) => self.begin(ErrorStatus::TooBig, 0),
+        }
     }
 
     /// The names of the bindings from one place to before another.

@@ -31,7 +31,7 @@ pub struct Settings {
 }
 
 impl Settings {
-    ghost use Rattle.rm_agent.specs.Known.{is_known};
+    ghost use Rattle.rm_agent.specs.Known.{is_known, may_write};
 
     /// Whether a community is the read or the write community.
     pub(crate) fn is_known(&self, community: &[u8]) -> bool
@@ -39,5 +39,12 @@ impl Settings {
         ensures short { IsTrue result → length community.now ≤ 64 }
     {
         community == self.read.as_slice() || community == self.write.as_slice()
+    }
+
+    /// Whether a community is the write community.
+    pub(crate) fn may_write(&self, community: &[u8]) -> bool
+        ensures { result ≡ may_write self.now community.now }
+    {
+        community == self.write.as_slice()
     }
 }

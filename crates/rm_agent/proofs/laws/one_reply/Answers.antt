@@ -1,6 +1,8 @@
-use Rattle.rm_agent.proofs.OneReply.{reply_one}
+use Rattle.rm_agent.specs.Groups.{cells, objects, alone, together, Reserves}
+use Rattle.rm_agent.specs.Known.{may_write}
+use Rattle.rm_agent.proofs.OneReply.{request_one}
 use Rattle.rm_agent.proofs.laws.one_reply.Goals as goal
 
--- src/laws.rt:11:5
 pub returns : goal.returns
-returns c cells objects request a b p q = reply_one c.bindings_lengthen.ensures cells objects request a b p q
+returns c settings journal now request a b after later nothing p q =
+    request_one c.bindings_lengthen.ensures (cells settings journal now) objects alone (together journal) (Reserves journal) (may_write settings request.community) now journal request a b after later nothing request.kind p q

@@ -3,4 +3,4 @@ use Rattle.rm_agent.specs.Known.{counting_by}
 use Rattle.rm_agent.proofs.agent.Agent.new.Goals as goal
 
 pub returns-clause-stands : goal.returns-clause-stands
-returns-clause-stands c = record { ether = c.new.ensures.stands (counting_by c.args.settings); last = omega arith }
+returns-clause-stands c = record { groups = (tt, c.new.ensures.stands (counting_by c.args.settings)); last = omega arith }

@@ -1,0 +1,16 @@
+// Readings that a Set is judged by.
+ghost use Rattle.rm_agent.specs.Unread.{nothing_read};
+
+use rm_status::{Look, Reading};
+use rm_val::Oid;
+
+/// No variable can be read. No group that a Set is judged by asks for a reading yet.
+pub(crate) struct Unread;
+
+impl Look for Unread {
+    ghost readings = { λ look now. nothing_read };
+
+    fn reading(&self, _name: &Oid, _now: u32) -> Option<Reading> {
+        None
+    }
+}
