@@ -140,13 +140,13 @@ module _ (lengthen : Lengthens) (cells : Cells) (objects : List ℕ → Bool) (a
   reads_one : IsReply cells objects request a × (after ≡ journal) → IsReply cells objects request b × (later ≡ journal) → (a ≡ b) × (after ≡ later)
   reads_one (p, stays) (q, stays') = (reply_one lengthen cells objects request a b p q, stays ∙ sym stays')
 
-  -- a request of a kind that reserves nothing has one reply
-  pub request_one : ((index : ℕ) → reserves (given_by request.bindings) index → ⊥) → (kind : Kind) → By kind a after → By kind b later → (a ≡ b) × (after ≡ later)
-  request_one nothing Set p q = set_once (alone_among objects alone) together reserves moment journal may_write request nothing a b after later p q
-  request_one nothing Get p q = reads_one p q
-  request_one nothing Next p q = reads_one p q
-  request_one nothing Bulk p q = reads_one p q
-  request_one nothing Response p q = reads_one p q
-  request_one nothing Inform p q = reads_one p q
-  request_one nothing Trap p q = reads_one p q
-  request_one nothing Report p q = reads_one p q
+  -- a request that is no SetRequest that reserves storage has one reply
+  pub request_one : (request.kind ≡ Set → (index : ℕ) → reserves (given_by request.bindings) index → ⊥) → (kind : Kind) → request.kind ≡ kind → By kind a after → By kind b later → (a ≡ b) × (after ≡ later)
+  request_one nothing Set is p q = set_once (alone_among objects alone) together reserves moment journal may_write request (nothing is) a b after later p q
+  request_one nothing Get is p q = reads_one p q
+  request_one nothing Next is p q = reads_one p q
+  request_one nothing Bulk is p q = reads_one p q
+  request_one nothing Response is p q = reads_one p q
+  request_one nothing Inform is p q = reads_one p q
+  request_one nothing Trap is p q = reads_one p q
+  request_one nothing Report is p q = reads_one p q

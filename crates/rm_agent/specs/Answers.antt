@@ -61,8 +61,8 @@ IsReplyAfter settings journal now request reply after =
 -- no reply, the journal stays.
 abbrev pub IsReplied : Settings → Journal → ℕ → List ℕ → Answer → List ℕ → Journal → Type 0
 IsReplied settings journal now datagram (Reply count) out after =
-    (request reply : Message) × IsVerdict true datagram (message request) × IsReplyAfter settings journal now request reply after
-    × (count ≡ length (message_octets reply)) × (take count out ≡ message_octets reply)
+    (request reply : Message) × IsVerdict true datagram (message request) × (reason_for settings (message request) ≡ None)
+    × IsReplyAfter settings journal now request reply after × (count ≡ length (message_octets reply)) × (take count out ≡ message_octets reply)
 IsReplied settings journal now datagram (Drop reason) out after = after ≡ journal
 
 -- a reply has at most 1472 octets

@@ -11,13 +11,14 @@ ghost use Rattle.rm_agent.specs.Sets.{given_by};
 ghost use Rattle.rm_agent.specs.Groups.{Reserves};
 
 use rm_ether::Ether;
-use rm_pdu::{bindings_lengthen, empty_messages_are_short};
+use rm_pdu::{Kind, bindings_lengthen, empty_messages_are_short};
 use rm_status::{Both, Group, System, next_or_none};
 
-/// A law: a request that reserves no storage has one reply at most after a journal, and leaves one journal.
+/// A law: a request has one reply at most after a journal, and leaves one journal, where it is no SetRequest that reserves
+/// storage.
 pub fn one_reply()
     ensures { (settings : Settings) (journal : Journal) (now : ℕ) (request a b : Message) (after later : Journal)
-        → ((index : ℕ) → Reserves journal (given_by request.bindings) index → ⊥)
+        → (request.kind ≡ Kind.Set → (index : ℕ) → Reserves journal (given_by request.bindings) index → ⊥)
         → IsReplyAfter settings journal now request a after → IsReplyAfter settings journal now request b later → (a ≡ b) × (after ≡ later) }
 {
     bindings_lengthen();

@@ -15,9 +15,7 @@ use Rattle.rm_probe.specs.declared.status.Status.TheVariants.{Done, Usage, BadCa
 use Rattle.rm_probe.specs.Events.{Event, Comes, Asks, is_by, frames_after, events, comings}
 use Rattle.rm_probe.specs.Text.{IsAnswered, dropped, replied, IsAnswer, AreLines, IsText, last_line}
 use Rattle.rm_agent.specs.declared.settings.Settings.{Settings}
-use Rattle.rm_agent.specs.Answers.{reason_for}
-use Rattle.rm_agent.specs.Agent.{cells, objects}
-use Rattle.rm_agent.specs.Replies.{IsReply}
+use Rattle.rm_agent.specs.Answers.{reason_for, IsReplyAfter}
 use Rattle.rm_agent.specs.declared.answer.Reason.{Reason}
 use Rattle.rm_probe.specs.Probe.{settings_of, last_given, Stands}
 use Rattle.rm_probe.specs.Steps.{IsNextLine, Keeps, Leaves, WritesLine, Writes, done}
@@ -30,26 +28,26 @@ use Rattle.rm_probe.proofs.JudgeLemmas.{SameJudged}
 pub record EveryDatagram : Type 0 where
   pub verdict : (requests : Bool) (bytes : List ℕ) → (v : Verdict) × IsVerdict requests bytes v
   pub reply : (settings : Settings) (journal : Journal) (now : ℕ) (datagram : List ℕ) (request : Message) → IsVerdict true datagram (message request)
-      → reason_for settings (message request) ≡ None → (reply : Message) × IsReply (cells settings journal now) objects request reply
+      → reason_for settings (message request) ≡ None → (reply : Message) × (after : Journal) × IsReplyAfter settings journal now request reply after
 
 what_is_said : EveryDatagram → (settings : Settings) (journal : Journal) (moment : ℕ) (datagram : List ℕ) (v : Verdict) (reason : Option Reason) → IsVerdict true datagram v → reason_for settings v ≡ reason
-    → (text : List ℕ) × IsAnswered settings journal moment datagram text journal
-what_is_said every settings journal moment datagram v (Some reason) is why = (_, dropped v reason is why refl refl)
+    → (text : List ℕ) × (after : Journal) × IsAnswered settings journal moment datagram text after
+what_is_said every settings journal moment datagram v (Some reason) is why = (_, journal, dropped v reason is why refl refl)
 what_is_said every settings journal moment datagram (message request) None is why =
-    let (reply, replies) = every.reply settings journal moment datagram request is why in
-    (_, replied request reply is why replies refl refl)
+    let (reply, after, replies) = every.reply settings journal moment datagram request is why in
+    (_, after, replied request reply is why replies refl)
 what_is_said every settings journal moment datagram too_long None is why = absurd cc
 what_is_said every settings journal moment datagram (malformed at) None is why = absurd cc
 what_is_said every settings journal moment datagram (other_version z) None is why = absurd cc
 what_is_said every settings journal moment datagram (not_request tag) None is why = absurd cc
 
 -- so each has a line
-a_line : EveryDatagram → (settings : Settings) (journal : Journal) (number : ℕ) (request : TimedDatagram) → (line : List ℕ) × IsAnswer settings journal number request line journal
+a_line : EveryDatagram → (settings : Settings) (journal : Journal) (number : ℕ) (request : TimedDatagram) → (line : List ℕ) × (after : Journal) × IsAnswer settings journal number request line after
 unfolding IsAnswer
 a_line every settings journal number request =
     let (v, is) = every.verdict true request.datagram in
-    let (text, said) = what_is_said every settings journal request.moment request.datagram v (reason_for settings v) is refl in
-    (_, (text, said, refl))
+    let (text, after, said) = what_is_said every settings journal request.moment request.datagram v (reason_for settings v) is refl in
+    (_, after, (text, said, refl))
 
 module _ (settings : Settings) where
   -- frames that come, and what follows them
@@ -64,8 +62,8 @@ module _ (settings : Settings) where
   some_lines every journal (Comes f ∷ es) = some_lines every (passes f ∷ journal) es
   some_lines every journal (Asks number request ∷ es) =
       let a = a_line every settings journal number request in
-      let r = some_lines every journal es in
-      (a.0 ++ r.0, (a.0, r.0, journal, a.1, refl, r.1))
+      let r = some_lines every a.1 es in
+      (a.0 ++ r.0, (a.0, r.0, a.1, a.2, refl, r.1))
 
   -- The octets so far, and whatever may be written for what is left, may be written for all.
   pub record InRun (old new : Option (List ℕ)) (bytes : List ℕ) (frames : List Frame) (stop : Stop) (requests : List TimedDatagram) (progress : Progress) (number last : ℕ) (lines_left : List ℕ) (probe : Probe) : Type 0 where

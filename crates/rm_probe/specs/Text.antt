@@ -3,16 +3,17 @@ use Rattle.std.specs.Prelude.{◌≡◌, ℕ, true, List, [], ◌∷◌, ◌++�
 use Rattle.hex.specs.Hex.{encode_lower}
 use Rattle.rm_model.specs.Journal.{Frame, Journal, passes}
 use Rattle.rm_pcap.specs.Records.{Stop, CutAt}
+use Rattle.rm_pdu.specs.declared.kind.Kind.TheVariants.{Set}
 use Rattle.rm_pdu.specs.Message.{Message, message_octets}
 use Rattle.rm_pdu.specs.Verdict.{Verdict, message, IsVerdict}
 use Rattle.rm_agent.specs.declared.settings.Settings.{Settings}
 use Rattle.rm_agent.specs.declared.answer.Reason.{Reason}
-use Rattle.rm_agent.specs.declared.answer.Reason.TheVariants.{TooLong, Malformed, Version, NotRequest, Community, Unbuilt}
+use Rattle.rm_agent.specs.declared.answer.Reason.TheVariants.{TooLong, Malformed, Version, NotRequest, Community}
 use Rattle.rm_agent.specs.declared.answer.Answer.{Answer}
 use Rattle.rm_agent.specs.declared.answer.Answer.TheVariants.{Reply, Drop}
-use Rattle.rm_agent.specs.Answers.{reason_for}
-use Rattle.rm_agent.specs.Agent.{cells, objects}
-use Rattle.rm_agent.specs.Replies.{IsReply}
+use Rattle.rm_agent.specs.Answers.{reason_for, IsReplyAfter}
+use Rattle.rm_agent.specs.Sets.{given_by}
+use Rattle.rm_agent.specs.Groups.{Reserves}
 use Rattle.rm_probe.specs.Lines.{TimedDatagram}
 use Rattle.rm_probe.specs.Events.{Event, Comes, Asks, events}
 
@@ -23,7 +24,6 @@ reason_text (Malformed at) = codes "malformed " ++ decimal at
 reason_text Version = codes "version"
 reason_text NotRequest = codes "not-request"
 reason_text Community = codes "community"
-reason_text Unbuilt = codes "unbuilt"
 
 -- what an answer says, where a reply stands at the front of the octets
 abbrev pub answer_text : Answer → List ℕ → List ℕ
@@ -31,13 +31,13 @@ answer_text (Reply count) out = codes "reply " ++ encode_lower (take count out)
 answer_text (Drop reason) out = codes "drop " ++ reason_text reason
 
 -- What may be said of a datagram that comes after a journal, at a moment in milliseconds: that it is dropped, and why, or
--- its reply in hexadecimal digits. The journal stays.
+-- a reply to it in hexadecimal digits. A SetRequest that is accepted makes the journal longer, and with all else it stays.
 pub data IsAnswered (settings : Settings) (journal : Journal) (moment : ℕ) (datagram : List ℕ) (text : List ℕ) (after : Journal) : Type 0 where
   dropped : (v : Verdict) (reason : Reason) → IsVerdict true datagram v → reason_for settings v ≡ Some reason
       → text ≡ codes "drop " ++ reason_text reason → after ≡ journal → IsAnswered settings journal moment datagram text after
   replied : (request reply : Message) → IsVerdict true datagram (message request) → reason_for settings (message request) ≡ None
-      → IsReply (cells settings journal moment) objects request reply
-      → text ≡ codes "reply " ++ encode_lower (message_octets reply) → after ≡ journal → IsAnswered settings journal moment datagram text after
+      → IsReplyAfter settings journal moment request reply after
+      → text ≡ codes "reply " ++ encode_lower (message_octets reply) → IsAnswered settings journal moment datagram text after
 
 -- the line of a datagram: its moment, its number and what is said of it
 abbrev pub answer_line : ℕ → ℕ → List ℕ → List ℕ
@@ -54,6 +54,20 @@ AreLines settings journal [] text = text ≡ []
 AreLines settings journal (Comes frame ∷ events) text = AreLines settings (passes frame ∷ journal) events text
 AreLines settings journal (Asks number request ∷ events) text =
     (line rest : List ℕ) × (after : Journal) × IsAnswer settings journal number request line after × (text ≡ line ++ rest) × AreLines settings after events rest
+
+-- the datagram is no SetRequest that reserves storage after a journal
+abbrev pub ReservesNothing : Journal → List ℕ → Type 0
+ReservesNothing journal datagram =
+    (request : Message) → IsVerdict true datagram (message request) → request.kind ≡ Set → (index : ℕ) → Reserves journal (given_by request.bindings) index → ⊥
+
+-- None of the SetRequests among the events reserves storage, from a journal on, whatever was answered before. Then each has one
+-- lawful line; one that reserves storage has a further one, by which there was no memory.
+unfoldable pub AreWithoutChoice : Settings → Journal → List Event → Type 0
+AreWithoutChoice settings journal [] = Unit {0}
+AreWithoutChoice settings journal (Comes frame ∷ events) = AreWithoutChoice settings (passes frame ∷ journal) events
+AreWithoutChoice settings journal (Asks number request ∷ events) =
+    ReservesNothing journal request.datagram
+    × ((line : List ℕ) (after : Journal) → IsAnswer settings journal number request line after → AreWithoutChoice settings after events)
 
 -- what the last line begins with: whether the capture was cut short
 abbrev pub last_word : Stop → List ℕ

@@ -63,7 +63,6 @@ fn push_reason(line: &mut Line, reason: Reason)
         Reason::Version => push(line, b"version"),
         Reason::NotRequest => push(line, b"not-request"),
         Reason::Community => push(line, b"community"),
-        Reason::Unbuilt => push(line, b"unbuilt"),
     }
 }
 

@@ -2,5 +2,5 @@ use Rattle.rm_probe.proofs.OneText.{text_once}
 use Rattle.rm_probe.proofs.laws.one_text.Goals as goal
 
 pub returns : goal.returns
-returns c settings frames stop requests text other is is' =
-    text_once (record { verdict = c.one_verdict.ensures; reply = c.one_reply.ensures }) settings frames stop requests text other is is'
+returns c settings frames stop requests text other without is is' =
+    text_once settings (record { verdict = c.one_verdict.ensures; reply = c.one_reply.ensures settings }) frames stop requests text other without is is'

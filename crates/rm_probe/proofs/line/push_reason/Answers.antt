@@ -11,6 +11,3 @@ returns-in-NotRequest-clause-text c = rw c.in-NotRequest.is c.push-in-NotRequest
 
 pub returns-in-Community-clause-text : goal.returns-in-Community-clause-text
 returns-in-Community-clause-text c = rw c.in-Community.is c.push-in-Community.ensures
-
-pub returns-in-Unbuilt-clause-text : goal.returns-in-Unbuilt-clause-text
-returns-in-Unbuilt-clause-text c = rw c.in-Unbuilt.is c.push-in-Unbuilt.ensures

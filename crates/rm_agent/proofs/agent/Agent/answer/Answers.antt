@@ -1,8 +1,11 @@
-use Rattle.std.proofs.Common.{◌≡◌, ◌≤◌, Bool, length, ap, subst, ◌∙◌, arith}
+use Rattle.std.proofs.Common.{◌≡◌, ◌≤◌, Bool, true, if◌then◌else◌, Option, Some, None, length, sym, ap, subst, ◌∙◌, arith}
 use Rattle.rm_pdu.specs.Message.{message_octets}
-use Rattle.rm_agent.specs.Known.{counting_by, may_write}
+use Rattle.rm_pdu.specs.Verdict.{message}
+use Rattle.rm_agent.specs.declared.answer.Reason.{Reason}
+use Rattle.rm_agent.specs.declared.answer.Reason.TheVariants.{Community}
+use Rattle.rm_agent.specs.Known.{counting_by, is_known, may_write}
 use Rattle.rm_agent.specs.Groups.{cells, objects, alone, together, Reserves}
-use Rattle.rm_agent.specs.Answers.{IsReplyBy}
+use Rattle.rm_agent.specs.Answers.{reason_for, IsReplyBy}
 use Rattle.rm_agent.proofs.ReplyLemmas.{written}
 use Rattle.rm_agent.proofs.ReadLemmas.{read_one}
 use Rattle.rm_agent.proofs.agent.Agent.answer.Goals as goal
@@ -14,6 +17,8 @@ returns-clause-reply c journal stands =
     let read = read_one c.args.datagram.now c.in-Ok.message c.read_message.new.into v is_verdict answers in
     let m = read.request in
     let known = c.is_known.ensures.short c.if-not-is_known.false in
+    let known_m : is_known settings m.community ≡ true = ap (is_known settings) (sym read.is_told.community) ∙ sym c.is_known.ensures.known ∙ c.if-not-is_known.false in
+    let why : reason_for settings (message m) ≡ None = ap (λ (b : Bool). let reason : Option Reason = (if b then None else Some Community) in reason) known_m in
     let short : length m.community ≤ 127 = omega (arith, known, ap length read.is_told.community) in
     let (after, stood, moment, (reply, by, drafted_so)) = c.respond-draft.ensures.reply (counting_by settings) journal m stands.groups (omega (arith, stands.last, c.requires)) (record { told = read.is_told; short = short }) in
     let may : c.may_write-may_write.result ≡ may_write settings m.community = c.may_write-may_write.ensures ∙ ap (may_write settings) read.is_told.community in
@@ -21,5 +26,5 @@ returns-clause-reply c journal stands =
     (
       after,
       record { groups = stood; last = moment },
-      (m, reply, read.verdict, is, c.finish.ensures.count reply drafted_so, written c.finish.result (message_octets reply) _ _ (c.finish.ensures.count reply drafted_so) (c.finish.ensures.written reply drafted_so)),
+      (m, reply, read.verdict, why, is, c.finish.ensures.count reply drafted_so, written c.finish.result (message_octets reply) _ _ (c.finish.ensures.count reply drafted_so) (c.finish.ensures.written reply drafted_so)),
     )

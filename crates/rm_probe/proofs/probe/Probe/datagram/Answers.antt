@@ -4,4 +4,5 @@ use Rattle.rm_probe.proofs.probe.Probe.datagram.Goals as goal
 pub returns-clause-answered : goal.returns-clause-answered
 returns-clause-answered g c journal stands =
     let (v, judged, why) = c.answer.ensures.reason in
-    (journal, is_answered _ journal c.args.moment c.args.bytes.now v c.answer.result c.answer.new.out judged why (λ request is. c.answer.ensures.reply journal request stands is), c.answer.ensures.stands journal stands)
+    let (after, stood, replied) = c.answer.ensures.reply journal stands in
+    (after, is_answered _ journal c.args.moment c.args.bytes.now v c.answer.result c.answer.new.out after judged why replied, stood)
