@@ -7,3 +7,5 @@ mod plan;
 mod run;
 mod runs;
 mod sample_column;
+#[cfg(test)]
+mod tests;
