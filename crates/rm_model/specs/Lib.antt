@@ -1,4 +1,5 @@
 pub mod Journal
+pub mod Readings
 pub mod Settings
 pub mod FrameFacts
 pub mod Names
@@ -10,3 +11,5 @@ pub mod ControlRows
 pub mod Judgement
 pub mod Alike
 pub mod Accepted
+pub mod Crossings
+pub mod Alarms
