@@ -7,6 +7,6 @@ pub mod Finite
 pub mod Rows
 pub mod Alike
 pub mod Accepted
-mod CrossingLaws
+pub mod CrossingLaws
 mod CrossingExamples
 mod AlarmExamples

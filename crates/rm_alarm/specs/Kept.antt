@@ -1,0 +1,20 @@
+-- What is kept of the samples of an alarm.
+use Rattle.std.specs.Prelude.{◌≡◌, ℤ, List, [], ◌∷◌, Option, Some, None}
+use Rattle.rm_model.specs.Crossings.{Bounds, is_in_force, rising_of, falling_of}
+use Rattle.rm_alarm.specs.declared.hysteresis.Hysteresis.{Hysteresis}
+use Rattle.rm_alarm.specs.declared.thresholds.Thresholds.{Thresholds}
+
+-- the columns by which samples cross, as they are kept
+abbrev pub bounds_in : Thresholds → Bounds
+bounds_in thresholds = record { startup = thresholds.startup; rising = thresholds.rising; falling = thresholds.falling }
+
+-- the newest of some values, if there is one
+abbrev pub newest : List ℤ → Option ℤ
+newest [] = None
+newest (value ∷ earlier) = Some value
+
+-- what is kept of samples of these values
+pub record Keeps (hysteresis : Hysteresis) (thresholds : Thresholds) (values : List ℤ) : Type 0 where
+  pub last : hysteresis.last ≡ newest values
+  pub risen : hysteresis.risen ≡ is_in_force (rising_of (bounds_in thresholds)) values
+  pub fallen : hysteresis.fallen ≡ is_in_force (falling_of (bounds_in thresholds)) values
