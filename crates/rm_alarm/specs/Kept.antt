@@ -1,12 +1,21 @@
 -- What is kept of the samples of an alarm.
-use Rattle.std.specs.Prelude.{◌≡◌, ℤ, List, [], ◌∷◌, Option, Some, None}
+use Rattle.std.specs.Prelude.{◌≡◌, ℤ, pos, List, [], ◌∷◌, false, Option, Some, None}
 use Rattle.rm_model.specs.Crossings.{Bounds, is_in_force, rising_of, falling_of}
+use Rattle.rm_alarm.specs.declared.course.Course.{Course}
 use Rattle.rm_alarm.specs.declared.hysteresis.Hysteresis.{Hysteresis}
 use Rattle.rm_alarm.specs.declared.thresholds.Thresholds.{Thresholds}
 
 -- the columns by which samples cross, as they are kept
 abbrev pub bounds_in : Thresholds → Bounds
 bounds_in thresholds = record { startup = thresholds.startup; rising = thresholds.rising; falling = thresholds.falling }
+
+-- what is kept before the first sample
+abbrev pub nothing_crossed : Hysteresis
+nothing_crossed = record { last = None; risen = false; fallen = false }
+
+-- what is kept of an alarm that isn't valid
+abbrev pub no_course : Course
+no_course = record { due = 0; counter = false; reading = pos 0; hysteresis = nothing_crossed }
 
 -- the newest of some values, if there is one
 abbrev pub newest : List ℤ → Option ℤ

@@ -2,7 +2,7 @@
 ghost use Rattle.std.specs.Prelude.{◌≡◌, ℤ, List, [], ◌∷◌};
 ghost use Rattle.rm_model.specs.Crossings.{comes_to, crossing, is_high, rising_of, falling_of};
 ghost use Rattle.rm_alarm.specs.declared.thresholds.Thresholds.{Thresholds};
-ghost use Rattle.rm_alarm.specs.Kept.{bounds_in, Keeps};
+ghost use Rattle.rm_alarm.specs.Kept.{bounds_in, nothing_crossed, Keeps};
 
 use crate::thresholds::Thresholds;
 use rm_model::Sampled;
@@ -21,7 +21,8 @@ pub struct Hysteresis {
 impl Hysteresis {
     /// Before the first sample.
     pub fn new() -> Hysteresis
-        ensures { (thresholds : Thresholds) → Keeps result thresholds [] }
+        ensures value { result ≡ nothing_crossed }
+        ensures keeps { (thresholds : Thresholds) → Keeps result thresholds [] }
     {
         Hysteresis {
             last: None,

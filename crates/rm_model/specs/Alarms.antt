@@ -5,7 +5,7 @@ use Rattle.std.specs.Int.{int_rem_euclid, int_min, int_max}
 use Rattle.rm_val.specs.Val.{Val, int, octets, name}
 use Rattle.rm_model.specs.Settings.{Settings}
 use Rattle.rm_model.specs.Journal.{Journal, passes, assigns, samples, moment_of}
-use Rattle.rm_model.specs.ControlTable.{Range, ControlTable, number, any_name, text}
+use Rattle.rm_model.specs.ControlTable.{Range, Column, ControlTable, number, any_name, text}
 use Rattle.rm_model.specs.ControlRows.{no_rows, is_valid, state_of, value_of, stays_valid, since, activated}
 use Rattle.rm_model.specs.Crossings.{Bounds, crossing}
 use Rattle.rm_model.specs.declared.row.StatusKind.TheVariants.{EntryStatus}
@@ -34,25 +34,45 @@ up_from least greatest = record { least = pos least; greatest = pos greatest } �
 abbrev pub any_number : List Range
 any_number = record { least = negsuc 2147483647; greatest = pos 2147483647 } ∷ []
 
--- The control table: alarmInterval, alarmVariable, alarmSampleType, alarmStartupAlarm, alarmRisingThreshold,
--- alarmFallingThreshold, alarmRisingEventIndex, alarmFallingEventIndex and alarmOwner. Of these the owner alone may be
--- set while the row is valid. A row is ready where the falling threshold isn't above the rising one.
+-- The columns that can be set: alarmInterval, alarmVariable, alarmSampleType, alarmStartupAlarm, alarmRisingThreshold,
+-- alarmFallingThreshold, alarmRisingEventIndex, alarmFallingEventIndex and alarmOwner.
+abbrev pub interval_column : Column
+interval_column = record { number = 2; kind = number (up_from 1 2147483647); always = false; needed = true; default = int (pos 0) }
+
+abbrev pub variable_column : Column
+variable_column = record { number = 3; kind = any_name; always = false; needed = true; default = name (0 ∷ 0 ∷ []) }
+
+abbrev pub sample_type_column : Column
+sample_type_column = record { number = 4; kind = number (up_from 1 2); always = false; needed = false; default = int (pos 1) }
+
+abbrev pub startup_column : Column
+startup_column = record { number = 6; kind = number (up_from 1 3); always = false; needed = false; default = int (pos 3) }
+
+abbrev pub rising_column : Column
+rising_column = record { number = 7; kind = number any_number; always = false; needed = false; default = int (pos 0) }
+
+abbrev pub falling_column : Column
+falling_column = record { number = 8; kind = number any_number; always = false; needed = false; default = int (pos 0) }
+
+abbrev pub rising_event_column : Column
+rising_event_column = record { number = 9; kind = number (up_from 0 65535); always = false; needed = false; default = int (pos 0) }
+
+abbrev pub falling_event_column : Column
+falling_event_column = record { number = 10; kind = number (up_from 0 65535); always = false; needed = false; default = int (pos 0) }
+
+abbrev pub owner_column : Column
+owner_column = record { number = 11; kind = text 127; always = true; needed = false; default = octets [] }
+
+-- The control table. Of its columns the owner alone may be set while the row is valid. A row is ready where the falling
+-- threshold isn't above the rising one.
 abbrev pub alarm_table : ControlTable
 alarm_table = record {
   entry = alarm_entry;
   status = 12;
   status_kind = EntryStatus;
   columns =
-      (record { number = 2; kind = number (up_from 1 2147483647); always = false; needed = true; default = int (pos 0) })
-      ∷ (record { number = 3; kind = any_name; always = false; needed = true; default = name (0 ∷ 0 ∷ []) })
-      ∷ (record { number = 4; kind = number (up_from 1 2); always = false; needed = false; default = int (pos 1) })
-      ∷ (record { number = 6; kind = number (up_from 1 3); always = false; needed = false; default = int (pos 3) })
-      ∷ (record { number = 7; kind = number any_number; always = false; needed = false; default = int (pos 0) })
-      ∷ (record { number = 8; kind = number any_number; always = false; needed = false; default = int (pos 0) })
-      ∷ (record { number = 9; kind = number (up_from 0 65535); always = false; needed = false; default = int (pos 0) })
-      ∷ (record { number = 10; kind = number (up_from 0 65535); always = false; needed = false; default = int (pos 0) })
-      ∷ (record { number = 11; kind = text 127; always = true; needed = false; default = octets [] })
-      ∷ [];
+      interval_column ∷ variable_column ∷ sample_type_column ∷ startup_column ∷ rising_column ∷ falling_column
+      ∷ rising_event_column ∷ falling_event_column ∷ owner_column ∷ [];
   go_together = λ value. int_le (number_of (value 8)) (number_of (value 7));
   is_sampled = true;
 }
