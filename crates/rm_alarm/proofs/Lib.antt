@@ -1,0 +1,5 @@
+mod RowFacts
+mod Steps
+mod Samples
+mod Taken
+mod NextDue

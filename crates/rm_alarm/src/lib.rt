@@ -1,13 +1,22 @@
 //! The group alarm: alarmTable (RFC 1757, section 5.4).
 #![tactic(auto)]
 
+mod alarms;
+mod cell;
+mod change;
+mod columns;
 mod course;
+mod due;
+mod given;
 mod hysteresis;
 mod laws;
 mod row;
+mod sampling;
+mod taking;
 mod thresholds;
 mod values;
 
+pub use alarms::Alarms;
 pub use course::Course;
 pub use hysteresis::Hysteresis;
 pub use laws::{crossing_conditions, one_crossing};

@@ -7,7 +7,7 @@ ghost use Rattle.rm_alarm.specs.Kept.{bounds_in};
 #[derive(Clone, Copy)]
 pub struct Thresholds {
     /// alarmStartupAlarm: 1 risingAlarm, 2 fallingAlarm, 3 risingOrFallingAlarm
-    pub startup: u32,
+    pub startup: i32,
     /// alarmRisingThreshold
     pub rising: i32,
     /// alarmFallingThreshold

@@ -6,7 +6,7 @@ use Rattle.rm_model.specs.declared.sampled.Sampled.TheVariants.{Quiet, Rising, F
 
 -- rising threshold 10, falling threshold 5
 abbrev startup : ℕ → Bounds
-startup number = record { startup = number; rising = pos 10; falling = pos 5 }
+startup number = record { startup = pos number; rising = pos 10; falling = pos 5 }
 
 -- A first sample at or above the rising threshold crosses it where the startup alarm is rising, or rising or falling.
 high_first_rising : crossing (startup 1) (pos 12 ∷ []) ≡ Rising
@@ -65,7 +65,7 @@ below_after_rising = refl
 
 -- Both thresholds 5.
 abbrev equal : ℕ → Bounds
-equal number = record { startup = number; rising = pos 5; falling = pos 5 }
+equal number = record { startup = pos number; rising = pos 5; falling = pos 5 }
 
 -- A first sample of 5 would cross both, and rises alone, where the startup alarm is rising or falling.
 both_first : crossing (equal 3) (pos 5 ∷ []) ≡ Rising

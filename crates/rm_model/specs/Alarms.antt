@@ -2,6 +2,7 @@
 -- the next one is due. An alarm is named by the number of its row.
 use Rattle.std.specs.Prelude.{◌≡◌, ◌⊎◌, ℕ, ◌+◌, ◌*◌, ◌<◌, ◌≤◌, ℤ, pos, negsuc, ◌-ℤ◌, int_le, nat_abs, List, [], ◌∷◌, length, Bool, true, false, nat_eq, if◌then◌else◌, Option, Some, None}
 use Rattle.std.specs.Int.{int_rem_euclid, int_min, int_max}
+use Rattle.std.specs.Ordering.{int_eq}
 use Rattle.rm_val.specs.Val.{Val, int, octets, name}
 use Rattle.rm_model.specs.Settings.{Settings}
 use Rattle.rm_model.specs.Journal.{Journal, passes, assigns, samples, moment_of}
@@ -89,7 +90,7 @@ abbrev pub variable_of : Journal → ℕ → List ℕ
 variable_of journal alarm = name_of (alarm_column journal alarm 3)
 
 abbrev pub is_delta : Journal → ℕ → Bool
-is_delta journal alarm = nat_eq (nat_abs (number_of (alarm_column journal alarm 4))) 2
+is_delta journal alarm = int_eq (number_of (alarm_column journal alarm 4)) (pos 2)
 
 abbrev pub interval_of : Journal → ℕ → ℕ
 interval_of journal alarm = nat_abs (number_of (alarm_column journal alarm 2))
@@ -97,7 +98,7 @@ interval_of journal alarm = nat_abs (number_of (alarm_column journal alarm 2))
 -- the columns by which its samples cross
 abbrev pub bounds_of : Journal → ℕ → Bounds
 bounds_of journal alarm = record {
-  startup = nat_abs (number_of (alarm_column journal alarm 6));
+  startup = number_of (alarm_column journal alarm 6);
   rising = number_of (alarm_column journal alarm 7);
   falling = number_of (alarm_column journal alarm 8);
 }

@@ -1,7 +1,8 @@
 -- When the samples of an alarm cross its thresholds (RFC 1757, section 5.4). They are the list of their values, the newest
 -- first.
-use Rattle.std.specs.Prelude.{◌≡◌, ℕ, ℤ, int_le, List, [], ◌∷◌, ◌++◌, Bool, true, false, ◌&&◌, ◌||◌, not, nat_eq, if◌then◌else◌}
+use Rattle.std.specs.Prelude.{◌≡◌, ℤ, pos, int_le, List, [], ◌∷◌, ◌++◌, Bool, true, false, ◌&&◌, ◌||◌, not, if◌then◌else◌}
 use Rattle.std.specs.List.{list_any}
+use Rattle.std.specs.Ordering.{int_eq}
 use Rattle.rm_model.specs.declared.sampled.Sampled.{Sampled}
 use Rattle.rm_model.specs.declared.sampled.Sampled.TheVariants.{Quiet, Rising, Falling}
 
@@ -49,7 +50,7 @@ pub record IsCrossing (threshold : Threshold) (value : ℤ) (earlier : List ℤ)
 -- the columns of an alarm by which samples cross: alarmStartupAlarm, which is 1 rising, 2 falling or 3 either of them,
 -- alarmRisingThreshold and alarmFallingThreshold
 pub record Bounds : Type 0 where
-  pub startup : ℕ
+  pub startup : ℤ
   pub rising : ℤ
   pub falling : ℤ
 
@@ -62,10 +63,10 @@ is_low bounds value = int_le value bounds.falling
 
 -- whether the first sample may cross the rising threshold, and whether it may cross the falling one
 abbrev pub may_rise_first : Bounds → Bool
-may_rise_first bounds = nat_eq bounds.startup 1 || nat_eq bounds.startup 3
+may_rise_first bounds = int_eq bounds.startup (pos 1) || int_eq bounds.startup (pos 3)
 
 abbrev pub may_fall_first : Bounds → Bool
-may_fall_first bounds = nat_eq bounds.startup 2 || nat_eq bounds.startup 3
+may_fall_first bounds = int_eq bounds.startup (pos 2) || int_eq bounds.startup (pos 3)
 
 -- The rising threshold of an alarm, and the falling one. A first sample that would cross both crosses the rising one alone.
 abbrev pub rising_of : Bounds → Threshold
