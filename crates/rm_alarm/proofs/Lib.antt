@@ -3,3 +3,7 @@ mod Steps
 mod Samples
 mod Taken
 mod NextDue
+mod AfterSets
+mod Changes
+mod Judged
+mod Cells

@@ -1,15 +1,15 @@
 -- The search for the sample that is due next.
-use Rattle.std.proofs.Common.{◌≡◌, ℕ, ◌<◌, ◌≤◌, ◌⊎◌, inl, inr, List, [], ◌∷◌, Bool, true, false, cond, Option, Some, None, refl, sym, ap, subst, ◌∙◌, nat_eq, nat_lt, option_map, arith}
+use Rattle.std.proofs.Common.{◌≡◌, ℕ, ◌<◌, ◌≤◌, ◌⊎◌, inl, inr, List, true, false, cond, Option, Some, None, refl, sym, ap, subst, ◌∙◌, nat_eq, nat_lt, option_map, arith}
 use Rattle.std.specs.Option.{option_and_then}
 use Rattle.std.proofs.lemmas.Bool.Decides.{nat_tests}
 use Rattle.rm_model.specs.Settings.{Settings}
 use Rattle.rm_model.specs.Journal.{Journal}
-use Rattle.rm_model.specs.ControlRows.{no_rows, is_absent, is_valid}
+use Rattle.rm_model.specs.ControlRows.{no_rows, is_valid}
 use Rattle.rm_model.specs.Alarms.{alarm_table, alarm_state, due_of, IsNextDue}
 use Rattle.rm_model.specs.declared.row.State.{State}
 use Rattle.rm_model.specs.declared.row.State.TheVariants.{Absent, UnderCreation, Valid}
 use Rattle.rm_status.specs.declared.row.Row.{Row}
-use Rattle.rm_status.specs.Rows.{row_in, state_seen, state_in, AllThere, IsIndexAfter}
+use Rattle.rm_status.specs.Rows.{row_in, state_seen, AllThere, IsIndexAfter}
 use Rattle.rm_status.specs.RowsAfter.{AreRowsAfter}
 use Rattle.rm_alarm.specs.declared.course.Course.{Course}
 use Rattle.rm_alarm.specs.declared.row.AlarmRow.{AlarmRow}
@@ -93,10 +93,13 @@ module _ (due : ℕ → Option ℕ) where
     | true ↦ λ e. none alarm (grind (arith, nat_tests))
     | false ↦ λ e. is alarm (grind (arith, nat_tests))
   ] refl
-  next_all last (Some next) none is = (is.0, λ other moment f. elim (nat_lt last other) as (λ t. nat_lt last other ≡ t → (next.0 < moment) ⊎ ((next.0 ≡ moment) × (next.1 ≤ other))) [
-    | true ↦ λ e. absurd (none_some (due other) moment (none other (grind (arith, nat_tests))) f)
-    | false ↦ λ e. is.2 other moment (grind (arith, nat_tests)) f
-  ] refl)
+  next_all last (Some next) none is = (
+    is.0,
+    λ other moment f. elim (nat_lt last other) as (λ t. nat_lt last other ≡ t → (next.0 < moment) ⊎ ((next.0 ≡ moment) × (next.1 ≤ other))) [
+      | true ↦ λ e. absurd (none_some (due other) moment (none other (grind (arith, nat_tests))) f)
+      | false ↦ λ e. is.2 other moment (grind (arith, nat_tests)) f
+    ] refl,
+  )
 
 due_none : (rows : List (Row AlarmRow)) (i : ℕ) → row_in rows i ≡ None → due_at rows i ≡ None
 due_none rows i e = ap (option_and_then (λ (row : Row AlarmRow). option_map (λ course. course.due) row.columns.course)) e

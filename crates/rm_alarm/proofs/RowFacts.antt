@@ -1,19 +1,18 @@
 -- Rows of a control table, and the columns of alarms among them.
-use Rattle.std.proofs.Common.{◌≡◌, ℕ, ◌≤◌, List, [], ◌∷◌, Bool, true, false, cond, ◌&&◌, Option, Some, None, refl, sym, ap, subst, ◌∙◌, nat_eq, nat_le, find, option_map, arith}
+use Rattle.std.proofs.Common.{◌≡◌, ℕ, ◌≤◌, List, [], ◌∷◌, Bool, true, false, cond, ◌&&◌, Option, Some, None, refl, sym, ap, subst, ◌∙◌, nat_eq, nat_le, option_map, arith}
 use Rattle.std.specs.Prelude.{ℤ, pos, unwrap_or, nat_abs}
 use Rattle.std.specs.Option.{option_and_then}
 use Rattle.std.specs.Ordering.{int_eq}
 use Rattle.std.proofs.lemmas.Bool.Decides.{nat_tests}
 use borrow.Author.Tests.{eqb-true}
-use Rattle.rm_val.specs.Val.{Val, int, name}
+use Rattle.rm_val.specs.Val.{int, name}
 use Rattle.rm_model.specs.Journal.{Journal}
 use Rattle.rm_model.specs.ControlRows.{no_rows, is_absent, set_value}
 use Rattle.rm_model.specs.Judgement.{is_row_number}
 use Rattle.rm_model.specs.Alike.{HasSameColumns}
 use Rattle.rm_model.specs.Alarms.{number_of, name_of, alarm_table, alarm_state, interval_of, variable_of, is_delta, bounds_of}
-use Rattle.rm_model.specs.declared.row.State.{State}
 use Rattle.rm_status.specs.declared.row.Row.{Row}
-use Rattle.rm_status.specs.Rows.{row_in, state_seen, columns_seen, state_in, columns_in, AreControlRows, AllThere, with_columns}
+use Rattle.rm_status.specs.Rows.{row_in, state_seen, columns_seen, AreControlRows, AllThere, with_columns}
 use Rattle.rm_status.specs.RowsAfter.{AreRowsAfter}
 use Rattle.rm_alarm.specs.declared.row.AlarmRow.{AlarmRow}
 use Rattle.rm_alarm.specs.Kept.{bounds_in}
@@ -66,7 +65,7 @@ module _ (rows : List (Row AlarmRow)) (journal : Journal) (is : AreRowsAfter ala
   state_is = sym (ap state_seen here) ∙ is.alike.states i
 
   module _ (there : is_absent row.state ≡ false) where
-    columns : HasSameColumns alarm_table (set_to row.columns) (set_value alarm_table no_rows journal (i ∷ []))
+    pub columns : HasSameColumns alarm_table (set_to row.columns) (set_value alarm_table no_rows journal (i ∷ []))
     columns =
         subst (λ (o : Option (Row AlarmRow)). HasSameColumns alarm_table (λ n. option_and_then (λ c. set_to c n) (columns_seen o)) (set_value alarm_table no_rows journal (i ∷ []))) here
         (is.alike.columns i (ap (λ o. is_absent (state_seen o)) here ∙ there))

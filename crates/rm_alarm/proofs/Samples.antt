@@ -1,23 +1,20 @@
 -- The alarms after a frame, and after a sample.
-use Rattle.std.proofs.Common.{◌≡◌, ℕ, List, [], ◌∷◌, Bool, true, false, cond, ◌&&◌, Option, Some, None, refl, sym, ap, subst, ◌∙◌, nat_eq, option_map, arith}
+use Rattle.std.proofs.Common.{◌≡◌, ℕ, List, [], ◌∷◌, true, false, cond, ◌&&◌, Option, Some, None, refl, sym, ap, subst, ◌∙◌, nat_eq}
 use Rattle.std.specs.Prelude.{ℤ}
 use Rattle.std.specs.Option.{option_and_then}
-use Rattle.std.specs.Str.{bytes_eq}
 use borrow.Author.Tests.{eqb-true}
 use Rattle.rm_val.specs.Val.{Val}
 use Rattle.rm_model.specs.Settings.{Settings}
 use Rattle.rm_model.specs.Journal.{Act, Frame, Journal, passes, samples}
-use Rattle.rm_model.specs.ControlRows.{no_rows, is_absent, is_valid, state_of, next_state, set_value, stays_valid}
+use Rattle.rm_model.specs.ControlRows.{no_rows, is_absent, is_valid, set_value, stays_valid}
 use Rattle.rm_model.specs.Alike.{HasSameColumns}
 use Rattle.rm_model.specs.Alarms.{alarm_table, alarm_state, interval_of, is_delta, readings_in, sampled}
 use Rattle.rm_model.specs.declared.row.State.{State}
 use Rattle.rm_model.specs.declared.row.State.TheVariants.{Absent, UnderCreation, Valid}
-use Rattle.rm_model.specs.declared.row.Ask.TheVariants.{Nothing, Destroy}
 use Rattle.rm_model.specs.declared.sampled.Sampled.{Sampled}
 use Rattle.rm_status.specs.declared.row.Row.{Row}
 use Rattle.rm_status.specs.Rows.{row_in, state_seen, columns_seen, state_in, columns_in, AreControlRows}
-use Rattle.rm_status.specs.RowsAfter.{is_one_number, AreRowsAfter}
-use Rattle.rm_status.proofs.PlaceLemmas.{same_either_way}
+use Rattle.rm_status.specs.RowsAfter.{AreRowsAfter}
 use Rattle.rm_alarm.specs.declared.course.Course.{Course}
 use Rattle.rm_alarm.specs.declared.row.AlarmRow.{AlarmRow}
 use Rattle.rm_alarm.specs.Kept.{Keeps}

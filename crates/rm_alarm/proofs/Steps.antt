@@ -1,28 +1,21 @@
 -- What is kept of alarms after each act.
-use Rattle.std.proofs.Common.{◌≡◌, ℕ, ◌+◌, ◌*◌, suc, List, [], ◌∷◌, length, Bool, true, false, cond, ◌&&◌, Option, Some, None, refl, sym, ap, subst, ◌∙◌, nat_eq, option_map, arith, rules}
+use Rattle.std.proofs.Common.{◌≡◌, ℕ, ◌+◌, ◌*◌, List, [], ◌∷◌, length, Bool, true, false, cond, ◌&&◌, Option, Some, None, refl, sym, ap, subst, ◌∙◌, nat_eq, arith, rules}
 use Rattle.std.specs.Prelude.{ℤ}
-use Rattle.std.specs.Str.{bytes_eq}
 use Rattle.std.proofs.Math.Nat.{mul-suc}
 use Rattle.rm_model.specs.Settings.{Settings}
-use Rattle.rm_model.specs.Journal.{Act, Frame, Journal, passes, assigns, samples}
-use Rattle.rm_model.specs.ControlRows.{no_rows, is_absent, is_valid, state_of, stays_valid, since, activated}
+use Rattle.rm_model.specs.Journal.{Act, Journal, samples}
+use Rattle.rm_model.specs.ControlRows.{no_rows, is_valid, stays_valid, since, activated}
 use Rattle.rm_model.specs.Crossings.{Bounds, is_in_force, rising_of, falling_of, crossing}
 use Rattle.rm_model.specs.Alarms.{alarm_table, alarm_state, interval_of, is_delta, bounds_of, readings_in, readings_of, base_of, newest_or, values_of_readings, is_counted, base_number, difference, sample_values, sampled, due_of}
-use Rattle.rm_model.specs.declared.row.State.{State}
-use Rattle.rm_model.specs.declared.row.State.TheVariants.{Absent, UnderCreation, Valid}
-use Rattle.rm_model.specs.declared.reading.Reading.{Reading}
 use Rattle.rm_model.specs.declared.sampled.Sampled.{Sampled}
-use Rattle.rm_status.specs.declared.row.Row.{Row}
-use Rattle.rm_status.specs.Rows.{row_in, with_columns, AreControlRows}
-use Rattle.rm_status.specs.RowsAfter.{AreRowsAfter}
 use Rattle.rm_alarm.specs.declared.course.Course.{Course}
 use Rattle.rm_alarm.specs.declared.hysteresis.Hysteresis.{Hysteresis}
 use Rattle.rm_alarm.specs.declared.thresholds.Thresholds.{Thresholds}
 use Rattle.rm_alarm.specs.declared.row.AlarmRow.{AlarmRow}
 use Rattle.rm_alarm.specs.Kept.{Keeps, bounds_in, value_read}
-use Rattle.rm_alarm.specs.Rows.{set_to, interval_kept, delta_kept}
+use Rattle.rm_alarm.specs.Rows.{interval_kept, delta_kept}
 use Rattle.rm_alarm.specs.Taking.{Took}
-use Rattle.rm_alarm.specs.Standing.{IsRunning, IsKept, AreKept, IsBased}
+use Rattle.rm_alarm.specs.Standing.{IsRunning, IsBased}
 
 both_true : (a b : Bool) → (a && b) ≡ true → (a ≡ true) × (b ≡ true)
 both_true true b h = (refl, h)

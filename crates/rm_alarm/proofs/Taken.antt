@@ -7,23 +7,22 @@ use borrow.Author.Tests.{eqb-true}
 use Rattle.rm_val.specs.Spellable.{IsSpellable}
 use Rattle.rm_model.specs.Settings.{Settings}
 use Rattle.rm_model.specs.Journal.{Act, Journal, samples}
-use Rattle.rm_model.specs.ControlRows.{no_rows, is_absent, state_of, next_state, set_value}
+use Rattle.rm_model.specs.ControlRows.{no_rows, is_absent, next_state, set_value}
 use Rattle.rm_model.specs.Alike.{HasSameColumns}
 use Rattle.rm_model.specs.Alarms.{alarm_table, alarm_state}
-use Rattle.rm_model.specs.declared.row.State.{State}
-use Rattle.rm_model.specs.declared.row.State.TheVariants.{Absent, UnderCreation, Valid}
+use Rattle.rm_model.specs.declared.row.State.TheVariants.{Absent}
 use Rattle.rm_model.specs.declared.row.Ask.TheVariants.{Nothing, Destroy}
 use Rattle.rm_model.specs.declared.sampled.Sampled.{Sampled}
 use Rattle.rm_status.specs.declared.row.Row.{Row}
 use Rattle.rm_status.specs.Rows.{row_in, state_seen, columns_seen, state_in, columns_in, with_columns}
-use Rattle.rm_status.specs.RowsAfter.{is_one_number, AreRowsAfter}
+use Rattle.rm_status.specs.RowsAfter.{AreRowsAfter}
 use Rattle.rm_status.proofs.PlaceLemmas.{same_either_way}
 use Rattle.rm_alarm.specs.declared.course.Course.{Course}
 use Rattle.rm_alarm.specs.declared.row.AlarmRow.{AlarmRow}
 use Rattle.rm_alarm.specs.Rows.{set_to, variable_kept}
 use Rattle.rm_alarm.specs.Spelled.{AreSpelled}
 use Rattle.rm_alarm.specs.Taking.{Took, with_course, HasTaken}
-use Rattle.rm_alarm.specs.Standing.{IsKept, AreKept, IsBased}
+use Rattle.rm_alarm.specs.Standing.{AreKept}
 use Rattle.rm_alarm.proofs.RowFacts.{written, with_w, state_is}
 use Rattle.rm_alarm.proofs.Samples.{Based, kept_other, based_other, valid_one}
 
@@ -41,11 +40,10 @@ taken_rows rows index moment number result old new is leaves takes = record {
   itself = λ row course here has.
       let same : row.columns ≡ old = in_some row.columns old (sym (ap columns_seen here) ∙ is) in
       let got = takes course (ap (λ c. c.course) (sym same) ∙ has) in
-      let columns : new ≡ record row.columns { course = Some got.0 } = leaves ∙ ap (λ (c : AlarmRow). record c { course = new.course }) (sym same) ∙ ap (λ (k : Option Course). record row.columns { course = k }) got.1 in
-      (
+      let columns : new ≡ record row.columns { course = Some got.0 } = leaves ∙ ap (λ (c : AlarmRow). record c { course = new.course }) (sym same) ∙ ap (λ (k : Option Course). record row.columns { course = k }) got.1 in (
         got.0,
         written rows index index new ∙ ap (λ b. cond b (option_map (with_w new) (row_in rows index)) (row_in rows index)) (itself index) ∙ ap (option_map (with_w new)) here
-        ∙ ap Some (λ d. record { index = row.index; state = row.state; columns = columns d }),
+            ∙ ap Some (λ d. record { index = row.index; state = row.state; columns = columns d }),
         subst (λ (c : AlarmRow). Took c course moment number got.0 result) (sym same) got.2,
       );
 }

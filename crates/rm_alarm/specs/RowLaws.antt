@@ -1,6 +1,5 @@
 -- How the columns of an alarm are set, as the trait of columns wants it shown.
-use Rattle.std.proofs.Common.{◌≡◌, ℕ, List, [], ◌∷◌, true, false, cond, nat_eq, Option, Some, None, refl}
-use Rattle.std.specs.Prelude.{pos, negsuc}
+use Rattle.std.proofs.Common.{◌≡◌, ℕ, List, [], cond, nat_eq, Some, None, refl}
 use Rattle.rm_val.specs.Val.{Val, int, octets, null, name, ip, counter, gauge, ticks, opaque_octets, big, no_object, no_instance, end_of_view}
 use Rattle.rm_model.specs.ControlTable.{Range, number, any_name}
 use Rattle.rm_model.specs.Alike.{HasSameColumns}
@@ -44,14 +43,29 @@ name_taken end_of_view fine = cc
 pub blank_alike : HasSameColumns alarm_table (set_to blank_row) (λ column. None)
 blank_alike = (
   record { shown = refl; needed = λ is. refl },
-  (record { shown = refl; needed = λ is. refl },
-  (record { shown = refl; needed = λ no. absurd (cc) },
-  (record { shown = refl; needed = λ no. absurd (cc) },
-  (record { shown = refl; needed = λ no. absurd (cc) },
-  (record { shown = refl; needed = λ no. absurd (cc) },
-  (record { shown = refl; needed = λ no. absurd (cc) },
-  (record { shown = refl; needed = λ no. absurd (cc) },
-  (record { shown = refl; needed = λ no. absurd (cc) }, tt)))))))))
+  (
+    record { shown = refl; needed = λ is. refl },
+    (
+      record { shown = refl; needed = λ no. absurd (cc) },
+      (
+        record { shown = refl; needed = λ no. absurd (cc) },
+        (
+          record { shown = refl; needed = λ no. absurd (cc) },
+          (
+            record { shown = refl; needed = λ no. absurd (cc) },
+            (
+              record { shown = refl; needed = λ no. absurd (cc) },
+              (
+                record { shown = refl; needed = λ no. absurd (cc) },
+                (record { shown = refl; needed = λ no. absurd (cc) }, tt),
+              ),
+            ),
+          ),
+        ),
+      ),
+    ),
+  ),
+)
 
 pub set_with : (row : AlarmRow) (n other : ℕ) (value : Val) → value_fault (column_kind alarm_table n) value ≡ None → set_to (with_column row n value) other ≡ cond (nat_eq n other) (Some value) (set_to row other)
 set_with row n other value fine =

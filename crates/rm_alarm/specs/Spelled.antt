@@ -1,5 +1,5 @@
 -- That the variables of rows have a spelling.
-use Rattle.std.specs.Prelude.{◌≡◌, ℕ, List, [], ◌∷◌, Option, Some}
+use Rattle.std.specs.Prelude.{◌≡◌, ℕ, List, [], ◌∷◌, Some}
 use Rattle.std.proofs.Props.{props}
 use Rattle.rm_val.specs.Spellable.{IsSpellable}
 use Rattle.rm_status.specs.declared.row.Row.{Row}

@@ -11,11 +11,11 @@ ghost use Rattle.rm_alarm.specs.Rows.{variable_kept};
 ghost use Rattle.rm_alarm.specs.Spelled.{AreSpelled};
 ghost use Rattle.rm_alarm.specs.Shown.{last_value, row_shown, rows_table};
 
-use crate::course::Course;
 use crate::columns::{
     FALLING_EVENT_INDEX, FALLING_THRESHOLD, INTERVAL, OWNER, RISING_EVENT_INDEX, RISING_THRESHOLD,
     SAMPLE_TYPE, STARTUP_ALARM, VARIABLE,
 };
+use crate::course::Course;
 use crate::row::AlarmRow;
 use rm_model::Instance;
 use rm_status::{Controls, State, instance_of};

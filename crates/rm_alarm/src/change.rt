@@ -10,6 +10,7 @@ use rm_status::{Assigns, Change, Look, State};
 use rm_val::Oid;
 
 /// Each row remembers what the variable reads at a moment, in milliseconds, that it has with what a Set gives.
+#[derive(Drop)]
 pub(crate) struct ReadingBase<'a, A, L> {
     /// The Set.
     pub set: &'a A,
@@ -39,6 +40,7 @@ pub(crate) fn variable_with<A: Assigns>(set: &A, index: u32, row: &AlarmRow) -> 
 }
 
 /// Each row forgets what its variable read.
+#[derive(Drop)]
 pub(crate) struct Forgetting;
 
 impl Change<AlarmRow> for Forgetting {
@@ -51,6 +53,7 @@ impl Change<AlarmRow> for Forgetting {
 
 /// Each row that is valid after a Set goes on with its samples, or starts them at the moment of the Set, in milliseconds. Any
 /// other one keeps nothing of them.
+#[derive(Drop)]
 pub(crate) struct Settling {
     /// The moment.
     pub now: u32,

@@ -10,13 +10,21 @@ use rm_val::{ErrorStatus, Oid, Value};
 
 // The numbers of the columns that can be set.
 pub(crate) const INTERVAL: u32 = 2;
+
 pub(crate) const VARIABLE: u32 = 3;
+
 pub(crate) const SAMPLE_TYPE: u32 = 4;
+
 pub(crate) const STARTUP_ALARM: u32 = 6;
+
 pub(crate) const RISING_THRESHOLD: u32 = 7;
+
 pub(crate) const FALLING_THRESHOLD: u32 = 8;
+
 pub(crate) const RISING_EVENT_INDEX: u32 = 9;
+
 pub(crate) const FALLING_EVENT_INDEX: u32 = 10;
+
 pub(crate) const OWNER: u32 = 11;
 
 impl Default for AlarmRow {

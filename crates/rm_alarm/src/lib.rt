@@ -2,13 +2,16 @@
 #![tactic(auto)]
 
 mod alarms;
+mod assigning;
 mod cell;
 mod change;
 mod columns;
 mod course;
 mod due;
 mod given;
+mod group;
 mod hysteresis;
+mod judging;
 mod laws;
 mod row;
 mod sampling;

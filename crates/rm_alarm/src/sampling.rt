@@ -51,12 +51,7 @@ impl Alarms {
 }
 
 // What the variable of a row reads at a moment, in milliseconds.
-fn read<L: Look>(
-    rows: &Controls<AlarmRow>,
-    index: u32,
-    moment: u32,
-    look: &L,
-) -> Option<Reading>
+fn read<L: Look>(rows: &Controls<AlarmRow>, index: u32, moment: u32, look: &L) -> Option<Reading>
     ensures { (row : Row Columns) → row_in rows.now index ≡ Some row → result ≡ L.readings look.now moment (variable_kept row.columns) }
 {
     match rows.get(index) {

@@ -46,6 +46,7 @@ pub use lower::lower_verdict;
 pub use nearer::choose_nearer;
 pub use objects::{Objects, is_of_column};
 pub use one_row::OneRow;
+pub use place::place_under;
 pub use read_only::judge_read_only;
 pub use rm_model::{Reading, State, StatusKind, Verdict};
 pub use row::Row;

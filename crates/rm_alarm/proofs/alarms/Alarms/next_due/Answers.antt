@@ -1,4 +1,4 @@
-use Rattle.std.proofs.Common.{◌≡◌, ℕ, ◌<◌, ◌≤◌, arith}
+use Rattle.std.proofs.Common.{arith}
 use Rattle.rm_alarm.specs.Due.{due_at}
 use Rattle.rm_alarm.proofs.NextDue.{begins, goes_on, ends, above_fits, due_is, next_by}
 use Rattle.rm_model.specs.Alarms.{due_of}

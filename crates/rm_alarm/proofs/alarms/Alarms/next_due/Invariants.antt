@@ -1,4 +1,4 @@
-use Rattle.std.proofs.Common.{ℕ, ◌-◌}
+use Rattle.std.proofs.Common.{◌-◌}
 use Rattle.rm_alarm.specs.Due.{due_at}
 use Rattle.rm_alarm.proofs.NextDue.{IsNextTo}
 use Rattle.rm_alarm.proofs.alarms.Alarms.next_due.Given as goal

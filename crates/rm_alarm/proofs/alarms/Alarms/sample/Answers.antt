@@ -1,15 +1,13 @@
-use Rattle.std.proofs.Common.{◌≡◌, ℕ, ◌∷◌, List, Option, Some, None, refl, sym, ap, subst, ◌∙◌, rules, w64}
+use Rattle.std.proofs.Common.{◌≡◌, ℕ, ◌∷◌, List, Option, Some, sym, ap, subst, ◌∙◌, rules, w64}
 use Rattle.std.specs.Prelude.{ℤ}
 use Rattle.std.specs.Option.{option_map}
 use Rattle.std.proofs.lemmas.Int.{to_z-of_z}
 use mir.Val.{SFits}
-use Rattle.rm_model.specs.Settings.{Settings}
 use Rattle.rm_model.specs.Journal.{Journal, samples}
 use Rattle.rm_model.specs.ControlRows.{no_rows}
 use Rattle.rm_model.specs.Readings.{Readings}
 use Rattle.rm_model.specs.Alarms.{alarm_table, variable_of, sampled}
 use Rattle.rm_model.specs.declared.reading.Reading.{Reading}
-use Rattle.rm_model.specs.declared.sampled.Sampled.TheVariants.{Gone}
 use Rattle.rm_status.specs.declared.row.Row.{Row}
 use Rattle.rm_status.specs.Rows.{row_in, AreControlRows}
 use Rattle.rm_status.specs.RowsAfter.{AreRowsAfter}
