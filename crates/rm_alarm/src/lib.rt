@@ -16,13 +16,15 @@ mod laws;
 mod row;
 mod sampling;
 mod taking;
+#[cfg(test)]
+mod tests;
 mod thresholds;
 mod values;
 
 pub use alarms::Alarms;
 pub use course::Course;
 pub use hysteresis::Hysteresis;
-pub use laws::{crossing_conditions, one_crossing};
+pub use laws::{crossing_conditions, frames_pass, one_crossing};
 pub use rm_model::Sampled;
 pub use row::AlarmRow;
 pub use thresholds::Thresholds;

@@ -29,6 +29,7 @@ mod system;
 #[cfg(test)]
 mod tests;
 mod values;
+mod unsampled;
 mod wrong;
 
 pub use assigns::Assigns;
@@ -53,4 +54,5 @@ pub use row::Row;
 pub use row_indexes::RowIndexes;
 pub use search::next_name;
 pub use system::System;
+pub use unsampled::Unsampled;
 pub use values::{interface_in, natural_in, number_fault, put_text, source_fault, text_fault};
