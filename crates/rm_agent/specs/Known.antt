@@ -1,6 +1,7 @@
 -- What the probe is set to.
 use Rattle.std.specs.Prelude.{ℕ, Bool, ◌||◌, List}
 use Rattle.std.specs.Str.{bytes_eq}
+use Rattle.rm_model.specs.Readings.{nothing_read}
 use Rattle.rm_model.specs.Settings.{Settings as Counting}
 use Rattle.rm_agent.specs.declared.settings.Settings.{Settings}
 
@@ -12,6 +13,6 @@ is_known settings community = bytes_eq community settings.read.items || bytes_eq
 abbrev pub may_write : Settings → List ℕ → Bool
 may_write settings community = bytes_eq community settings.write.items
 
--- what the counters depend on
+-- what the counters depend on; no alarm samples a variable yet
 abbrev pub counting_by : Settings → Counting
-counting_by settings = record { keep_short = settings.keep_short }
+counting_by settings = record { keep_short = settings.keep_short; readings = λ journal now. nothing_read }

@@ -6,7 +6,7 @@ ghost use Rattle.rm_pdu.specs.Message.{Message};
 ghost use Rattle.rm_pdu.specs.Verdict.{is_read};
 ghost use Rattle.rm_agent.specs.Drafting.{IsAsked, DraftsOne};
 ghost use Rattle.rm_agent.specs.Answers.{IsReplyBy};
-ghost use Rattle.rm_agent.specs.Unread.{nothing_read};
+ghost use Rattle.rm_model.specs.Readings.{nothing_read};
 
 use crate::reply::reply;
 use crate::request::Request;

@@ -8,7 +8,7 @@ ghost use Rattle.rm_val.specs.declared.error.ErrorStatus.TheVariants.{NotWritabl
 ghost use Rattle.rm_status.specs.Alone.{alone_at, AreFineAlone, IsWithin};
 ghost use Rattle.rm_agent.specs.Drafting.{IsAsked, DraftsOne};
 ghost use Rattle.rm_agent.specs.Sets.{alone_among, Judges, IsSetReply};
-ghost use Rattle.rm_agent.specs.Unread.{nothing_read};
+ghost use Rattle.rm_model.specs.Readings.{nothing_read};
 
 use crate::request::Request;
 use crate::unread::Unread;

@@ -1,5 +1,5 @@
 // Readings that a Set is judged by.
-ghost use Rattle.rm_agent.specs.Unread.{nothing_read};
+ghost use Rattle.rm_model.specs.Readings.{nothing_read};
 
 use rm_status::{Look, Reading};
 use rm_val::Oid;

@@ -2,6 +2,7 @@
 use Rattle.std.proofs.Common.{◌≡◌, ℕ, ◌+◌, [], ◌∷◌, refl, true, false, Some, None}
 use Rattle.std.specs.Prelude.{pos, codes}
 use Rattle.rm_val.specs.Val.{int, octets, name, counter}
+use Rattle.rm_model.specs.Readings.{nothing_read}
 use Rattle.rm_model.specs.Settings.{Settings}
 use Rattle.rm_model.specs.Journal.{Act, passes, assigns, Journal}
 use Rattle.rm_model.specs.Cells.{cells_of}
@@ -10,10 +11,10 @@ use Rattle.rm_ether.specs.EtherStats.{ether_table, counter_sum}
 use Rattle.rm_ether.specs.Columns.{column_of}
 
 abbrev padded : Settings
-padded = record { keep_short = false }
+padded = record { keep_short = false; readings = λ journal now. nothing_read }
 
 abbrev kept : Settings
-kept = record { keep_short = true }
+kept = record { keep_short = true; readings = λ journal now. nothing_read }
 
 -- a frame with so many octets on the wire, without the check sequence
 abbrev frame : ℕ → ℕ → Act

@@ -7,3 +7,6 @@ pub mod Finite
 pub mod Rows
 pub mod Alike
 pub mod Accepted
+pub mod CrossingLaws
+mod CrossingExamples
+mod AlarmExamples

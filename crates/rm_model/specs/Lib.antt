@@ -1,4 +1,5 @@
 pub mod Journal
+pub mod Readings
 pub mod Settings
 pub mod FrameFacts
 pub mod Names
@@ -11,3 +12,5 @@ pub mod Judgement
 pub mod Alike
 pub mod Accepted
 pub mod Reserves
+pub mod Crossings
+pub mod Alarms

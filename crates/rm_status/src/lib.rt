@@ -29,6 +29,7 @@ mod system;
 #[cfg(test)]
 mod tests;
 mod values;
+mod unsampled;
 mod wrong;
 
 pub use assigns::Assigns;
@@ -41,15 +42,17 @@ pub use group::Group;
 pub use instance::instance_of;
 pub use interface::{INTERFACES, interface_name, source};
 pub use laws::{next_or_none, order_does_not_matter};
-pub use look::{Look, Reading};
+pub use look::Look;
 pub use lower::lower_verdict;
 pub use nearer::choose_nearer;
 pub use objects::{Objects, is_of_column};
 pub use one_row::OneRow;
+pub use place::place_under;
 pub use read_only::judge_read_only;
-pub use rm_model::{State, StatusKind, Verdict};
+pub use rm_model::{Reading, State, StatusKind, Verdict};
 pub use row::Row;
 pub use row_indexes::RowIndexes;
 pub use search::next_name;
 pub use system::System;
+pub use unsampled::Unsampled;
 pub use values::{interface_in, natural_in, number_fault, put_text, source_fault, text_fault};

@@ -2,16 +2,8 @@
 ghost use Rattle.std.specs.Prelude.{◌≡◌, ℕ};
 ghost use Rattle.rm_status.specs.Look.{Readings};
 
+use rm_model::Reading;
 use rm_val::Oid;
-
-/// What a variable of type INTEGER, Counter32, Gauge32 or TimeTicks reads.
-#[derive(Clone, Copy, Debug, PartialEq, Eq)]
-pub struct Reading {
-    /// The number.
-    pub value: i64,
-    /// Whether it is a Counter32, of which a difference is taken modulo 2^32.
-    pub counter: bool,
-}
 
 /// What can be read of the variables that an alarm may sample.
 pub trait Look {

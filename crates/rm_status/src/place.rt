@@ -9,7 +9,7 @@ use rm_model::Place;
 use rm_val::Oid;
 
 /// Where a name stands under the entry of a table.
-pub(crate) fn place_under(name: &Oid, entry: &Oid) -> Place
+pub fn place_under(name: &Oid, entry: &Oid) -> Place
     ensures { result ≡ place_of entry.now name.now }
 {
     if !name.starts_with(entry) {

@@ -4,7 +4,7 @@ use Rattle.rm_pdu.specs.declared.kind.Kind.TheVariants.{Set}
 use Rattle.rm_pdu.specs.Verdict.{is_request}
 use Rattle.rm_agent.specs.Sets.{alone_among}
 use Rattle.rm_agent.specs.Answers.{IsReplyBy}
-use Rattle.rm_agent.specs.Unread.{nothing_read}
+use Rattle.rm_model.specs.Readings.{nothing_read}
 use Rattle.rm_agent.proofs.SetLemmas.{set_kind}
 use Rattle.rm_agent.proofs.Verdicts.{set_moment}
 use Rattle.rm_agent.proofs.respond.respond.Goals as goal

@@ -6,7 +6,7 @@ use Rattle.rm_model.specs.Accepted.{assignments_of}
 use Rattle.rm_model.specs.Journal.{assigns}
 use Rattle.rm_status.specs.Alone.{alone_at, AreFineAlone}
 use Rattle.rm_agent.specs.Sets.{alone_among, wrong_alone, wrong_together, lacking, accepted}
-use Rattle.rm_agent.specs.Unread.{nothing_read}
+use Rattle.rm_model.specs.Readings.{nothing_read}
 use Rattle.rm_agent.proofs.SetLemmas.{if_not_wrong, wrong_within}
 use Rattle.rm_agent.proofs.set.perform.Goals as goal
 

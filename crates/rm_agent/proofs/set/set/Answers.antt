@@ -4,7 +4,7 @@ use Rattle.rm_model.specs.declared.verdict.Verdict.TheVariants.{Fine, Wrong}
 use Rattle.rm_model.specs.Judgement.{Bindings}
 use Rattle.rm_val.specs.declared.error.ErrorStatus.TheVariants.{NoAccess}
 use Rattle.rm_agent.specs.Sets.{alone_among, is_too_much, is_barred, returning, telling, Judges}
-use Rattle.rm_agent.specs.Unread.{nothing_read}
+use Rattle.rm_model.specs.Readings.{nothing_read}
 use Rattle.rm_agent.proofs.SetLemmas.{barred_is, no_access, told}
 use Rattle.rm_agent.proofs.set.set.Goals as goal
 

@@ -1,0 +1,9 @@
+mod RowFacts
+mod Steps
+mod Samples
+mod Taken
+mod NextDue
+mod AfterSets
+mod Changes
+mod Judged
+mod Cells

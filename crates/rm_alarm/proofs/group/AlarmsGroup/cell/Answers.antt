@@ -1,0 +1,7 @@
+use Rattle.std.proofs.Common.{◌∙◌}
+use Rattle.rm_alarm.proofs.Cells.{same_cells}
+use Rattle.rm_alarm.proofs.group.AlarmsGroup.cell.Goals as goal
+
+pub returns-clause-value : goal.returns-clause-value
+returns-clause-value c settings journal stands later =
+    c.cell_of.ensures.value ∙ same_cells c.args.self.now.rows c.len.ensures.rows settings journal stands.rows stands.kept c.args.name.now

@@ -1,0 +1,5 @@
+use Rattle.rm_model.proofs.CrossingLaws.{crosses_where}
+use Rattle.rm_alarm.proofs.laws.crossing_conditions.Goals as goal
+
+pub returns : goal.returns
+returns c threshold value earlier = crosses_where threshold value earlier

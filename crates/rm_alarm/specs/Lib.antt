@@ -1,0 +1,10 @@
+pub mod Kept
+pub mod Rows
+pub mod RowLaws
+pub mod Spelled
+pub mod Taking
+pub mod Shown
+pub mod Due
+pub mod AlarmTable
+pub mod Standing
+pub mod Group

@@ -1,0 +1,82 @@
+-- How the columns of an alarm are set, as the trait of columns wants it shown.
+use Rattle.std.proofs.Common.{◌≡◌, ℕ, List, [], cond, nat_eq, Some, None, refl}
+use Rattle.rm_val.specs.Val.{Val, int, octets, null, name, ip, counter, gauge, ticks, opaque_octets, big, no_object, no_instance, end_of_view}
+use Rattle.rm_model.specs.ControlTable.{Range, number, any_name}
+use Rattle.rm_model.specs.Alike.{HasSameColumns}
+use Rattle.rm_model.specs.Judgement.{column_kind, value_fault}
+use Rattle.rm_model.specs.Alarms.{number_of, name_of, any_number, up_from, alarm_table, interval_column, variable_column, sample_type_column, startup_column, rising_column, falling_column, rising_event_column, falling_event_column, owner_column}
+use Rattle.rm_status.proofs.ColumnLaws.{no_columns, one_more, set_of, text_taken}
+use Rattle.rm_alarm.specs.declared.row.AlarmRow.{AlarmRow}
+use Rattle.rm_alarm.specs.Rows.{number_shown, interval_shown, variable_shown, owner_shown, interval_in, variable_in, owner_in, set_to, with_column, blank_row}
+
+-- a column of numbers is set to the number that it takes, and one of names to the name
+number_taken : (ranges : List Range) (value : Val) → value_fault (Some (number ranges)) value ≡ None → Some (int (number_of value)) ≡ Some value
+number_taken ranges (int n) fine = refl
+number_taken ranges (octets bytes) fine = cc
+number_taken ranges null fine = cc
+number_taken ranges (name numbers) fine = cc
+number_taken ranges (ip bytes) fine = cc
+number_taken ranges (counter n) fine = cc
+number_taken ranges (gauge n) fine = cc
+number_taken ranges (ticks n) fine = cc
+number_taken ranges (opaque_octets bytes) fine = cc
+number_taken ranges (big n) fine = cc
+number_taken ranges no_object fine = cc
+number_taken ranges no_instance fine = cc
+number_taken ranges end_of_view fine = cc
+
+name_taken : (value : Val) → value_fault (Some any_name) value ≡ None → Some (name (name_of value)) ≡ Some value
+name_taken (int n) fine = cc
+name_taken (octets bytes) fine = cc
+name_taken null fine = cc
+name_taken (name numbers) fine = refl
+name_taken (ip bytes) fine = cc
+name_taken (counter n) fine = cc
+name_taken (gauge n) fine = cc
+name_taken (ticks n) fine = cc
+name_taken (opaque_octets bytes) fine = cc
+name_taken (big n) fine = cc
+name_taken no_object fine = cc
+name_taken no_instance fine = cc
+name_taken end_of_view fine = cc
+
+pub blank_alike : HasSameColumns alarm_table (set_to blank_row) (λ column. None)
+blank_alike = (
+  record { shown = refl; needed = λ is. refl },
+  (
+    record { shown = refl; needed = λ is. refl },
+    (
+      record { shown = refl; needed = λ no. absurd (cc) },
+      (
+        record { shown = refl; needed = λ no. absurd (cc) },
+        (
+          record { shown = refl; needed = λ no. absurd (cc) },
+          (
+            record { shown = refl; needed = λ no. absurd (cc) },
+            (
+              record { shown = refl; needed = λ no. absurd (cc) },
+              (
+                record { shown = refl; needed = λ no. absurd (cc) },
+                (record { shown = refl; needed = λ no. absurd (cc) }, tt),
+              ),
+            ),
+          ),
+        ),
+      ),
+    ),
+  ),
+)
+
+pub set_with : (row : AlarmRow) (n other : ℕ) (value : Val) → value_fault (column_kind alarm_table n) value ≡ None → set_to (with_column row n value) other ≡ cond (nat_eq n other) (Some value) (set_to row other)
+set_with row n other value fine =
+    set_of alarm_table.columns n other value (set_to row) (set_to (with_column row n value))
+    (one_more interval_shown interval_in interval_column (number_taken (up_from 1 2147483647)) _ n value row.interval _ _
+    (one_more variable_shown variable_in variable_column name_taken _ n value row.variable _ _
+    (one_more number_shown number_of sample_type_column (number_taken (up_from 1 2)) _ n value row.sample_type _ _
+    (one_more number_shown number_of startup_column (number_taken (up_from 1 3)) _ n value row.thresholds.startup _ _
+    (one_more number_shown number_of rising_column (number_taken any_number) _ n value row.thresholds.rising _ _
+    (one_more number_shown number_of falling_column (number_taken any_number) _ n value row.thresholds.falling _ _
+    (one_more number_shown number_of rising_event_column (number_taken (up_from 0 65535)) _ n value row.rising_event _ _
+    (one_more number_shown number_of falling_event_column (number_taken (up_from 0 65535)) _ n value row.falling_event _ _
+    (one_more owner_shown owner_in owner_column (text_taken 127) [] n value row.owner _ _ (no_columns n value))))))))))
+    fine

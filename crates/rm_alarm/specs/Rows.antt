@@ -1,0 +1,120 @@
+-- The columns of a row of alarmTable, as they are kept.
+use Rattle.std.specs.Prelude.{ℕ, ℤ, pos, List, [], ◌∷◌, Bool, nat_eq, unwrap_or, nat_abs, if◌then◌else◌, Option, Some, None}
+use Rattle.std.specs.Option.{option_map, option_or}
+use Rattle.std.specs.Ordering.{int_eq}
+use Rattle.arrayvec.specs.ArrayVec.{ArrayVec}
+use Rattle.rm_val.specs.Val.{Val, int, octets, name}
+use Rattle.rm_model.specs.Alarms.{number_of, name_of, alarm_entry}
+use Rattle.rm_status.specs.Values.{octets_in}
+use Rattle.rm_alarm.specs.declared.row.AlarmRow.{AlarmRow}
+use Rattle.rm_model.specs.Journal.{value_given}
+use Rattle.rm_model.specs.ControlRows.{cell_name}
+use Rattle.rm_model.specs.Judgement.{Bindings}
+use Rattle.rm_model.specs.declared.row.State.{State}
+use Rattle.rm_model.specs.declared.row.State.TheVariants.{Absent, UnderCreation, Valid}
+use Rattle.rm_model.specs.Readings.{Readings}
+use Rattle.rm_alarm.specs.declared.course.Course.{Course}
+use Rattle.rm_alarm.specs.Kept.{starting}
+
+-- what the columns of numbers show, those that a row needs where they were set
+abbrev pub number_shown : ℤ → Option Val
+number_shown n = Some (int n)
+
+abbrev pub interval_shown : Option ℤ → Option Val
+interval_shown interval = option_map int interval
+
+-- what the variable and the owner show
+abbrev pub variable_shown : Option (List ℕ) → Option Val
+variable_shown variable = option_map name variable
+
+abbrev pub owner_shown : ArrayVec ℕ → Option Val
+owner_shown owner = Some (octets owner.items)
+
+-- what a value gives
+abbrev pub interval_in : Val → Option ℤ
+interval_in value = Some (number_of value)
+
+abbrev pub variable_in : Val → Option (List ℕ)
+variable_in value = Some (name_of value)
+
+abbrev pub owner_in : Val → ArrayVec ℕ
+owner_in value = record { items = octets_in value }
+
+-- what the columns were set to
+abbrev pub set_to : AlarmRow → ℕ → Option Val
+set_to row n =
+    if nat_eq 2 n then interval_shown row.interval
+    else if nat_eq 3 n then variable_shown row.variable
+    else if nat_eq 4 n then number_shown row.sample_type
+    else if nat_eq 6 n then number_shown row.thresholds.startup
+    else if nat_eq 7 n then number_shown row.thresholds.rising
+    else if nat_eq 8 n then number_shown row.thresholds.falling
+    else if nat_eq 9 n then number_shown row.rising_event
+    else if nat_eq 10 n then number_shown row.falling_event
+    else if nat_eq 11 n then owner_shown row.owner
+    else None
+
+-- a row with a column set
+abbrev pub with_column : AlarmRow → ℕ → Val → AlarmRow
+with_column row n value = record {
+  interval = if nat_eq 2 n then interval_in value else row.interval;
+  variable = if nat_eq 3 n then variable_in value else row.variable;
+  sample_type = if nat_eq 4 n then number_of value else row.sample_type;
+  thresholds = record {
+    startup = if nat_eq 6 n then number_of value else row.thresholds.startup;
+    rising = if nat_eq 7 n then number_of value else row.thresholds.rising;
+    falling = if nat_eq 8 n then number_of value else row.thresholds.falling;
+  };
+  rising_event = if nat_eq 9 n then number_of value else row.rising_event;
+  falling_event = if nat_eq 10 n then number_of value else row.falling_event;
+  owner = if nat_eq 11 n then owner_in value else row.owner;
+  base = row.base;
+  course = row.course;
+}
+
+-- a new row
+abbrev pub blank_row : AlarmRow
+blank_row = record {
+  interval = None;
+  variable = None;
+  sample_type = pos 1;
+  thresholds = record { startup = pos 3; rising = pos 0; falling = pos 0 };
+  rising_event = pos 0;
+  falling_event = pos 0;
+  owner = record { items = [] };
+  base = None;
+  course = None;
+}
+
+-- how many seconds are between two samples, which variable they read, and whether they take a difference
+abbrev pub interval_kept : AlarmRow → ℕ
+interval_kept row = nat_abs (unwrap_or row.interval (pos 0))
+
+abbrev pub variable_kept : AlarmRow → List ℕ
+variable_kept row = unwrap_or row.variable (0 ∷ 0 ∷ [])
+
+abbrev pub delta_kept : AlarmRow → Bool
+delta_kept row = int_eq row.sample_type (pos 2)
+
+-- the variable of a row with what a Set gives to it
+abbrev pub variable_with : Bindings → ℕ → AlarmRow → List ℕ
+variable_with bindings index row =
+    unwrap_or (option_or (option_map name_of (value_given bindings (cell_name alarm_entry 3 (index ∷ [])))) row.variable) (0 ∷ 0 ∷ [])
+
+-- a row that remembers what its variable reads, for a Set that may make it valid; and one that forgets it
+abbrev pub reading_base : Readings → Bindings → ℕ → AlarmRow → AlarmRow
+reading_base readings bindings index row = record row { base = readings (variable_with bindings index row) }
+
+abbrev pub without_base : AlarmRow → AlarmRow
+without_base row = record row { base = None }
+
+-- what a valid alarm keeps, which starts from what was remembered
+abbrev pub course_or_start : ℕ → AlarmRow → Option Course → Course
+course_or_start now row (Some course) = course
+course_or_start now row None = starting now (interval_kept row) row.base
+
+-- A row after a Set at a moment: one that is valid goes on with its samples, or starts. Any other one keeps nothing of them.
+abbrev pub settled : ℕ → State → AlarmRow → AlarmRow
+settled now Valid row = record row { base = None; course = Some (course_or_start now row row.course) }
+settled now UnderCreation row = record row { base = None; course = None }
+settled now Absent row = record row { base = None; course = None }

@@ -1,0 +1,13 @@
+// The group alarm.
+ghost use Rattle.rm_alarm.specs.Spelled.{AreSpelled, spelled_prop};
+
+use crate::row::AlarmRow;
+use rm_model::Sampled;
+use rm_status::{Controls, Look, StatusKind};
+
+/// The alarms of the probe: alarmTable (RFC 1757, section 5.4).
+#[derive(Drop)]
+pub struct Alarms {
+    pub(crate) rows: Controls<AlarmRow>,
+    ghost spelled: { AreSpelled rows } by { spelled_prop rows },
+}

@@ -1,0 +1,94 @@
+// Whether the variables can be read of the alarms that a Set makes valid.
+ghost use Rattle.std.specs.Prelude.{◌≡◌, ◌<◌, ℕ, [], ◌∷◌, length, ◌&&◌, is_none};
+ghost use Rattle.rm_val.specs.Val.{val_of};
+ghost use Rattle.rm_val.specs.Spellable.{HasSpelling};
+ghost use Rattle.rm_model.specs.Judgement.{IsFirstFault, value_at};
+ghost use Rattle.rm_status.specs.Rows.{rows_before, state_in};
+ghost use Rattle.rm_alarm.specs.Group.{makes_valid, is_under_creation, variable_then, variable_fault, AreSpelledValues};
+ghost use Rattle.rm_alarm.specs.Rows.{set_to};
+
+use crate::cell::{STATUS, entry};
+use crate::change::variable_with;
+use crate::row::AlarmRow;
+use rm_model::{Place, Verdict};
+use rm_status::{Assigns, Controls, Look, State, place_under};
+use rm_val::{ErrorStatus, Value};
+
+/// Names the first binding that makes an alarm valid of whose variable there is no reading at a moment, in milliseconds.
+pub(crate) fn judge_variables<A: Assigns, L: Look>(
+    rows: &Controls<AlarmRow>,
+    set: &A,
+    now: u32,
+    look: &L,
+) -> Verdict
+    ensures verdict { let bindings = A.bindings set.now in IsFirstFault (length bindings) (variable_fault (L.readings look.now now) (rows_before set_to rows.now) bindings) result }
+    ensures spelled { result ≡ Verdict.Fine → AreSpelledValues (A.bindings set.now) }
+{
+    for place in 0..set.count() {
+        if let Some(status) = variable_fault(rows, set, now, look, place) {
+            return Verdict::Wrong {
+                status,
+                index: place as u32 + 1,
+            };
+        }
+    }
+    Verdict::Fine
+}
+
+// What is wrong with the binding at a place.
+fn variable_fault<A: Assigns, L: Look>(
+    rows: &Controls<AlarmRow>,
+    set: &A,
+    now: u32,
+    look: &L,
+    place: usize,
+) -> Option<ErrorStatus>
+    requires { place < length (A.bindings set.now) }
+    ensures fault { result ≡ variable_fault (L.readings look.now now) (rows_before set_to rows.now) (A.bindings set.now) place }
+    ensures spelled { HasSpelling (value_at (A.bindings set.now) place) }
+{
+    let name = set.name(place);
+    let value = set.value(place);
+    match place_under(&name, &entry()) {
+        Place::Cell(column, row) => {
+            if column == STATUS && makes_valid(&value) && is_unread(rows, set, now, look, row) {
+                Some(ErrorStatus::InconsistentValue)
+            } else {
+                None
+            }
+        }
+        _ => None,
+    }
+}
+
+// Whether a value of a status makes a row valid.
+fn makes_valid(value: &Value<'_>) -> bool
+    ensures { result ≡ makes_valid (val_of value.now) }
+{
+    match value {
+        Value::Int(number) => *number == 1,
+        _ => false,
+    }
+}
+
+// Whether a row is under creation, and there is no reading of the variable that it has with what a Set gives.
+fn is_unread<A: Assigns, L: Look>(
+    rows: &Controls<AlarmRow>,
+    set: &A,
+    now: u32,
+    look: &L,
+    index: u32,
+) -> bool
+    ensures { result ≡ (is_under_creation (state_in rows.now index) && is_none (L.readings look.now now (variable_then (rows_before set_to rows.now) (A.bindings set.now) index))) }
+{
+    let Some(row) = rows.get(index) else {
+        return false;
+    };
+    match rows.state(index) {
+        State::UnderCreation => {
+            let variable = variable_with(set, index, row);
+            look.reading(&variable, now).is_none()
+        }
+        _ => false,
+    }
+}

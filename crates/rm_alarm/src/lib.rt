@@ -1,0 +1,30 @@
+//! The group alarm: alarmTable (RFC 1757, section 5.4).
+#![tactic(auto)]
+
+mod alarms;
+mod assigning;
+mod cell;
+mod change;
+mod columns;
+mod course;
+mod due;
+mod given;
+mod group;
+mod hysteresis;
+mod judging;
+mod laws;
+mod row;
+mod sampling;
+mod taking;
+#[cfg(test)]
+mod tests;
+mod thresholds;
+mod values;
+
+pub use alarms::Alarms;
+pub use course::Course;
+pub use hysteresis::Hysteresis;
+pub use laws::{crossing_conditions, frames_pass, one_crossing};
+pub use rm_model::Sampled;
+pub use row::AlarmRow;
+pub use thresholds::Thresholds;

@@ -1,0 +1,71 @@
+// The samples of alarms.
+ghost use Rattle.std.specs.Prelude.{◌≡◌, ℕ, List, [], ◌∷◌, Some};
+ghost use Rattle.std.specs.Option.{option_map};
+ghost use Rattle.rm_model.specs.Settings.{Settings};
+ghost use Rattle.rm_model.specs.Journal.{Journal, samples};
+ghost use Rattle.rm_model.specs.Alarms.{variable_of, sampled, due_of, IsNextDue};
+ghost use Rattle.rm_status.specs.declared.row.Row.{Row};
+ghost use Rattle.rm_status.specs.Rows.{row_in};
+ghost use Rattle.rm_alarm.specs.declared.row.AlarmRow.{AlarmRow as Columns};
+ghost use Rattle.rm_alarm.specs.Rows.{variable_kept};
+ghost use Rattle.rm_alarm.specs.Standing.{Stands, AreBased};
+ghost use Rattle.rm_alarm.specs.Group.{due_in};
+ghost use Rattle.rm_alarm.specs.Taking.{HasTaken};
+
+use crate::alarms::Alarms;
+use crate::row::AlarmRow;
+use rm_model::{Reading, Sampled};
+use rm_status::{Controls, Look, StatusKind};
+
+impl Alarms {
+    /// No alarms.
+    pub fn new() -> Alarms
+        ensures stands { (settings : Settings) → Stands result settings [] }
+        ensures based { (settings : Settings) → AreBased result settings [] }
+    {
+        Alarms {
+            rows: Controls::new(StatusKind::EntryStatus),
+        }
+    }
+
+    /// Takes the sample of an alarm that is due at a moment, in milliseconds, and tells what it comes to. The row of an alarm
+    /// whose variable is gone is removed.
+    pub fn sample<L: Look>(&mut self, index: u32, moment: u32, look: &L) -> Sampled
+        requires { due_in self.old index ≡ Some moment }
+        ensures stands { (settings : Settings) (journal : Journal) → Stands self.old settings journal → AreBased self.old settings journal
+            → Stands self.new settings (samples moment index (option_map (λ reading. reading.value) (L.readings look.now moment (variable_of journal index))) ∷ journal) }
+        ensures based { (settings : Settings) (journal : Journal) → Stands self.old settings journal → AreBased self.old settings journal
+            → AreBased self.new settings (samples moment index (option_map (λ reading. reading.value) (L.readings look.now moment (variable_of journal index))) ∷ journal) }
+        ensures result { (settings : Settings) (journal : Journal) → Stands self.old settings journal → AreBased self.old settings journal
+            → result ≡ sampled settings journal moment index (option_map (λ reading. reading.value) (L.readings look.now moment (variable_of journal index))) }
+    {
+        prove!(self.rows.len() <= 16);
+        match read(&self.rows, index, moment, look) {
+            Some(reading) => take(&mut self.rows, index, moment, reading.value),
+            None => {
+                self.rows.remove(index);
+                Sampled::Gone
+            }
+        }
+    }
+}
+
+// What the variable of a row reads at a moment, in milliseconds.
+fn read<L: Look>(rows: &Controls<AlarmRow>, index: u32, moment: u32, look: &L) -> Option<Reading>
+    ensures { (row : Row Columns) → row_in rows.now index ≡ Some row → result ≡ L.readings look.now moment (variable_kept row.columns) }
+{
+    match rows.get(index) {
+        Some(row) => look.reading(&row.variable(), moment),
+        None => None,
+    }
+}
+
+// Has a row take a sample that reads a number at a moment, in milliseconds.
+fn take(rows: &mut Controls<AlarmRow>, index: u32, moment: u32, number: i64) -> Sampled
+    ensures { HasTaken rows.old rows.new index moment number result }
+{
+    match rows.get_mut(index) {
+        Some(row) => row.take(moment, number),
+        None => Sampled::Quiet,
+    }
+}

@@ -1,0 +1,84 @@
+// What samples cross was worked out by hand from RFC 1757, section 5.4.
+use crate::Sampled::{Falling, Quiet, Rising};
+use crate::{Hysteresis, Sampled, Thresholds};
+use std::process::Abort;
+use std::test::Fail;
+
+// A startup alarm, a rising and a falling threshold, and samples with what each comes to.
+const SAMPLES: [(i32, i32, i32, &[(i128, Sampled)]); 11] = [
+    // a first sample counts by the startup alarm
+    (1, 10, 5, &[(12, Rising), (13, Quiet)]),
+    (2, 10, 5, &[(12, Quiet), (3, Falling)]),
+    (3, 10, 5, &[(10, Rising)]),
+    (1, 10, 5, &[(3, Quiet), (2, Quiet), (10, Rising)]),
+    (2, 10, 5, &[(5, Falling), (4, Quiet)]),
+    (
+        3,
+        10,
+        5,
+        &[(-1, Falling), (7, Quiet), (3, Quiet), (10, Rising)],
+    ),
+    // it rises again only after a sample reached the falling threshold, and so on
+    (
+        2,
+        10,
+        5,
+        &[
+            (12, Quiet),
+            (7, Quiet),
+            (11, Rising),
+            (5, Falling),
+            (10, Rising),
+        ],
+    ),
+    (
+        1,
+        10,
+        5,
+        &[
+            (12, Rising),
+            (7, Quiet),
+            (11, Quiet),
+            (5, Falling),
+            (11, Rising),
+        ],
+    ),
+    // equal thresholds: a first sample that would cross both rises
+    (
+        3,
+        5,
+        5,
+        &[
+            (5, Rising),
+            (4, Quiet),
+            (6, Rising),
+            (5, Falling),
+            (5, Quiet),
+        ],
+    ),
+    (2, 5, 5, &[(5, Falling), (5, Quiet), (6, Rising)]),
+    // a difference of a Counter32 past every threshold
+    (
+        3,
+        i32::MAX,
+        i32::MIN,
+        &[(4_294_967_295, Rising), (-2_147_483_648, Falling)],
+    ),
+];
+
+#[test]
+fn samples_cross(rt: HostRuntime) -> Result<(), Fail> {
+    for &(startup, rising, falling, samples) in SAMPLES.iter() {
+        let thresholds = Thresholds {
+            startup,
+            rising,
+            falling,
+        };
+        let mut hysteresis = Hysteresis::new();
+        for &(value, expected) in samples.iter() {
+            let sampled = hysteresis.take(&thresholds, value);
+            assert_eq!(rt; sampled, expected, "{startup} {rising} {falling} {value}");
+        }
+    }
+    Ok(())
+}
