@@ -59,7 +59,7 @@ pub all_too_much : Lengthens → (m : Message) (status : ErrorStatus) (index pla
 all_too_much lengthen m status index place long =
     let more = lengthen (response_to m status index (take place m.bindings)) (drop place m.bindings) in
     let whole : length (message_octets (response_to m status index (take place m.bindings ++ drop place m.bindings))) ≡ length (message_octets (returning m status index)) =
-        ap (λ (l : List Binding). length (message_octets (response_to m status index l))) (take-append-drop place m.bindings) in
+    ap (λ (l : List Binding). length (message_octets (response_to m status index l))) (take-append-drop place m.bindings) in
     omega (arith, long, more, whole)
 
 pub all_returned : (m : Message) (status : ErrorStatus) (index place : ℕ) → length m.bindings ≤ place → response_to m status index (take place m.bindings) ≡ returning m status index
@@ -103,7 +103,7 @@ all_fit longest m status index few fits =
     let s = small status in
     let less = longest (returning m status index) s.number index s.low few in
     let same : length (message_octets (returning m status index)) ≡ length (message_octets (record (returning m status index) { first = pos s.number; second = pos index })) =
-        ap (λ z. length (message_octets (record (returning m status index) { first = z }))) s.is in
+    ap (λ z. length (message_octets (record (returning m status index) { first = z }))) s.is in
     omega (arith, same, less, fits)
 
 -- a verdict that isn't wrong is fine

@@ -43,10 +43,13 @@ fault_some (suc n) fault = let (v, is) = fault_some n fault in goes_on v is
     goes_on (Wrong s i) (place, within, is, here, before) = (Wrong s i, (place, omega arith, is, here, before))
     goes_on Fine none =
         elim (fault n) as (λ o. fault n ≡ o → (w : Verdict) × IsFirstFault (suc n) fault w) [
-          | None ↦ λ here. (Fine, λ place less. elim (cases_lt place n) as (λ _. fault place ≡ None) [
-            | inl below ↦ none place below
-            | inr above ↦ let same : place ≡ n = omega arith in ap fault same ∙ here
-          ])
+          | None ↦ λ here. (
+            Fine,
+            λ place less. elim (cases_lt place n) as (λ _. fault place ≡ None) [
+              | inl below ↦ none place below
+              | inr above ↦ let same : place ≡ n = omega arith in ap fault same ∙ here
+            ],
+          )
           | Some s ↦ λ here. (Wrong s (n + 1), (n, omega arith, refl, here, none))
         ] refl
 

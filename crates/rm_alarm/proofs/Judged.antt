@@ -1,11 +1,15 @@
 -- Rows that are alike are judged alike by what their variables read.
-use Rattle.std.proofs.Common.{◌≡◌, ℕ, [], ◌∷◌, Bool, false, cond, ◌&&◌, Some, None, refl, ap, ◌∙◌, nat_eq}
+use Rattle.std.proofs.Common.{◌≡◌, ℕ, [], ◌∷◌, Bool, false, cond, ◌&&◌, Option, Some, None, refl, ap, ◌∙◌, nat_eq, arith}
 use Rattle.std.specs.Prelude.{is_none}
+use Rattle.rm_val.specs.declared.error.ErrorStatus.{ErrorStatus}
 use Rattle.rm_val.specs.declared.error.ErrorStatus.TheVariants.{InconsistentValue}
 use Rattle.rm_model.specs.Journal.{value_given}
 use Rattle.rm_model.specs.ControlTable.{default_of}
 use Rattle.rm_model.specs.ControlRows.{Beginning, cell_name, is_absent}
-use Rattle.rm_model.specs.Judgement.{Bindings, name_at, value_at, place_of}
+use Rattle.rm_model.specs.declared.verdict.Verdict.{Verdict}
+use Rattle.rm_model.specs.declared.verdict.Verdict.TheVariants.{Fine, Wrong}
+use Rattle.rm_status.specs.Alone.{IsWithin}
+use Rattle.rm_model.specs.Judgement.{Bindings, name_at, value_at, place_of, IsFirstFault}
 use Rattle.rm_model.specs.Alike.{AreAlike}
 use Rattle.rm_model.specs.Readings.{Readings}
 use Rattle.rm_model.specs.Alarms.{alarm_entry, alarm_table, name_of}
@@ -39,3 +43,8 @@ module _ (readings : Readings) (rows others : Beginning) (alike : AreAlike alarm
       of_place Entry = refl
       of_place (Column c) = refl
       of_place (Cell c row) = ap (λ b. cond (nat_eq c 12 && (makes_valid (value_at bs k) && b)) (Some InconsistentValue) None) (unread row)
+
+-- a verdict names one of the bindings that it is on
+pub fault_within : (count : ℕ) (fault : ℕ → Option ErrorStatus) (verdict : Verdict) → IsFirstFault count fault verdict → IsWithin count verdict
+fault_within count fault Fine is = tt
+fault_within count fault (Wrong status index) (place, within, numbered, here, before) = omega (arith, within, numbered)

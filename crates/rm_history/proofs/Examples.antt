@@ -2,6 +2,7 @@
 use Rattle.std.proofs.Common.{◌≡◌, ℕ, [], ◌∷◌, ◌++◌, refl, false, Option, Some, None}
 use Rattle.std.specs.Prelude.{pos}
 use Rattle.rm_val.specs.Val.{Val, int, counter, ticks}
+use Rattle.rm_model.specs.Readings.{nothing_read}
 use Rattle.rm_model.specs.Settings.{Settings}
 use Rattle.rm_model.specs.Journal.{Act, Assignment, passes, assigns, Journal}
 use Rattle.rm_model.specs.Cells.{cells_of}
@@ -11,7 +12,7 @@ use Rattle.rm_history.specs.HistoryControl.{control_entry, control_table}
 use Rattle.rm_history.specs.EtherHistory.{sample_entry, sample_table}
 
 abbrev padded : Settings
-padded = record { keep_short = false }
+padded = record { keep_short = false; readings = λ journal now. nothing_read }
 
 -- a column of row 1 that is set to a number
 abbrev set : ℕ → ℕ → Assignment

@@ -28,8 +28,8 @@ mod steps;
 mod system;
 #[cfg(test)]
 mod tests;
-mod values;
 mod unsampled;
+mod values;
 mod wrong;
 
 pub use assigns::Assigns;

@@ -26,8 +26,7 @@ returns-in-Ok-clause-judged g c settings journal stands later =
     let alone = alone_among g.G.Objects.objects g.G.Group.alone in
     let fine : AreFineAlone alone bindings = if_not_wrong _ _ c.judge_alone.result c.in_default.not-Wrong c.judge_alone.ensures.alone in
     let beside : IsFirstFault (length bindings) (g.G.Group.together settings journal c.args.now nothing_read bindings) Fine =
-        if_not_wrong _ _ c.judge_rows.result c.in_default-judge_rows.not-Wrong (c.judge_rows.ensures.verdict settings journal stands later) in
-    (
+    if_not_wrong _ _ c.judge_rows.result c.in_default-judge_rows.not-Wrong (c.judge_rows.ensures.verdict settings journal stands later) in (
       assigns c.args.now (assignments_of bindings) ∷ journal,
       c.commit.ensures.stands settings journal (assignments_of bindings) (c.prepare.ensures.stands settings journal stands) later (λ name. c.order_does_not_matter.ensures.given bindings name),
       accepted fine beside,
@@ -39,7 +38,7 @@ returns-in-Err-clause-judged g c settings journal stands later =
     let alone = alone_among g.G.Objects.objects g.G.Group.alone in
     let fine : AreFineAlone alone bindings = if_not_wrong _ _ c.judge_alone.result c.in_default.not-Wrong c.judge_alone.ensures.alone in
     let beside : IsFirstFault (length bindings) (g.G.Group.together settings journal c.args.now nothing_read bindings) Fine =
-        if_not_wrong _ _ c.judge_rows.result c.in_default-judge_rows.not-Wrong (c.judge_rows.ensures.verdict settings journal stands later) in
+    if_not_wrong _ _ c.judge_rows.result c.in_default-judge_rows.not-Wrong (c.judge_rows.ensures.verdict settings journal stands later) in
     (journal, c.prepare.ensures.stands settings journal stands, lacking fine beside c.in-Err.denied.index (c.in-Err.ensures.denied settings journal stands))
 
 pub returns-in-Wrong-clause-within : goal.returns-in-Wrong-clause-within

@@ -12,8 +12,7 @@ pub returns-then-is_barred-clause-reply : goal.returns-then-is_barred-clause-rep
 returns-then-is_barred-clause-reply g c settings journal m stands later asked =
     let fits : is_too_much m ≡ false = sym (c.is_too_much.ensures m asked) ∙ c.if-is_too_much.false in
     let barred : is_barred c.args.may_write m ≡ true =
-        sym (barred_is c.args.may_write m c.given-given.result (c.given-given.ensures m asked)) ∙ sym c.is_barred.ensures ∙ c.if-is_barred.true in
-    (
+    sym (barred_is c.args.may_write m c.given-given.result (c.given-given.ensures m asked)) ∙ sym c.is_barred.ensures ∙ c.if-is_barred.true in (
       journal,
       stands,
       (
@@ -30,7 +29,7 @@ returns-in-Fine-clause-reply g c settings journal m stands later asked =
     let reserves = g.G.Group.reserves settings journal in
     let fits : is_too_much m ≡ false = sym (c.is_too_much.ensures m asked) ∙ c.if-is_too_much.false in
     let may : is_barred c.args.may_write m ≡ false =
-        sym (barred_is c.args.may_write m c.given-given.result (c.given-given.ensures m asked)) ∙ sym c.is_barred.ensures ∙ c.if-is_barred.false in
+    sym (barred_is c.args.may_write m c.given-given.result (c.given-given.ensures m asked)) ∙ sym c.is_barred.ensures ∙ c.if-is_barred.false in
     let (after, stood, judges) = c.in-Fine.ensures.judged settings journal stands later in
     let judged = subst (λ (bs : Bindings). Judges alone together reserves c.args.now journal bs Fine after) (c.given-given.ensures m asked) judges in
     (after, stood, (telling m Fine, told alone together reserves c.args.may_write c.args.now journal m fits Fine after may judged, c.telling-in-Fine.ensures m asked))
@@ -43,7 +42,7 @@ returns-in-Wrong-clause-reply g c settings journal m stands later asked =
     let verdict : Verdict = Wrong c.in-Wrong.status c.in-Wrong.index in
     let fits : is_too_much m ≡ false = sym (c.is_too_much.ensures m asked) ∙ c.if-is_too_much.false in
     let may : is_barred c.args.may_write m ≡ false =
-        sym (barred_is c.args.may_write m c.given-given.result (c.given-given.ensures m asked)) ∙ sym c.is_barred.ensures ∙ c.if-is_barred.false in
+    sym (barred_is c.args.may_write m c.given-given.result (c.given-given.ensures m asked)) ∙ sym c.is_barred.ensures ∙ c.if-is_barred.false in
     let (after, stood, judges) = c.in-Wrong.ensures.judged settings journal stands later in
     let judged = subst (λ (bs : Bindings). Judges alone together reserves c.args.now journal bs verdict after) (c.given-given.ensures m asked) judges in
     (after, stood, (telling m verdict, told alone together reserves c.args.may_write c.args.now journal m fits verdict after may judged, c.telling-in-Wrong.ensures m asked))

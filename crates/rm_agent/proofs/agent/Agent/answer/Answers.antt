@@ -22,8 +22,7 @@ returns-clause-reply c journal stands =
     let short : length m.community ≤ 127 = omega (arith, known, ap length read.is_told.community) in
     let (after, stood, moment, (reply, by, drafted_so)) = c.respond-draft.ensures.reply (counting_by settings) journal m stands.groups (omega (arith, stands.last, c.requires)) (record { told = read.is_told; short = short }) in
     let may : c.may_write-may_write.result ≡ may_write settings m.community = c.may_write-may_write.ensures ∙ ap (may_write settings) read.is_told.community in
-    let is = subst (λ (b : Bool). IsReplyBy (cells settings journal c.args.now) objects alone (together journal) (Reserves journal) b c.args.now journal m.kind m reply after) may by in
-    (
+    let is = subst (λ (b : Bool). IsReplyBy (cells settings journal c.args.now) objects alone (together journal) (Reserves journal) b c.args.now journal m.kind m reply after) may by in (
       after,
       record { groups = stood; last = moment },
       (m, reply, read.verdict, why, is, c.finish.ensures.count reply drafted_so, written c.finish.result (message_octets reply) _ _ (c.finish.ensures.count reply drafted_so) (c.finish.ensures.written reply drafted_so)),

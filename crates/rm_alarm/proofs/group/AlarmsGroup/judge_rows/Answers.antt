@@ -8,7 +8,7 @@ use Rattle.rm_model.proofs.Alike.{second_pass_alike}
 use Rattle.rm_status.specs.Rows.{rows_before}
 use Rattle.rm_alarm.specs.Group.{variable_fault, alarm_together}
 use Rattle.rm_alarm.specs.Rows.{set_to}
-use Rattle.rm_alarm.proofs.Judged.{variable_alike}
+use Rattle.rm_alarm.proofs.Judged.{variable_alike, fault_within}
 use Rattle.rm_alarm.proofs.group.AlarmsGroup.judge_rows.Goals as goal
 
 pub returns-clause-verdict : goal.returns-clause-verdict
@@ -22,3 +22,11 @@ returns-clause-verdict g c settings journal stands later =
     ∙ ap (option_or (second_pass alarm_table then_ bs k)) (variable_alike readings before then_ stands.rows.alike bs k) in
     subst (λ (fault : ℕ → Option ErrorStatus). IsFirstFault (length bs) fault c.lower_verdict.result) (λ d k. same k d)
     (c.lower_verdict.ensures.lowest (length bs) (second_pass alarm_table before bs) (variable_fault readings before bs) c.judge_rows-rows.ensures.verdict c.judge_variables-variables.ensures.verdict)
+
+pub returns-clause-within : goal.returns-clause-within
+returns-clause-within g c =
+    let bs = g.A.Assigns.bindings c.args.set.now in
+    let before = rows_before set_to c.args.self.now.rows in
+    c.lower_verdict.ensures.within (length bs)
+    (fault_within (length bs) (second_pass alarm_table before bs) c.judge_rows-rows.result c.judge_rows-rows.ensures.verdict)
+    (fault_within (length bs) (variable_fault (g.L.Look.readings c.args.look.now c.args.now) before bs) c.judge_variables-variables.result c.judge_variables-variables.ensures.verdict)
