@@ -56,7 +56,12 @@ const SAMPLES: [(i32, i32, i32, &[(i128, Sampled)]); 11] = [
             (5, Quiet),
         ],
     ),
-    (2, 5, 5, &[(5, Falling), (5, Quiet), (6, Rising)]),
+    (
+        2,
+        5,
+        5,
+        &[(5, Falling), (5, Quiet), (6, Quiet), (4, Falling)],
+    ),
     // a difference of a Counter32 past every threshold
     (
         3,
