@@ -11,6 +11,7 @@ use std::test::Fail;
 
 mod bulk;
 mod dropped;
+mod sets;
 mod short;
 mod sizes;
 mod walk;

@@ -10,6 +10,7 @@ use std::test::Fail;
 mod datagrams;
 mod message;
 mod output;
+mod sets;
 mod settings;
 mod walks;
 

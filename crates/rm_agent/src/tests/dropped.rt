@@ -66,14 +66,8 @@ fn other_communities(rt: HostRuntime) -> Result<(), Fail> {
 }
 
 #[test]
-fn sets_are_not_answered_yet(rt: HostRuntime) -> Result<(), Fail> {
+fn sets_of_unknown_communities(rt: HostRuntime) -> Result<(), Fail> {
     let alloc = rt.alloc();
-    for community in [PUBLIC, PRIVATE] {
-        assert_eq!(rt;
-            said(alloc, &up_time(alloc, community, SET)?)?.as_str(),
-            "Unbuilt"
-        );
-    }
     assert_eq!(rt;
         said(alloc, &up_time(alloc, "0400", SET)?)?.as_str(),
         "Community"

@@ -108,14 +108,18 @@ const WITH_ANOTHER: [(usize, u8, &str); 40] = [
     (12, 0x6b, "drop community"),
     (39, 0x01, "drop malformed 38"),
     // Each PDU, the obsolete Trap, and tags of none. A GetNextRequest is answered etherStatsIndex.1, and a
-    // GetBulkRequest of no repetition nothing.
+    // GetBulkRequest of no repetition nothing. A SetRequest of `public` is told noAccess.
     (
         13,
         0xa1,
         "reply 302a02010104067075626c6963a21d02010102010002010030123010060b2b06010201100101010101020101",
     ),
     (13, 0xa2, "drop not-request"),
-    (13, 0xa3, "drop unbuilt"),
+    (
+        13,
+        0xa3,
+        "reply 302602010104067075626c6963a219020101020106020101300e300c06082b060102010103000500",
+    ),
     (13, 0xa4, "drop malformed 13"),
     (
         13,
@@ -300,14 +304,14 @@ const MESSAGES: [(&str, &str); 56] = [
         "30200201010400a019020101020100020100300e300c06082b06010201010300050000",
         "drop malformed 34",
     ),
-    // Community `private`.
+    // Community `private`. sysUpTime.0 can't be set: notWritable.
     (
         "3027020101040770726976617465a019020101020100020100300e300c06082b060102010103000500",
         "reply 3028020101040770726976617465a21a020101020100020100300f300d06082b06010201010300430132",
     ),
     (
         "3027020101040770726976617465a319020101020100020100300e300c06082b060102010103000500",
-        "drop unbuilt",
+        "reply 3027020101040770726976617465a219020101020111020101300e300c06082b060102010103000500",
     ),
     // A community with a long length.
     (
@@ -326,7 +330,7 @@ const MESSAGES: [(&str, &str); 56] = [
     ),
     (
         "302702010104067075626c6963a31a020101020100020100300f300d06082b06010201010300430132",
-        "drop unbuilt",
+        "reply 302702010104067075626c6963a21a020101020106020101300f300d06082b06010201010300430132",
     ),
     // A GetNextRequest and a SetRequest that are malformed.
     (
@@ -743,7 +747,7 @@ fn bindings_past_128_are_judged(rt: HostRuntime) -> Result<(), Fail> {
         (GET, over.as_str(), too_big),
         (NEXT, over.as_str(), too_big),
         (BULK, over.as_str(), too_big),
-        (SET, over.as_str(), "drop unbuilt"),
+        (SET, over.as_str(), too_big),
         (GET, bad_129.as_str(), "drop malformed 930"),
         (GET, bad_200.as_str(), "drop malformed 1427"),
         (NEXT, bad_200.as_str(), "drop malformed 1427"),

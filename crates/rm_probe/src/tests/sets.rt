@@ -1,0 +1,139 @@
+// SetRequests in a run: a Set acts from its own place in the order of events on, and at one moment frames come first.
+use super::message::{
+    GET, NO_INSTANCE, NULL, NUMBERS, PRIVATE, PUBLIC, RESPONSE, SET, bindings, message,
+};
+use super::{capture_of, check};
+use crate::Status;
+use std::alloc::Global;
+use std::test::Fail;
+
+// The contents of the names of etherStatsPkts.1, etherStatsPkts.2, etherStatsOwner.2 and etherStatsStatus.2.
+const PKTS_1: &str = "2b06010201100101010501";
+
+const PKTS_2: &str = "2b06010201100101010502";
+
+const OWNER_2: &str = "2b06010201100101011402";
+
+const STATUS_2: &str = "2b06010201100101011502";
+
+// A request at a moment, and its reply.
+struct Exchange {
+    moment: u32,
+    community: &'static str,
+    // The tag of the request's PDU.
+    tag: &'static str,
+    given: &'static [(&'static str, &'static str)],
+    // The error-status and the error-index.
+    fault: (u8, u8),
+    told: &'static [(&'static str, &'static str)],
+}
+
+// Frames come at 1000, 2000 and 2000.
+const EXCHANGES: [Exchange; 8] = [
+    Exchange {
+        moment: 1500,
+        community: PUBLIC,
+        tag: SET,
+        given: &[(STATUS_2, "020102")],
+        fault: (6, 1),
+        told: &[(STATUS_2, "020102")],
+    },
+    Exchange {
+        moment: 1500,
+        community: PRIVATE,
+        tag: SET,
+        given: &[(OWNER_2, "040161"), (STATUS_2, "020102")],
+        fault: (0, 0),
+        told: &[(OWNER_2, "040161"), (STATUS_2, "020102")],
+    },
+    Exchange {
+        moment: 1999,
+        community: PRIVATE,
+        tag: SET,
+        given: &[(STATUS_2, "020101")],
+        fault: (0, 0),
+        told: &[(STATUS_2, "020101")],
+    },
+    Exchange {
+        moment: 2000,
+        community: PUBLIC,
+        tag: GET,
+        given: &[(PKTS_1, NULL), (PKTS_2, NULL), (OWNER_2, NULL)],
+        fault: (0, 0),
+        told: &[(PKTS_1, "410103"), (PKTS_2, "410102"), (OWNER_2, "040161")],
+    },
+    Exchange {
+        moment: 2000,
+        community: PRIVATE,
+        tag: SET,
+        given: &[(STATUS_2, "020103"), (PKTS_2, "410100")],
+        fault: (17, 2),
+        told: &[(STATUS_2, "020103"), (PKTS_2, "410100")],
+    },
+    Exchange {
+        moment: 2000,
+        community: PUBLIC,
+        tag: GET,
+        given: &[(STATUS_2, NULL)],
+        fault: (0, 0),
+        told: &[(STATUS_2, "020101")],
+    },
+    Exchange {
+        moment: 2001,
+        community: PRIVATE,
+        tag: SET,
+        given: &[(STATUS_2, "020104")],
+        fault: (0, 0),
+        told: &[(STATUS_2, "020104")],
+    },
+    Exchange {
+        moment: 2001,
+        community: PUBLIC,
+        tag: GET,
+        given: &[(PKTS_2, NULL)],
+        fault: (0, 0),
+        told: &[(PKTS_2, NO_INSTANCE)],
+    },
+];
+
+// The response with this error-status and this error-index, each of one octet, and these bindings.
+fn response(
+    alloc: Global,
+    community: &str,
+    (status, index): (u8, u8),
+    told: &[(&str, &str)],
+) -> Result<String, Fail> {
+    let numbers = format!(in alloc; "0201010201{status:02x}0201{index:02x}")?;
+    message(
+        alloc,
+        community,
+        RESPONSE,
+        &numbers,
+        &bindings(alloc, told)?,
+    )
+}
+
+#[test]
+fn sets_act_in_the_order_of_events(rt: HostRuntime) -> Result<(), Fail> {
+    let alloc = rt.alloc();
+    let mut requests = String::new(alloc);
+    let mut text = String::new(alloc);
+    for (place, exchange) in EXCHANGES.iter().enumerate() {
+        let Exchange {
+            moment,
+            community,
+            tag,
+            ..
+        } = exchange;
+        let given = bindings(alloc, exchange.given)?;
+        let request = message(alloc, community, tag, NUMBERS, &given)?;
+        requests.push_str(&format!(in alloc; "{moment} {request}\n")?)?;
+        let number = place + 1;
+        let reply = response(alloc, community, exchange.fault, exchange.told)?;
+        text.push_str(&format!(in alloc; "{moment} {number} reply {reply}\n")?)?;
+    }
+    text.push_str("end 3 8\n")?;
+    let capture = capture_of(alloc, &[[9, 0, 60, 60], [10, 0, 60, 60], [10, 0, 60, 60]])?;
+    let files = (capture.as_slice(), requests.as_bytes());
+    check(&rt, alloc, files, (Status::Done, &text), "sets")
+}
