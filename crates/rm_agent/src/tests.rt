@@ -1,6 +1,6 @@
 // What is expected comes from the rules of RFC 1905, section 4.2, worked out by hand, and never from this program.
-ghost use Rattle.std.specs.Prelude.{◌≤◌, length, IfOk};
-ghost use Rattle.rm_agent.specs.Agent.{last_given};
+ghost use Rattle.std.specs.Prelude.{◌≡◌, ◌≤◌, length, IfOk};
+ghost use Rattle.rm_agent.specs.Agent.{last_given, frames_given};
 
 use crate::{Agent, Answer, MOST_REPLY, Settings};
 use arrayvec::ArrayVec;
@@ -62,7 +62,8 @@ fn settings(read: &[u8], write: &[u8]) -> Result<Settings, Fail>
 
 // The agent after two frames at 1000, of 60 and of 1514 octets.
 fn agent_with(alloc: Global, settings: Settings) -> Result<Agent, Fail>
-    ensures { IfOk result (λ agent. last_given agent ≤ 1000) }
+    ensures last { IfOk result (λ agent. last_given agent ≤ 1000) }
+    ensures frames { IfOk result (λ agent. frames_given agent ≡ 2) }
 {
     let mut agent = Agent::new(alloc, settings)?;
     agent.frame(&Frame {

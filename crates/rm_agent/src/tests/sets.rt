@@ -1,14 +1,15 @@
 // SetRequests, by the rules of RFC 1905, section 4.2.5 and of this probe's order of refusals.
 ghost use Rattle.std.specs.Prelude.{◌≡◌, ◌≤◌};
-ghost use Rattle.rm_agent.specs.Agent.{last_given};
+ghost use Rattle.rm_agent.specs.Agent.{last_given, frames_given};
 
 use super::{
-    GET, NULL, NUMBERS, PRIVATE, PUBLIC, RESPONSE, SET, STATIONS, agent_with, binding, bindings,
-    element, message, said, said_by, settings,
+    GET, NO_INSTANCE, NULL, NUMBERS, PRIVATE, PUBLIC, RESPONSE, SET, STATIONS, agent_with, binding,
+    bindings, element, message, said, said_by, settings,
 };
 use crate::{Agent, Answer, MOST_REPLY};
 use rm_pcap::Frame;
 use std::alloc::Global;
+use std::process::Abort;
 use std::test::Fail;
 
 // The contents of names: sysDescr.0, sysUpTime.0, 1.3.6.1.4.1.1, etherStatsEntry, columns of etherStats.
@@ -35,6 +36,12 @@ const OWNER_2: &str = "2b06010201100101011402";
 const STATUS_1: &str = "2b06010201100101011501";
 
 const STATUS_2: &str = "2b06010201100101011502";
+
+const OWNER_3: &str = "2b06010201100101011403";
+
+const STATUS_16: &str = "2b06010201100101011510";
+
+const STATUS_17: &str = "2b06010201100101011511";
 
 // Values: ifIndex.1 and ifIndex.2, the text a, the statuses valid, createRequest, underCreation and invalid.
 const INTERFACE_1: &str = "060a2b060102010202010101";
@@ -64,7 +71,7 @@ fn response(
 }
 
 // A community, the bindings that it gives, and the error-status and the error-index of the reply.
-const ONE_SET: [(&str, &[(&str, &str)], u8, u8); 40] = [
+const ONE_SET: [(&str, &[(&str, &str)], u8, u8); 42] = [
     // The read community may set nothing; the write community may set the owner.
     (PUBLIC, &[(OWNER_1, A)], 6, 1),
     (PUBLIC, &[(UP_TIME, NULL), (OWNER_1, A)], 6, 1),
@@ -105,6 +112,7 @@ const ONE_SET: [(&str, &[(&str, &str)], u8, u8); 40] = [
     (PRIVATE, &[(STATUS_2, VALID), (OWNER_1, VALID)], 7, 2),
     // Row 1, which is valid: it can't be made, nor its source set, but for a row that the same Set makes invalid no more.
     (PRIVATE, &[(STATUS_1, CREATE)], 12, 1),
+    (PRIVATE, &[(OWNER_1, A), (STATUS_1, CREATE)], 12, 2),
     (PRIVATE, &[(SOURCE_1, INTERFACE_1)], 12, 1),
     (
         PRIVATE,
@@ -121,6 +129,7 @@ const ONE_SET: [(&str, &[(&str, &str)], u8, u8); 40] = [
     // Row 2, which there isn't: it can be made, with its columns before the status or behind it.
     (PRIVATE, &[(OWNER_2, A)], 18, 1),
     (PRIVATE, &[(OWNER_2, A), (STATUS_2, VALID)], 18, 1),
+    (PRIVATE, &[(STATUS_2, VALID), (OWNER_2, A)], 18, 1),
     (PRIVATE, &[(STATUS_2, UNDER_CREATION)], 18, 1),
     (PRIVATE, &[(STATUS_2, INVALID)], 0, 0),
     (PRIVATE, &[(STATUS_2, INVALID), (OWNER_2, A)], 18, 2),
@@ -219,10 +228,25 @@ fn asked(
     now: u32,
 ) -> Result<String, Fail>
     requires { last_given agent.old ≤ now }
-    ensures { last_given agent.new ≤ now }
+    ensures last { last_given agent.new ≤ now }
+    ensures frames { frames_given agent.new ≡ frames_given agent.old }
 {
-    let list = bindings(alloc, given)?;
-    let request = hex::decode(alloc, &message(alloc, PRIVATE, tag, NUMBERS, &list)?)?;
+    asked_list(agent, alloc, tag, &bindings(alloc, given)?, now)
+}
+
+// The same of bindings one after the other.
+fn asked_list(
+    agent: &mut Agent,
+    alloc: Global,
+    tag: &str,
+    list: &str,
+    now: u32,
+) -> Result<String, Fail>
+    requires { last_given agent.old ≤ now }
+    ensures last { last_given agent.new ≤ now }
+    ensures frames { frames_given agent.new ≡ frames_given agent.old }
+{
+    let request = hex::decode(alloc, &message(alloc, PRIVATE, tag, NUMBERS, list)?)?;
     let mut out = [0; MOST_REPLY];
     Ok(match agent.answer(alloc, &request, now, &mut out) {
         Answer::Reply(count) => hex::encode(alloc, &out[..count])?,
@@ -257,6 +281,75 @@ fn a_refused_set_changes_nothing(rt: HostRuntime) -> Result<(), Fail> {
         accepted(alloc, &told)?.as_str()
     );
     Ok(())
+}
+
+// A Set that makes row 2 and is wrong for row 3 makes neither.
+#[test]
+fn a_refused_set_makes_no_row(rt: HostRuntime) -> Result<(), Fail> {
+    let alloc = rt.alloc();
+    let mut agent = agent_with(alloc, settings(b"public", b"private")?)?;
+    let given = [(OWNER_2, A), (STATUS_2, CREATE), (OWNER_3, A)];
+    let refused = response(alloc, PRIVATE, 18, 3, &bindings(alloc, &given)?)?;
+    assert_eq!(rt;
+        asked(&mut agent, alloc, SET, &given, 2000)?.as_str(),
+        refused.as_str()
+    );
+    let names = [(OWNER_2, NULL), (STATUS_2, NULL), (OWNER_3, NULL)];
+    let told = [
+        (OWNER_2, NO_INSTANCE),
+        (STATUS_2, NO_INSTANCE),
+        (OWNER_3, NO_INSTANCE),
+    ];
+    assert_eq!(rt;
+        asked(&mut agent, alloc, GET, &names, 2000)?.as_str(),
+        accepted(alloc, &told)?.as_str()
+    );
+    Ok(())
+}
+
+// The bindings that ask for the rows 2 to the last one to be made.
+fn making_rows(alloc: Global, last: u8) -> Result<String, Fail> {
+    let mut list = String::new(alloc);
+    for row in 2..=last {
+        let name = format!(in alloc; "2b060102011001010115{row:02x}")?;
+        list.push_str(&binding(alloc, &name, CREATE)?)?;
+    }
+    Ok(list)
+}
+
+// Compares the reply to a Set of these bindings with the one of this error-status and this error-index.
+fn check_set(
+    rt: &impl Abort,
+    agent: &mut Agent,
+    alloc: Global,
+    list: &str,
+    fault: (u8, u8),
+) -> Result<(), Fail>
+    requires { last_given agent.old ≤ 2000 }
+    ensures { last_given agent.new ≤ 2000 }
+{
+    let (status, index) = fault;
+    let reply = response(alloc, PRIVATE, status, index, list)?;
+    let told = asked_list(agent, alloc, SET, list, 2000)?;
+    assert_eq!(rt; told.as_str(), reply.as_str(), "{list}");
+    Ok(())
+}
+
+// A table has at most 16 rows. With row 1 they are 17 in the first Set and 16 in the second. A row that goes leaves its place
+// to a later Set, and not to the one that takes it away.
+#[test]
+fn there_are_at_most_16_rows(rt: HostRuntime) -> Result<(), Fail> {
+    let alloc = rt.alloc();
+    let mut agent = agent_with(alloc, settings(b"public", b"private")?)?;
+    check_set(&rt, &mut agent, alloc, &making_rows(alloc, 17)?, (18, 1))?;
+    check_set(&rt, &mut agent, alloc, &making_rows(alloc, 16)?, (0, 0))?;
+    let make_17 = binding(alloc, STATUS_17, CREATE)?;
+    check_set(&rt, &mut agent, alloc, &make_17, (18, 1))?;
+    let change = bindings(alloc, &[(STATUS_16, INVALID), (STATUS_17, CREATE)])?;
+    check_set(&rt, &mut agent, alloc, &change, (18, 2))?;
+    let end_16 = binding(alloc, STATUS_16, INVALID)?;
+    check_set(&rt, &mut agent, alloc, &end_16, (0, 0))?;
+    check_set(&rt, &mut agent, alloc, &make_17, (0, 0))
 }
 
 // Row 2 is made, becomes valid and counts the frames from there on.
