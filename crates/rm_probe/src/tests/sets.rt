@@ -7,14 +7,18 @@ use crate::Status;
 use std::alloc::Global;
 use std::test::Fail;
 
-// The contents of the names of etherStatsPkts.1, etherStatsPkts.2, etherStatsOwner.2 and etherStatsStatus.2.
+// The contents of the names of etherStatsPkts of rows 1 to 3, etherStatsOwner.2, and etherStatsStatus of rows 2 and 3.
 const PKTS_1: &str = "2b06010201100101010501";
 
 const PKTS_2: &str = "2b06010201100101010502";
 
+const PKTS_3: &str = "2b06010201100101010503";
+
 const OWNER_2: &str = "2b06010201100101011402";
 
 const STATUS_2: &str = "2b06010201100101011502";
+
+const STATUS_3: &str = "2b06010201100101011503";
 
 // A request at a moment, and its reply.
 struct Exchange {
@@ -28,8 +32,8 @@ struct Exchange {
     told: &'static [(&'static str, &'static str)],
 }
 
-// Frames come at 1000, 2000 and 2000.
-const EXCHANGES: [Exchange; 8] = [
+// Frames come at 1000, 2000, 2000 and 2001. Row 2 becomes valid before those at 2000, and row 3 behind them.
+const EXCHANGES: [Exchange; 11] = [
     Exchange {
         moment: 1500,
         community: PUBLIC,
@@ -55,6 +59,22 @@ const EXCHANGES: [Exchange; 8] = [
         told: &[(STATUS_2, "020101")],
     },
     Exchange {
+        moment: 1999,
+        community: PRIVATE,
+        tag: SET,
+        given: &[(STATUS_3, "020102")],
+        fault: (0, 0),
+        told: &[(STATUS_3, "020102")],
+    },
+    Exchange {
+        moment: 2000,
+        community: PRIVATE,
+        tag: SET,
+        given: &[(STATUS_3, "020101")],
+        fault: (0, 0),
+        told: &[(STATUS_3, "020101")],
+    },
+    Exchange {
         moment: 2000,
         community: PUBLIC,
         tag: GET,
@@ -74,9 +94,17 @@ const EXCHANGES: [Exchange; 8] = [
         moment: 2000,
         community: PUBLIC,
         tag: GET,
-        given: &[(STATUS_2, NULL)],
+        given: &[(STATUS_2, NULL), (PKTS_3, NULL)],
         fault: (0, 0),
-        told: &[(STATUS_2, "020101")],
+        told: &[(STATUS_2, "020101"), (PKTS_3, "410100")],
+    },
+    Exchange {
+        moment: 2001,
+        community: PUBLIC,
+        tag: GET,
+        given: &[(PKTS_2, NULL), (PKTS_3, NULL)],
+        fault: (0, 0),
+        told: &[(PKTS_2, "410103"), (PKTS_3, "410101")],
     },
     Exchange {
         moment: 2001,
@@ -132,8 +160,16 @@ fn sets_act_in_the_order_of_events(rt: HostRuntime) -> Result<(), Fail> {
         let reply = response(alloc, community, exchange.fault, exchange.told)?;
         text.push_str(&format!(in alloc; "{moment} {number} reply {reply}\n")?)?;
     }
-    text.push_str("end 3 8\n")?;
-    let capture = capture_of(alloc, &[[9, 0, 60, 60], [10, 0, 60, 60], [10, 0, 60, 60]])?;
+    text.push_str("end 4 11\n")?;
+    let capture = capture_of(
+        alloc,
+        &[
+            [9, 0, 60, 60],
+            [10, 0, 60, 60],
+            [10, 0, 60, 60],
+            [10, 1000, 60, 60],
+        ],
+    )?;
     let files = (capture.as_slice(), requests.as_bytes());
     check(&rt, alloc, files, (Status::Done, &text), "sets")
 }
