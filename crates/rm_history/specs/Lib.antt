@@ -7,3 +7,4 @@ pub mod ControlColumns
 pub mod ColumnLaws
 pub mod Standing
 pub mod Runs
+pub mod Shown
