@@ -367,6 +367,64 @@ fn no_more_than_sixteen_rows(rt: HostRuntime) {
     assert_eq!(rt; rows.len(), MAX_ROWS);
 }
 
+// How many rows are valid after a Set, if nothing is wrong with it.
+fn count_valid_after(rows: &Controls<MadeUp>, set: &Set) -> Option<usize> {
+    let entry = entry();
+    match rows.judge_alone(set, &entry, STATUS) {
+        Verdict::Fine => match rows.judge_rows(set, &entry, STATUS) {
+            Verdict::Fine => Some(rows.rows_after(set, &entry, STATUS).count_valid()),
+            _ => None,
+        },
+        _ => None,
+    }
+}
+
+// Columns of rows of which row 1 is valid, and rows 2 and 3 are under creation without the column that they need. The number
+// of the first binding that makes a row valid, and how many rows are valid then.
+type Counted = (&'static [(u32, u32, i32)], Option<u32>, Option<usize>);
+
+const COUNTED: [Counted; 6] = [
+    (&[(3, 2, 7)], None, Some(1)),
+    (
+        &[(STATUS, 1, 1), (2, 2, 4), (STATUS, 2, 1)],
+        Some(3),
+        Some(2),
+    ),
+    (
+        &[(2, 2, 4), (2, 3, 4), (STATUS, 3, 1), (STATUS, 2, 1)],
+        Some(3),
+        Some(3),
+    ),
+    (&[(STATUS, 1, 3)], None, Some(0)),
+    (
+        &[(STATUS, 1, 4), (2, 2, 4), (STATUS, 2, 1)],
+        Some(3),
+        Some(1),
+    ),
+    (&[(STATUS, 2, 1)], Some(1), None),
+];
+
+#[test]
+fn valid_rows_are_counted(rt: HostRuntime) {
+    let entry = entry();
+    let mut rows = many(3);
+    assert_eq!(rt; rows.count_valid(), 0);
+    assert_eq!(rt;
+        apply(&mut rows, &set_of(&[(2, 1, 4), (STATUS, 1, 1)])),
+        FINE
+    );
+    assert_eq!(rt; rows.count_valid(), 1);
+    for &(columns, activated, valid) in &COUNTED {
+        let set = set_of(columns);
+        assert_eq!(rt;
+            rows.first_activated(&set, &entry, STATUS),
+            activated,
+            "{columns:?}"
+        );
+        assert_eq!(rt; count_valid_after(&rows, &set), valid, "{columns:?}");
+    }
+}
+
 #[test]
 fn rows_in_order(rt: HostRuntime) -> Result<(), Fail> {
     let mut rows = Controls::new(StatusKind::EntryStatus);
