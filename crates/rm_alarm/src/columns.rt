@@ -28,6 +28,10 @@ pub(crate) const FALLING_EVENT_INDEX: u32 = 10;
 pub(crate) const OWNER: u32 = 11;
 
 impl Default for AlarmRow {
+    ghost use Rattle.rm_alarm.specs.Rows.{blank_row};
+
+    ghost is_default = { λ row. row ≡ blank_row };
+
     fn default() -> Self {
         AlarmRow::blank()
     }
@@ -45,6 +49,8 @@ impl Columns for AlarmRow {
     ghost blank_row = { blank_row };
 
     ghost with_column = { with_column };
+
+    ghost default_is_blank = { λ row is. is };
 
     ghost blank_alike = { blank_alike };
 

@@ -16,7 +16,7 @@ const OWNER: u32 = 20;
 const MOST_OWNER: usize = 127;
 
 /// The columns of a row of etherStats, with what it counted since it became valid.
-#[derive(Default, Drop)]
+#[derive(Drop)]
 pub struct StatisticsRow {
     /// The number of the interface whose frames the row counts.
     pub source: u32,
@@ -39,6 +39,16 @@ impl StatisticsRow {
     }
 }
 
+impl Default for StatisticsRow {
+    ghost use Rattle.rm_ether.specs.StatisticsRows.{blank_row};
+
+    ghost is_default = { λ row. row ≡ blank_row };
+
+    fn default() -> Self {
+        StatisticsRow::blank()
+    }
+}
+
 impl Columns for StatisticsRow {
     ghost use Rattle.rm_ether.specs.EtherStats.{ether_stats};
     ghost use Rattle.rm_ether.specs.StatisticsRows.{set_to, with_column, blank_row, blank_alike, set_with};
@@ -50,6 +60,8 @@ impl Columns for StatisticsRow {
     ghost blank_row = { blank_row };
 
     ghost with_column = { with_column };
+
+    ghost default_is_blank = { λ row is. is };
 
     ghost blank_alike = { blank_alike };
 

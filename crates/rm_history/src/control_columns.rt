@@ -30,6 +30,8 @@ pub struct ControlColumns {
 }
 
 impl Default for ControlColumns {
+    ghost is_default = { λ columns. columns ≡ blank_columns };
+
     fn default() -> Self {
         ControlColumns::blank()
     }
@@ -43,6 +45,8 @@ impl Columns for ControlColumns {
     ghost blank_row = { blank_columns };
 
     ghost with_column = { with_column };
+
+    ghost default_is_blank = { λ columns is. is };
 
     ghost blank_alike = { blank_alike };
 

@@ -54,6 +54,9 @@ pub trait Columns: Default + Drop {
     fn bare(&self) -> Self
         ensures { (n : ℕ) → set_to result n ≡ set_to self.now n };
 
+    /// The default of the type is the columns of a new row.
+    ghost default_is_blank: { (columns : Self) → Self.Default.is_default columns → columns ≡ blank_row };
+
     /// A blank column shows its default, and isn't set where a row needs it.
     ghost blank_alike: { HasSameColumns table (set_to blank_row) (λ column. None) };
 

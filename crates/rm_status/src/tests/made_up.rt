@@ -11,11 +11,19 @@ use rm_val::{ErrorStatus, Oid, Value};
 
 pub const STATUS: u32 = 7;
 
-#[derive(Clone, Copy, Debug, Default, PartialEq, Eq)]
+#[derive(Clone, Copy, Debug, PartialEq, Eq)]
 pub struct MadeUp {
     pub second: Option<i32>,
     pub third: Option<i32>,
     pub fourth: Option<i32>,
+}
+
+impl Default for MadeUp {
+    ghost is_default = { λ columns. columns ≡ record { second = None; third = None; fourth = None } };
+
+    fn default() -> Self {
+        MadeUp::blank()
+    }
 }
 
 impl Columns for MadeUp {
@@ -24,6 +32,8 @@ impl Columns for MadeUp {
     ghost set_to = { λ s n. set_to s.second s.third s.fourth n };
 
     ghost blank_row = { record { second = None; third = None; fourth = None } };
+
+    ghost default_is_blank = { λ columns is. is };
 
     ghost with_column = { λ s n value. record { second = with_value 2 n value s.second; third = with_value 3 n value s.third; fourth = with_value 4 n value s.fourth } };
 
