@@ -8,3 +8,5 @@ pub mod ColumnLaws
 pub mod Standing
 pub mod Runs
 pub mod Shown
+pub mod WellHeld
+pub mod Group

@@ -3,6 +3,7 @@
 
 mod control_column;
 mod control_columns;
+mod history;
 mod plan;
 mod run;
 mod runs;
