@@ -4,3 +4,4 @@ mod Frames
 mod Each
 mod Spares
 mod Becoming
+mod Storage

@@ -5,6 +5,7 @@ mod control_column;
 mod control_columns;
 mod history;
 mod plan;
+mod preparing;
 mod run;
 mod runs;
 mod sample_column;

@@ -1,4 +1,4 @@
-use Rattle.std.proofs.Common.{◌≡◌, false, refl, nat_eq, suc, None, drop, ◌-◌, ◌<◌, ◌∙◌, ap, sym, subst, length, get_or, arith}
+use Rattle.std.proofs.Common.{◌≡◌, refl, suc, None, drop, ◌-◌, ◌<◌, ◌∙◌, ap, sym, subst, length, get_or, arith}
 use Rattle.std.specs.List.{AllByRecursion}
 use Rattle.rm_history.specs.declared.run.Run.{Run}
 use Rattle.rm_history.specs.Runs.{run_in, AreDistinct, Fits}
