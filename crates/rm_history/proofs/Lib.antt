@@ -5,3 +5,5 @@ mod Each
 mod Spares
 mod Becoming
 mod Storage
+mod InRange
+mod Begins

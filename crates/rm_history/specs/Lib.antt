@@ -8,5 +8,6 @@ pub mod ColumnLaws
 pub mod Standing
 pub mod Runs
 pub mod Shown
+pub mod Begun
 pub mod WellHeld
 pub mod Group
