@@ -7,3 +7,4 @@ mod Becoming
 mod Storage
 mod InRange
 mod Begins
+mod AfterSets
