@@ -3,3 +3,4 @@ mod Rings
 mod Frames
 mod Each
 mod Spares
+mod ShownRows

@@ -8,3 +8,4 @@ pub mod ColumnLaws
 pub mod Standing
 pub mod Runs
 pub mod Shown
+pub mod Walk

@@ -23,12 +23,16 @@ use Rattle.rm_history.specs.Buckets.{begin_of, is_shown, utilization}
 use Rattle.rm_history.specs.Run.{kept_counter}
 use Rattle.rm_history.specs.Runs.{run_in}
 
+-- how many buckets are granted to a row, by its state and how many it requests
+abbrev pub granted_in : State → ℕ → ℕ
+granted_in state requested = if is_valid state then granted requested else 0
+
 -- what a column of a row shows, by the row's index, its state and its columns
 abbrev pub row_value : ℕ → State → ControlColumns → ControlColumn → Val
 row_value index state columns control.Index = int (pos index)
 row_value index state columns control.DataSource = name (interface_name columns.source)
 row_value index state columns control.BucketsRequested = int (pos columns.requested)
-row_value index state columns control.BucketsGranted = int (pos (if is_valid state then granted columns.requested else 0))
+row_value index state columns control.BucketsGranted = int (pos (granted_in state columns.requested))
 row_value index state columns control.Interval = int (pos columns.interval)
 row_value index state columns control.Owner = octets columns.owner.items
 row_value index state columns control.Status = int (entry_status state)
