@@ -4,3 +4,4 @@ mod Frames
 mod Each
 mod Spares
 mod ShownRows
+mod Walks

@@ -9,3 +9,5 @@ pub mod Standing
 pub mod Runs
 pub mod Shown
 pub mod Walk
+pub mod Distinct
+pub mod SampleNumbers

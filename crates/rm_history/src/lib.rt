@@ -9,6 +9,7 @@ mod run;
 mod runs;
 mod sample_cell;
 mod sample_column;
+mod samples;
 mod shown_buckets;
 #[cfg(test)]
 mod tests;
