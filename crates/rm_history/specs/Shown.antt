@@ -1,8 +1,8 @@
 -- What the rows and the histories that are kept show.
 use Rattle.std.specs.Prelude.{ℕ, pos, ◌/◌, ◌%◌, ◌^◌, List, [], ◌∷◌, Bool, false, ◌&&◌, nat_le, if◌then◌else◌, Option, Some, None}
-use Rattle.std.specs.Option.{option_map_or}
+use Rattle.std.specs.Option.{option_map_or, option_or}
 use Rattle.rm_val.specs.Val.{Val, int, octets, name, counter, ticks, null}
-use Rattle.rm_model.specs.Cells.{Table}
+use Rattle.rm_model.specs.Cells.{Cells, Table, cells_of}
 use Rattle.rm_model.specs.Interfaces.{interface_name}
 use Rattle.rm_model.specs.ControlRows.{is_valid, entry_status}
 use Rattle.rm_model.specs.declared.row.State.{State}
@@ -82,3 +82,7 @@ runs_table runs now = record {
   is_row = is_kept runs now;
   value = λ column index. bucket_at runs index (sample_column column);
 }
+
+-- the cells of both, at a moment
+abbrev pub cells_shown : List (Row ControlColumns) → List Run → ℕ → Cells
+cells_shown rows runs now asked = option_or (cells_of (rows_table rows) asked) (cells_of (runs_table runs now) asked)

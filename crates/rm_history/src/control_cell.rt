@@ -1,9 +1,9 @@
 // The cells of historyControl.
-ghost use Rattle.std.specs.Prelude.{◌≡◌, ◌≤◌, Some, IfSome};
+ghost use Rattle.std.specs.Prelude.{◌≡◌, ◌≤◌, Some, IfSome, OnSome, IfNone};
 ghost use Rattle.std.specs.Option.{option_map};
 ghost use Rattle.rm_val.specs.Val.{val_of};
-ghost use Rattle.rm_val.specs.Spellable.{HasSpelling};
-ghost use Rattle.rm_model.specs.Cells.{cells_of, cell_at};
+ghost use Rattle.rm_val.specs.Spellable.{IsSpellable, HasSpelling};
+ghost use Rattle.rm_model.specs.Cells.{cells_of, cell_at, IsNext};
 ghost use Rattle.rm_model.specs.ControlRows.{entry_status};
 ghost use Rattle.rm_history.specs.ControlColumns.{AreInRange, AreAllInRange};
 ghost use Rattle.rm_history.specs.HistoryControl.{control_entry};
@@ -13,7 +13,7 @@ use crate::control_column::{CONTROL_COLUMNS, ControlColumn};
 use crate::control_columns::ControlColumns;
 use crate::run::MOST_BUCKETS;
 use rm_model::Instance;
-use rm_status::{Controls, State, instance_of, interface_name};
+use rm_status::{Controls, State, instance_of, interface_name, next_name};
 use rm_val::{Oid, Value};
 
 /// The identifier of historyControlEntry.
@@ -31,6 +31,24 @@ pub(crate) fn control_cell<'a>(rows: &'a Controls<ControlColumns>, name: &Oid) -
 {
     let at = instance_of(name, &control_entry(), &CONTROL_COLUMNS)?;
     instance_value(rows, &at)
+}
+
+/// The value of the cell of historyControl with the least name above that one (RFC 1905, section 4.2.2), by the rows. Its name
+/// is put into `out`. None where no cell of the table has a greater name; `out` is then as before.
+pub(crate) fn next_control<'a>(
+    rows: &'a Controls<ControlColumns>,
+    name: &Oid,
+    now: u32,
+    out: &mut Oid,
+) -> Option<Value<'a>>
+    requires in_range { AreAllInRange rows.now }
+    ensures next { IsNext (cells_of (rows_table rows.now)) name.now (option_map val_of result) out.new }
+    ensures stays { IfNone result (out.new ≡ out.old) }
+    ensures name_spelling { OnSome result (IsSpellable out.new) }
+    ensures spelling { IfSome result (λ value. HasSpelling (val_of value)) }
+{
+    *out = next_name(rows, &control_entry(), &CONTROL_COLUMNS, name, now)?;
+    control_cell(rows, out)
 }
 
 // The value at an instance, if there is such a row.

@@ -1,23 +1,24 @@
 // The cells of etherHistory.
-ghost use Rattle.std.specs.Prelude.{◌≡◌, ℕ, ◌<◌, ◌≤◌, ◌%◌, ◌^◌, true, is_some, IfSome};
+ghost use Rattle.std.specs.Prelude.{◌≡◌, ℕ, ◌<◌, ◌≤◌, ◌%◌, ◌^◌, true, is_some, IfSome, OnSome, IfNone};
 ghost use Rattle.std.specs.Option.{option_map, option_copied};
 ghost use Rattle.rm_val.specs.Val.{val_of};
-ghost use Rattle.rm_val.specs.Spellable.{HasSpelling};
-ghost use Rattle.rm_model.specs.Cells.{cells_of, cell_at};
+ghost use Rattle.rm_val.specs.Spellable.{IsSpellable, HasSpelling};
+ghost use Rattle.rm_model.specs.Cells.{cells_of, cell_at, IsNext};
 ghost use Rattle.rm_ether.specs.Standing.{counter_of};
 ghost use Rattle.rm_ether.specs.declared.counter.Counter.TheVariants.{Octets, Pkts};
 ghost use Rattle.rm_history.specs.EtherHistory.{sample_entry};
 ghost use Rattle.rm_history.specs.Buckets.{begin_of, is_shown, utilization};
-ghost use Rattle.rm_history.specs.Runs.{kept, run_in};
+ghost use Rattle.rm_history.specs.Runs.{kept, run_in, AreDistinct};
 ghost use Rattle.rm_history.specs.Shown.{bucket_value, runs_table};
 
 use crate::plan::Plan;
 use crate::run::Run;
 use crate::runs::Runs;
 use crate::sample_column::{SAMPLE_COLUMNS, SampleColumn};
+use crate::samples::Samples;
 use rm_ether::{Counter, Statistics};
 use rm_model::Instance;
-use rm_status::instance_of;
+use rm_status::{instance_of, next_name};
 use rm_val::{Oid, Value};
 
 /// A utilization of 100 percent, in hundredths of a percent.
@@ -39,6 +40,27 @@ pub(crate) fn sample_cell(runs: &Runs, name: &Oid, now: u32) -> Option<Value<'st
 {
     let at = instance_of(name, &sample_entry(), &SAMPLE_COLUMNS)?;
     instance_value(runs, &at, now)
+}
+
+/// The value of the cell of etherHistory with the least name above that one (RFC 1905, section 4.2.2) at a moment in
+/// milliseconds, by the histories, whose rows are 65535 at most. Its name is put into `out`. None where no cell of the table has a
+/// greater name; `out` is then as before.
+pub(crate) fn next_sample(
+    runs: &Runs,
+    name: &Oid,
+    now: u32,
+    out: &mut Oid,
+) -> Option<Value<'static>>
+    requires numbered { (row : ℕ) → is_some (run_in (kept runs.now) row) ≡ true → row ≤ 65535 }
+    requires distinct { AreDistinct (kept runs.now) }
+    ensures next { IsNext (cells_of (runs_table (kept runs.now) now)) name.now (option_map val_of result) out.new }
+    ensures stays { IfNone result (out.new ≡ out.old) }
+    ensures name_spelling { OnSome result (IsSpellable out.new) }
+    ensures spelling { IfSome result (λ value. HasSpelling (val_of value)) }
+{
+    let samples = Samples { runs };
+    *out = next_name(&samples, &sample_entry(), &SAMPLE_COLUMNS, name, now)?;
+    sample_cell(runs, out, now)
 }
 
 // The value at an instance, if such a bucket is shown.
