@@ -5,3 +5,4 @@ mod Each
 mod Spares
 mod ShownRows
 mod Walks
+mod SameCells

@@ -34,3 +34,11 @@ index_fits rows i (Some row) columns held e is = fits i (found_there rows i row 
 pub columns_in_range : (rows : List (Row ControlColumns)) (i : ℕ) (o : Option (Row ControlColumns)) (columns : ControlColumns) → AreAllInRange rows → row_in rows i ≡ o → Some columns ≡ columns_seen o → AreInRange columns
 columns_in_range rows i None columns held e is = absurd (cc)
 columns_in_range rows i (Some row) columns held e is = let same : row.columns ≡ columns = cc in subst AreInRange same (held i row e)
+
+-- there is no row 0
+pub row_0 : (rows : List (Row ControlColumns)) → AreControlRows rows → row_in rows 0 ≡ None
+row_0 rows held = by_row (row_in rows 0) refl
+  where
+    by_row : (o : Option (Row ControlColumns)) → row_in rows 0 ≡ o → o ≡ None
+    by_row None e = refl
+    by_row (Some row) e = let is = (found_there rows 0 row held.1 e).0 in absurd (cc)
