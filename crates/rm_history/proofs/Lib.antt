@@ -6,3 +6,4 @@ mod Spares
 mod ShownRows
 mod Walks
 mod SameCells
+mod Finite
