@@ -6,4 +6,3 @@ mod Spares
 mod ShownRows
 mod Walks
 mod SameCells
-mod Finite

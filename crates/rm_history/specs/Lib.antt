@@ -11,3 +11,4 @@ pub mod Shown
 pub mod Walk
 pub mod Distinct
 pub mod SampleNumbers
+pub mod Finite

@@ -53,9 +53,9 @@ in_flat_map : (f : List ℕ → List (List ℕ)) (xs : List (List ℕ)) (x y : L
 in_flat_map f [] x y within part = absurd (none_in x within)
 in_flat_map f (z ∷ zs) x y within part =
     each (λ w. Contains (f w) y → Contains (f z ++ flat_map f zs) y) z zs
-        (λ own. Contains-append_left (f z) (flat_map f zs) y own)
-        (λ w more own. Contains-append_right (f z) (flat_map f zs) y (in_flat_map f zs w y more own))
-        x within part
+    (λ own. Contains-append_left (f z) (flat_map f zs) y own)
+    (λ w more own. Contains-append_right (f z) (flat_map f zs) y (in_flat_map f zs w y more own))
+    x within part
 
 -- the indexes that buckets can have at a moment: those of the rows, each followed by the number of a complete bucket
 abbrev buckets_of_row : Journal → ℕ → List ℕ → List (List ℕ)
@@ -75,8 +75,8 @@ in_buckets journal now (row ∷ []) is = absurd (cc)
 in_buckets journal now (row ∷ bucket ∷ []) is =
     let parts = and_parts (is_valid (control_state journal (row ∷ []))) (is_shown (plan_of journal (row ∷ [])) now bucket) is in
     in_flat_map (buckets_of_row journal now) (rows_of journal) (row ∷ []) (row ∷ bucket ∷ [])
-        (in_rows journal (row ∷ []) (there_is (control_state journal (row ∷ [])) parts.0))
-        (in_map (λ (bucket : ℕ). row ∷ bucket ∷ []) (up_to (complete_at (plan_of journal (row ∷ [])) now)) bucket (in_up_to (complete_at (plan_of journal (row ∷ [])) now) bucket (complete (complete_at (plan_of journal (row ∷ [])) now) (plan_of journal (row ∷ [])).kept parts.1)))
+    (in_rows journal (row ∷ []) (there_is (control_state journal (row ∷ [])) parts.0))
+    (in_map (λ (bucket : ℕ). row ∷ bucket ∷ []) (up_to (complete_at (plan_of journal (row ∷ [])) now)) bucket (in_up_to (complete_at (plan_of journal (row ∷ [])) now) bucket (complete (complete_at (plan_of journal (row ∷ [])) now) (plan_of journal (row ∷ [])).kept parts.1)))
   where
     complete : (most kept : ℕ) → (nat_le 1 bucket && (nat_le bucket most && nat_lt most (bucket + kept))) ≡ true → bucket ≤ most
     complete most kept h = grind (arith, nat_tests)
