@@ -8,3 +8,6 @@ mod Storage
 mod InRange
 mod Begins
 mod AfterSets
+mod ShownRows
+mod Walks
+mod SameCells

@@ -11,3 +11,7 @@ pub mod Shown
 pub mod Begun
 pub mod WellHeld
 pub mod Group
+pub mod Walk
+pub mod Distinct
+pub mod SampleNumbers
+pub mod Finite

@@ -5,9 +5,9 @@ ghost use Rattle.rm_model.specs.Journal.{Assignments, Journal, assigns, last_mom
 ghost use Rattle.rm_history.specs.Group.{Stands, IsReady, IsReleased, IsStocked, frames_given, last_given};
 
 use crate::beginning::begin_all;
+use crate::control_cell::control_entry;
 use crate::control_columns::STATUS;
 use crate::history::History;
-use crate::preparing::control_entry;
 use rm_status::Assigns;
 
 impl History {

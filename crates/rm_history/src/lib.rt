@@ -3,13 +3,21 @@
 
 mod assigning;
 mod beginning;
+mod cells;
+mod control_cell;
 mod control_column;
 mod control_columns;
+mod group;
 mod history;
 mod plan;
 mod preparing;
 mod run;
 mod runs;
+mod sample_cell;
 mod sample_column;
+mod samples;
+mod shown_buckets;
 #[cfg(test)]
 mod tests;
+
+pub use history::History;

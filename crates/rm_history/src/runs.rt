@@ -50,6 +50,16 @@ impl Runs {
         }
     }
 
+    /// All of them, the spare ones included.
+    pub fn all(&self) -> &[Run]
+        ensures { result.now ≡ kept self.now }
+    {
+        match &self.list {
+            Some(list) => list.as_slice(),
+            None => &[],
+        }
+    }
+
     /// Counts a frame in each of them.
     pub fn frame(&mut self, facts: &Facts, moment: u32)
         requires ready { AllByRecursion (IsReady moment) (kept self.old) }
