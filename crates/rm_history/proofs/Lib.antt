@@ -6,3 +6,7 @@ mod Spares
 mod ShownRows
 mod Walks
 mod SameCells
+mod Becoming
+mod Storage
+mod InRange
+mod Begins

@@ -9,6 +9,8 @@ pub mod Standing
 pub mod Runs
 pub mod Shown
 pub mod Walk
-pub mod Distinct
 pub mod SampleNumbers
 pub mod Finite
+pub mod Begun
+pub mod WellHeld
+pub mod Group
