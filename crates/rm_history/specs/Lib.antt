@@ -12,6 +12,5 @@ pub mod Begun
 pub mod WellHeld
 pub mod Group
 pub mod Walk
-pub mod Distinct
 pub mod SampleNumbers
 pub mod Finite

@@ -4,8 +4,7 @@ ghost use Rattle.std.specs.List.{AllByRecursion};
 ghost use Rattle.rm_ether.specs.declared.bounds.TheConstants.{MOST_OCTETS, MOST_FRAMES};
 ghost use Rattle.rm_history.specs.ControlColumns.{AreAllInRange};
 ghost use Rattle.rm_history.specs.Runs.{kept, run_in, valid_in, AreDistinct, Fits};
-ghost use Rattle.rm_history.specs.Distinct.{distinct_prop};
-ghost use Rattle.rm_history.specs.WellHeld.{all_in_range_prop, all_fit_prop};
+ghost use Rattle.rm_history.specs.WellHeld.{all_in_range_prop, distinct_prop, all_fit_prop};
 
 use crate::control_columns::ControlColumns;
 use crate::runs::Runs;

@@ -4,7 +4,7 @@ ghost use Rattle.std.specs.Option.{option_map};
 ghost use Rattle.std.specs.List.{reduce};
 ghost use Rattle.rm_model.specs.Names.{IsLeastAbove};
 ghost use Rattle.rm_history.specs.Runs.{kept, AreDistinct};
-ghost use Rattle.rm_history.specs.Distinct.{distinct_prop};
+ghost use Rattle.rm_history.specs.WellHeld.{distinct_prop};
 ghost use Rattle.rm_history.specs.Shown.{is_kept};
 ghost use Rattle.rm_history.specs.Walk.{shows_any};
 
