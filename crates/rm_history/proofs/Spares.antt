@@ -1,5 +1,5 @@
 -- Spare histories among those that are kept.
-use Rattle.std.proofs.Common.{◌≡◌, ℕ, zero, suc, ◌+◌, ◌<◌, ◌≤◌, List, [], ◌∷◌, ◌++◌, length, map, Bool, true, false, cond, not, ◌||◌, Option, Some, None, refl, sym, ◌∙◌, ap, subst, find, nat_eq, get_or, slice_set, arith}
+use Rattle.std.proofs.Common.{◌≡◌, ℕ, zero, suc, ◌+◌, ◌<◌, ◌≤◌, List, [], ◌∷◌, ◌++◌, length, map, Bool, true, false, cond, not, ◌||◌, Option, Some, None, refl, sym, ◌∙◌, ap, subst, find, nat_eq, get_or, slice_set, drop, arith}
 use Rattle.std.specs.Prelude.{is_some, is_none, remove}
 use Rattle.std.proofs.lemmas.Bool.Decides.{nat_tests}
 use Rattle.std.specs.List.{AllByRecursion, position, position_or_len}
@@ -220,6 +220,25 @@ distinct_removed (run ∷ runs) (suc k) d lt none h = (first, distinct_removed r
       where
         not_zero : (n : ℕ) → nat_eq n 0 ≡ false → 1 ≤ n
         not_zero n e = grind (arith, nat_tests)
+
+-- no history is spare from a place on
+pub rest_removed : (runs : List Run) (k : ℕ) → run_in (drop (suc k) runs) 0 ≡ None → run_in (drop k (remove runs k)) 0 ≡ None
+rest_removed [] zero h = refl
+rest_removed [] (suc k) h = refl
+rest_removed (run ∷ runs) zero h = h
+rest_removed (run ∷ runs) (suc k) h = rest_removed runs k h
+
+pub rest_kept : (runs : List Run) (k : ℕ) (d : Run) → k < length runs → ((get_or runs k d).row ≡ 0 → ⊥) → run_in (drop (suc k) runs) 0 ≡ None → run_in (drop k runs) 0 ≡ None
+rest_kept [] k d lt some h = absurd (omega arith)
+rest_kept (run ∷ runs) zero d lt some h = ap (λ t. cond t (Some run) (run_in runs 0)) (not_none run.row some) ∙ h
+  where
+    not_none : (n : ℕ) → (n ≡ 0 → ⊥) → nat_eq n 0 ≡ false
+    not_none n e = grind (arith, nat_tests)
+rest_kept (run ∷ runs) (suc k) d lt some h = rest_kept runs k d (omega arith) some h
+
+pub rest_none : (runs : List Run) → run_in (drop (length runs) runs) 0 ≡ None
+rest_none [] = refl
+rest_none (run ∷ runs) = rest_none runs
 
 pub spare_at : (runs : List Run) (k : ℕ) (d : Run) → position (λ run. nat_eq run.row 0) runs ≡ Some k → (k < length runs) × ((get_or runs k d).row ≡ 0)
 spare_at runs k d e = let at = position-Some (λ (run : Run). nat_eq run.row 0) runs k d e in (at.0, eq_is (get_or runs k d).row 0 at.1)

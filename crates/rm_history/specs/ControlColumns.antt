@@ -1,7 +1,9 @@
 -- What is kept of the columns of a row of historyControl.
-use Rattle.std.specs.Prelude.{◌≡◌, ℕ, pos, ◌≤◌, [], nat_eq, if◌then◌else◌, Option, Some, None}
+use Rattle.std.specs.Prelude.{◌≡◌, ℕ, pos, ◌≤◌, List, [], nat_eq, if◌then◌else◌, Option, Some, None}
 use Rattle.rm_val.specs.Val.{Val, int, octets, name}
 use Rattle.rm_model.specs.Interfaces.{interface_name}
+use Rattle.rm_status.specs.declared.row.Row.{Row}
+use Rattle.rm_status.specs.Rows.{row_in}
 use Rattle.rm_status.specs.Values.{interface_in, octets_in, natural_in}
 use Rattle.rm_history.specs.declared.control_columns.ControlColumns.{ControlColumns}
 
@@ -34,3 +36,7 @@ pub record AreInRange (columns : ControlColumns) : Type 0 where
   pub most_requested : columns.requested ≤ 65535
   pub some_interval : 1 ≤ columns.interval
   pub most_interval : columns.interval ≤ 3600
+
+-- those of each row are
+abbrev pub AreAllInRange : List (Row ControlColumns) → Type 0
+AreAllInRange rows = (index : ℕ) (row : Row ControlColumns) → row_in rows index ≡ Some row → AreInRange row.columns

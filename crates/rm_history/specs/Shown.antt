@@ -1,8 +1,8 @@
 -- What the rows and the histories that are kept show.
 use Rattle.std.specs.Prelude.{ℕ, pos, ◌/◌, ◌%◌, ◌^◌, List, [], ◌∷◌, Bool, false, ◌&&◌, nat_le, if◌then◌else◌, Option, Some, None}
-use Rattle.std.specs.Option.{option_map_or}
+use Rattle.std.specs.Option.{option_map_or, option_or}
 use Rattle.rm_val.specs.Val.{Val, int, octets, name, counter, ticks, null}
-use Rattle.rm_model.specs.Cells.{Table}
+use Rattle.rm_model.specs.Cells.{Cells, Table, cells_of}
 use Rattle.rm_model.specs.Interfaces.{interface_name}
 use Rattle.rm_model.specs.ControlRows.{is_valid, entry_status}
 use Rattle.rm_model.specs.declared.row.State.{State}
@@ -23,12 +23,16 @@ use Rattle.rm_history.specs.Buckets.{begin_of, is_shown, utilization}
 use Rattle.rm_history.specs.Run.{kept_counter}
 use Rattle.rm_history.specs.Runs.{run_in}
 
+-- how many buckets are granted to a row, by its state and how many it requests
+abbrev pub granted_in : State → ℕ → ℕ
+granted_in state requested = if is_valid state then granted requested else 0
+
 -- what a column of a row shows, by the row's index, its state and its columns
 abbrev pub row_value : ℕ → State → ControlColumns → ControlColumn → Val
 row_value index state columns control.Index = int (pos index)
 row_value index state columns control.DataSource = name (interface_name columns.source)
 row_value index state columns control.BucketsRequested = int (pos columns.requested)
-row_value index state columns control.BucketsGranted = int (pos (if is_valid state then granted columns.requested else 0))
+row_value index state columns control.BucketsGranted = int (pos (granted_in state columns.requested))
 row_value index state columns control.Interval = int (pos columns.interval)
 row_value index state columns control.Owner = octets columns.owner.items
 row_value index state columns control.Status = int (entry_status state)
@@ -78,3 +82,7 @@ runs_table runs now = record {
   is_row = is_kept runs now;
   value = λ column index. bucket_at runs index (sample_column column);
 }
+
+-- the cells of both, at a moment
+abbrev pub cells_shown : List (Row ControlColumns) → List Run → ℕ → Cells
+cells_shown rows runs now asked = option_or (cells_of (rows_table rows) asked) (cells_of (runs_table runs now) asked)

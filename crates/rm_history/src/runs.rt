@@ -50,6 +50,16 @@ impl Runs {
         }
     }
 
+    /// All of them, the spare ones included.
+    pub fn all(&self) -> &[Run]
+        ensures { result.now ≡ kept self.now }
+    {
+        match &self.list {
+            Some(list) => list.as_slice(),
+            None => &[],
+        }
+    }
+
     /// Counts a frame in each of them.
     pub fn frame(&mut self, facts: &Facts, moment: u32)
         requires ready { AllByRecursion (IsReady moment) (kept self.old) }
@@ -91,6 +101,7 @@ impl Runs {
         ensures same { (row : ℕ) → 1 ≤ row → run_in (kept self.new) row ≡ run_in (kept self.old) row }
         ensures distinct { AreDistinct (kept self.old) → AreDistinct (kept self.new) }
         ensures enough { min count (length (kept self.old)) ≤ length (kept self.new) }
+        ensures few { count < length (kept self.new) → run_in (kept self.new) 0 ≡ None }
         ensures fits { (last frames : ℕ) → AllByRecursion (Fits last frames) (kept self.old) → AllByRecursion (Fits last frames) (kept self.new) }
     {
         if let Some(list) = &mut self.list {
@@ -133,6 +144,7 @@ fn trim_in(list: &mut Vec<Run>, count: usize)
     ensures same { (row : ℕ) → 1 ≤ row → run_in list.new.items row ≡ run_in list.old.items row }
     ensures distinct { AreDistinct list.old.items → AreDistinct list.new.items }
     ensures enough { min count (length list.old.items) ≤ length list.new.items }
+    ensures few { count < length list.new.items → run_in list.new.items 0 ≡ None }
     ensures fits { (last frames : ℕ) → AllByRecursion (Fits last frames) list.old.items → AllByRecursion (Fits last frames) list.new.items }
 {
     let mut place = list.len();

@@ -1,4 +1,6 @@
 // What buckets count. The frames have 60 octets without the check sequence.
+mod shown;
+
 use crate::plan::Plan;
 use crate::run::Run;
 use rm_ether::Counter;

@@ -1,4 +1,4 @@
-use Rattle.std.proofs.Common.{◌≡◌, ℕ, ◌≤◌, length}
+use Rattle.std.proofs.Common.{◌≡◌, ℕ, ◌≤◌, length, drop, None}
 use Rattle.std.specs.Prelude.{min}
 use Rattle.std.specs.List.{AllByRecursion}
 use Rattle.rm_history.specs.Runs.{run_in, AreDistinct, Fits}
@@ -11,6 +11,7 @@ invariant-loop-place l = record {
   enough : min l.count (length l.fn.list.items) ≤ length l.list.items;
   fits : (last frames : ℕ) → AllByRecursion (Fits last frames) l.fn.list.items → AllByRecursion (Fits last frames) l.list.items;
   within : l.place ≤ length l.list.items;
+  rest : run_in (drop l.place l.list.items) 0 ≡ None;
 }
 
 abbrev pub decreases-loop-place : goal.decreases-loop-place

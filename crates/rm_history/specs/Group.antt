@@ -1,0 +1,63 @@
+-- The group history, as a caller sees it.
+use Rattle.std.specs.Prelude.{ℕ, ◌≤◌, max, List, length, Bool, ◌||◌, Option}
+use Rattle.std.specs.Option.{option_or}
+use Rattle.rm_val.specs.Val.{Val}
+use Rattle.rm_val.specs.declared.error.ErrorStatus.{ErrorStatus}
+use Rattle.rm_model.specs.Settings.{Settings}
+use Rattle.rm_model.specs.Journal.{Journal}
+use Rattle.rm_model.specs.Cells.{is_of_column}
+use Rattle.rm_model.specs.ControlRows.{no_rows}
+use Rattle.rm_model.specs.Judgement.{Bindings, place_of, alone_fault, second_pass, IsFirstFault}
+use Rattle.rm_model.specs.Reserves.{count_valid, count_valid_after}
+use Rattle.rm_model.specs.declared.verdict.Verdict.TheVariants.{Fine}
+use Rattle.rm_status.specs.Rows.{rows_before}
+use Rattle.rm_status.specs.Alone.{AreFineAlone, read_only}
+use Rattle.rm_status.specs.RowsAfter.{AreRowsAfter}
+use Rattle.rm_history.specs.declared.history.History.{History}
+use Rattle.rm_history.specs.Columns.{control_columns, sample_columns}
+use Rattle.rm_history.specs.HistoryControl.{control_entry, history_control}
+use Rattle.rm_history.specs.EtherHistory.{sample_entry}
+use Rattle.rm_history.specs.ControlColumns.{set_to}
+use Rattle.rm_history.specs.Runs.{kept}
+use Rattle.rm_history.specs.Standing.{AreHistories}
+
+-- how many frames the group was given
+abbrev pub frames_given : History → ℕ
+frames_given history = history.frames
+
+-- the moment of the frame or the Set that it was given last, 0 before the first
+abbrev pub last_given : History → ℕ
+last_given history = history.last
+
+-- The group stands for a journal: its rows are those after the journal, and the histories that it keeps are those of the
+-- valid ones.
+pub record Stands (history : History) (settings : Settings) (journal : Journal) : Type 0 where
+  pub rows : AreRowsAfter history_control no_rows set_to history.rows journal
+  pub histories : AreHistories (kept history.runs) settings journal
+
+-- the objects of the group: the columns of both tables
+abbrev pub history_objects : List ℕ → Bool
+history_objects name = is_of_column control_entry control_columns name || is_of_column sample_entry sample_columns name
+
+-- what is wrong with a binding alone: no column of etherHistory is writable
+abbrev pub history_alone : List ℕ → Val → Option ErrorStatus
+history_alone name value =
+    option_or (alone_fault history_control (place_of control_entry name) value) (read_only (is_of_column sample_entry sample_columns) name value)
+
+-- both passes find nothing wrong with a Set, by the rows that are kept
+pub record AreFine (history : History) (bindings : Bindings) : Type 0 where
+  pub alone : AreFineAlone history_alone bindings
+  pub together : IsFirstFault (length bindings) (second_pass history_control (rows_before set_to history.rows) bindings) Fine
+
+-- there is the storage of one row, whether it is spare or not
+abbrev pub IsStocked : History → Type 0
+IsStocked history = 1 ≤ length (kept history.runs)
+
+-- nothing is wrong with a Set, and there is storage for each row that is valid after it
+pub record IsReady (history : History) (bindings : Bindings) : Type 0 where
+  pub fine : AreFine history bindings
+  pub enough : count_valid_after history_control (rows_before set_to history.rows) bindings ≤ length (kept history.runs)
+
+-- there is storage for the valid rows only, or for one row where none is valid
+abbrev pub IsReleased : History → Type 0
+IsReleased history = length (kept history.runs) ≤ max 1 (count_valid (rows_before set_to history.rows))

@@ -1,0 +1,79 @@
+// The group history.
+ghost use Rattle.std.specs.Prelude.{◌≡◌, ℕ, ◌+◌, ◌<◌, ◌≤◌, [], ◌∷◌, is_some, OnOk};
+ghost use Rattle.std.specs.List.{AllByRecursion};
+ghost use Rattle.rm_ether.specs.declared.bounds.TheConstants.{MOST_OCTETS, MOST_FRAMES};
+ghost use Rattle.rm_history.specs.ControlColumns.{AreAllInRange};
+ghost use Rattle.rm_history.specs.Runs.{kept, run_in, valid_in, AreDistinct, Fits};
+ghost use Rattle.rm_history.specs.WellHeld.{all_in_range_prop, distinct_prop, all_fit_prop};
+
+use crate::control_columns::ControlColumns;
+use crate::runs::Runs;
+use rm_ether::{MOST_FRAMES, MOST_OCTETS};
+use rm_proto::Facts;
+use rm_status::{Controls, StatusKind};
+use rm_val::NoMemory;
+use std::alloc::Global;
+
+/// The history of Ethernet interfaces: historyControlTable and etherHistoryTable (RFC 1757, sections 5.2 and 5.3). A valid
+/// row of historyControl has the storage of its buckets; other storage may be spare.
+#[derive(Drop)]
+pub struct History {
+    pub(crate) rows: Controls<ControlColumns>,
+    pub(crate) runs: Runs,
+    // How many frames it was given.
+    pub(crate) frames: u32,
+    // The moment of the last frame or Set, in milliseconds.
+    pub(crate) last: u32,
+    ghost in_range: { AreAllInRange rows } by { all_in_range_prop rows },
+    ghost distinct: { AreDistinct (kept runs) } by { distinct_prop (kept runs) },
+    ghost fits: { AllByRecursion (Fits last frames) (kept runs) } by { all_fit_prop last frames (kept runs) },
+    ghost held: { (row : ℕ) → 1 ≤ row → is_some (run_in (kept runs) row) ≡ valid_in rows row },
+}
+
+impl History {
+    ghost use Rattle.rm_model.specs.Settings.{Settings};
+    ghost use Rattle.rm_model.specs.Journal.{Journal, Frame, passes};
+    ghost use Rattle.rm_model.specs.FrameFacts.{frame_facts};
+    ghost use Rattle.rm_history.specs.Group.{Stands, IsStocked, frames_given, last_given};
+
+    /// The history before the first frame. It has no row, and no storage.
+    pub fn new() -> History
+        ensures stands { (settings : Settings) → Stands result settings [] }
+        ensures frames { frames_given result ≡ 0 }
+        ensures last { last_given result ≡ 0 }
+    {
+        History {
+            rows: Controls::new(StatusKind::EntryStatus),
+            runs: Runs::new(),
+            frames: 0,
+            last: 0,
+        }
+    }
+
+    /// Takes the storage of one row, which a group needs before the first Set. No variable changes.
+    pub fn reserve(&mut self, alloc: Global) -> Result<(), NoMemory>
+        ensures stands { (settings : Settings) (journal : Journal) → Stands self.old settings journal → Stands self.new settings journal }
+        ensures stocked { OnOk result (IsStocked self.new) }
+        ensures frames { frames_given self.new ≡ frames_given self.old }
+        ensures last { last_given self.new ≡ last_given self.old }
+    {
+        self.runs.grow(alloc, 1)
+    }
+
+    /// Counts a frame that passed at a moment, in milliseconds, which isn't below the one given last. Fewer than `MOST_FRAMES`
+    /// frames were given before.
+    pub fn frame(&mut self, facts: &Facts, moment: u32)
+        requires later { last_given self.old ≤ moment }
+        requires room { frames_given self.old < MOST_FRAMES }
+        requires length { facts.now.length ≤ MOST_OCTETS }
+        ensures stands { (settings : Settings) (journal : Journal) (frame : Frame) → Stands self.old settings journal → facts.now ≡ frame_facts settings frame
+            → frame.moment ≡ moment → Stands self.new settings (passes frame ∷ journal) }
+        ensures frames { frames_given self.new ≡ frames_given self.old + 1 }
+        ensures last { last_given self.new ≡ moment }
+        ensures stocked { IsStocked self.old → IsStocked self.new }
+    {
+        self.runs.frame(facts, moment);
+        self.frames += 1;
+        self.last = moment;
+    }
+}
