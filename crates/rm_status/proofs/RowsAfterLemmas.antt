@@ -1,5 +1,6 @@
 -- The rows of a control table after each act.
 use Rattle.std.proofs.Common.{◌≡◌, ℕ, ◌<◌, suc, List, [], ◌∷◌, length, Bool, true, false, cond, not, ◌&&◌, Option, Some, None, refl, sym, ap, subst, ◌∙◌, nat_eq, find, option_map, arith}
+use Rattle.std.specs.Prelude.{ℤ}
 use Rattle.std.specs.Option.{option_or, option_and_then}
 use Rattle.std.specs.Str.{bytes_eq}
 use Rattle.std.proofs.lemmas.Slice.Eq.{bytes_eq-Decides}
@@ -12,9 +13,9 @@ use Rattle.rm_model.specs.declared.row.Ask.{Ask}
 use Rattle.rm_model.specs.declared.row.Ask.TheVariants.{Nothing, Create, CreateValid, Enable, Disable, Destroy}
 use Rattle.rm_model.specs.declared.place.Place.{Place}
 use Rattle.rm_model.specs.declared.place.Place.TheVariants.{Outside, Entry, Column, Cell}
-use Rattle.rm_model.specs.Journal.{Act, Frame, Assignments, passes, assigns, Journal, frames_in, value_given}
+use Rattle.rm_model.specs.Journal.{Act, Frame, Assignments, passes, assigns, samples, Journal, frames_in, value_given}
 use Rattle.rm_model.specs.ControlTable.{ControlTable}
-use Rattle.rm_model.specs.ControlRows.{Beginning, cell_name, value_ask, set_ask, next_state, is_absent, is_valid, state_of, set_value, stays_valid, since}
+use Rattle.rm_model.specs.ControlRows.{Beginning, cell_name, value_ask, set_ask, act_ask, next_state, is_absent, is_valid, state_of, set_value, stays_valid, since}
 use Rattle.rm_model.specs.Judgement.{Bindings, name_at, place_of, place_behind, value_fault, writable_kind, alone_fault, second_pass, together_fault, row_fault, column_fault, is_always, is_made, is_again, is_crowded, is_ready_with, column_kind, is_sound, unless}
 use Rattle.rm_model.specs.Alike.{HasSameColumns}
 use Rattle.rm_model.proofs.Tables.{behind_front}
@@ -56,6 +57,21 @@ module _ {C : Type 0} (t : ControlTable) (beginning : Beginning) (set_to : C →
   -- a frame changes no row
   pub rows_passes : (rows : List (Row C)) (journal : Journal) (frame : Frame) → AreRowsAfter t beginning set_to rows journal → AreRowsAfter t beginning set_to rows (passes frame ∷ journal)
   rows_passes rows journal frame is = record { alike = record { states = is.alike.states; columns = is.alike.columns }; others = is.others }
+
+  -- a sample changes no row of a table that isn't sampled
+  module _ (unsampled : t.is_sampled ≡ false) (rows : List (Row C)) (journal : Journal) (moment alarm : ℕ) (reading : Option ℤ) where
+    asks_nothing : (r : Option ℤ) (index : List ℕ) → act_ask t (samples moment alarm r) index ≡ Nothing
+    asks_nothing (Some number) index = refl
+    asks_nothing None index = ap (λ b. cond (b && bytes_eq index (alarm ∷ [])) Destroy Nothing) unsampled
+
+    state_stays : (index : List ℕ) → state_of t beginning (samples moment alarm reading ∷ journal) index ≡ state_of t beginning journal index
+    state_stays index = ap (λ ask. next_state ask (state_of t beginning journal index)) (asks_nothing reading index)
+
+    pub rows_samples : AreRowsAfter t beginning set_to rows journal → AreRowsAfter t beginning set_to rows (samples moment alarm reading ∷ journal)
+    rows_samples is = record {
+      alike = record { states = λ i. is.alike.states i ∙ sym (state_stays (i ∷ [])); columns = is.alike.columns };
+      others = λ index other. state_stays index ∙ is.others index other;
+    }
 
   -- a change of the rows' other data leaves what their columns were set to
   module _ (change : ℕ → State → C → C) (keeps : (index : ℕ) (state : State) (columns : C) (n : ℕ) → set_to (change index state columns) n ≡ set_to columns n) (rows new : List (Row C)) (changed : (i : ℕ) → row_in new i ≡ option_map (changed_row change) (row_in rows i)) where
