@@ -6,7 +6,6 @@ pub mod PlaceLemmas
 pub mod Finds
 pub mod Asks
 pub mod Places
-pub mod RowProps
 pub mod RowLemmas
 pub mod RowEdits
 pub mod RowCalls

@@ -1,7 +1,6 @@
 -- What an alarm reads of a variable, by its value.
-use Rattle.std.specs.Prelude.{◌≡◌, pos, true, false, Option, Some, None}
-use Rattle.std.proofs.Common.{ap, ◌∙◌}
-use Rattle.std.specs.Option.{option_and_then, option_or}
+use Rattle.std.specs.Prelude.{pos, true, false, Option, Some, None}
+use Rattle.std.specs.Option.{option_and_then}
 use Rattle.rm_val.specs.Val.{Val, int, octets, null, name, ip, counter, gauge, ticks, opaque_octets, big, no_object, no_instance, end_of_view}
 use Rattle.rm_model.specs.declared.reading.Reading.{Reading}
 
@@ -24,7 +23,3 @@ reading_in end_of_view = None
 -- what a variable reads, by its value if it has one
 abbrev pub reading_of : Option Val → Option Reading
 reading_of value = option_and_then reading_in value
-
--- what two groups show is what the cells of both are
-pub both_show : {A : Type 0} {a b c d : Option A} → a ≡ b → c ≡ d → option_or a c ≡ option_or b d
-both_show {b = b} {c = c} e f = ap (λ o. option_or o c) e ∙ ap (option_or b) f

@@ -5,7 +5,7 @@ ghost use Rattle.rm_val.specs.Val.{val_of};
 ghost use Rattle.rm_model.specs.Settings.{Settings};
 ghost use Rattle.rm_model.specs.Journal.{Journal, last_moment};
 ghost use Rattle.rm_model.specs.Cells.{Cells, cells_of};
-ghost use Rattle.rm_status.specs.Readable.{reading_of, both_show};
+ghost use Rattle.rm_status.specs.Readable.{reading_of};
 ghost use Rattle.rm_status.specs.System.{system_table};
 
 use crate::both::Both;
@@ -24,33 +24,36 @@ pub trait Readable: Group {
     fn value(&self, name: &Oid, now: u32) -> Option<Value<'_>>
         ensures { option_map val_of result ≡ shown self.now now name.now };
 
-    /// They are the cells after each journal that the group stands for.
-    ghost shows: { (s : Self) (settings : Settings) (journal : Journal) (now : ℕ) → Self.Group.stands s settings journal → last_moment journal ≤ now → (name : List ℕ) → shown s now name ≡ Self.Group.cells settings journal now name };
+    /// A law: what it shows at a moment, in milliseconds, is its cells after each journal that it stands for, whose last
+    /// act isn't later. It does nothing.
+    fn shows(&self, now: u32)
+        ensures { (settings : Settings) (journal : Journal) → Self.Group.stands self.now settings journal → last_moment journal ≤ now
+            → (name : List ℕ) → shown self.now now name ≡ Self.Group.cells settings journal now name };
 }
 
 impl Readable for System {
-    ghost use Rattle.std.specs.Prelude.{refl};
-
     ghost shown = { λ s now. cells_of (system_table now) };
-
-    ghost shows = { λ s settings journal now stands later name. refl };
 
     fn value(&self, name: &Oid, now: u32) -> Option<Value<'_>> {
         scalar(name, now)
     }
+
+    fn shows(&self, _now: u32) {}
 }
 
 impl<G: Readable, H: Readable> Readable for Both<G, H> {
     ghost shown = { λ s now name. option_or (G.shown s.first now name) (H.shown s.second now name) };
-
-    ghost shows = { λ s settings journal now stands later name.
-        both_show (G.shows s.first settings journal now stands.0 later name) (H.shows s.second settings journal now stands.1 later name) };
 
     fn value(&self, name: &Oid, now: u32) -> Option<Value<'_>> {
         match self.first.value(name, now) {
             Some(value) => Some(value),
             None => self.second.value(name, now),
         }
+    }
+
+    fn shows(&self, now: u32) {
+        self.first.shows(now);
+        self.second.shows(now);
     }
 }
 
