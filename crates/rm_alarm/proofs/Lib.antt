@@ -7,3 +7,4 @@ mod AfterSets
 mod Changes
 mod Judged
 mod Cells
+mod Watching

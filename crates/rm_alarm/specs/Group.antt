@@ -6,9 +6,14 @@ use Rattle.rm_val.specs.Val.{Val, int}
 use Rattle.rm_val.specs.Spellable.{HasSpelling}
 use Rattle.rm_val.specs.declared.error.ErrorStatus.{ErrorStatus}
 use Rattle.rm_val.specs.declared.error.ErrorStatus.TheVariants.{InconsistentValue}
-use Rattle.rm_model.specs.Journal.{value_given}
+use Rattle.rm_model.specs.Settings.{Settings}
+use Rattle.rm_model.specs.Journal.{Journal, value_given}
+use Rattle.rm_model.specs.Cells.{cells_of}
+use Rattle.rm_model.specs.Finite.{AreFinite}
+use Rattle.rm_model.proofs.Finite.{table_finite}
+use Rattle.rm_model.proofs.Rows.{indexes_of, row_listed}
 use Rattle.rm_model.specs.ControlTable.{default_of}
-use Rattle.rm_model.specs.ControlRows.{Beginning, cell_name}
+use Rattle.rm_model.specs.ControlRows.{Beginning, cell_name, no_rows}
 use Rattle.rm_model.specs.Judgement.{Bindings, name_at, value_at, place_of, alone_fault, second_pass, IsFirstFault}
 use Rattle.rm_model.specs.Alarms.{alarm_entry, alarm_table, name_of}
 use Rattle.rm_model.specs.Readings.{Readings}
@@ -24,6 +29,7 @@ use Rattle.rm_alarm.specs.declared.alarms.Alarms.{Alarms}
 use Rattle.rm_alarm.specs.declared.row.AlarmRow.{AlarmRow}
 use Rattle.rm_alarm.specs.Rows.{set_to}
 use Rattle.rm_alarm.specs.Due.{due_at}
+use Rattle.rm_alarm.specs.AlarmTable.{alarms_table}
 
 -- what is wrong with a binding alone
 abbrev pub alarm_alone : List ℕ → Val → Option ErrorStatus
@@ -83,3 +89,7 @@ HasForgotten alarms = (alarm : ℕ) (row : Row AlarmRow) → row_in alarms.rows 
 -- a table that begins without a row lists none
 pub nothing_begins : (index : List ℕ) → false ≡ true → Contains [] index
 nothing_begins index is = absurd (cc)
+
+-- the cells are finitely many
+pub alarms_finite : (settings : Settings) (journal : Journal) → AreFinite (cells_of (alarms_table settings journal))
+alarms_finite settings journal = table_finite (alarms_table settings journal) (indexes_of alarm_table [] journal) (row_listed alarm_table no_rows [] nothing_begins journal)

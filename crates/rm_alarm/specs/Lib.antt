@@ -8,3 +8,4 @@ pub mod Due
 pub mod AlarmTable
 pub mod Standing
 pub mod Group
+pub mod Watched

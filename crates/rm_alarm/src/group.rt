@@ -1,5 +1,5 @@
 // The group alarm, as a group of objects.
-ghost use Rattle.std.specs.Prelude.{◌≡◌, ℕ, List, []};
+ghost use Rattle.std.specs.Prelude.{◌≡◌, ℕ, List};
 
 use crate::alarms::Alarms;
 use crate::cell::{COLUMNS, STATUS, cell_of, entry};
@@ -15,11 +15,9 @@ impl Group for Alarms {
     ghost use Rattle.rm_model.specs.ControlRows.{no_rows};
     ghost use Rattle.rm_model.specs.Judgement.{rows_after};
     ghost use Rattle.rm_model.specs.Alarms.{alarm_table};
-    ghost use Rattle.rm_model.proofs.Finite.{table_finite};
-    ghost use Rattle.rm_model.proofs.Rows.{indexes_of, row_listed};
     ghost use Rattle.rm_alarm.specs.AlarmTable.{alarms_table};
     ghost use Rattle.rm_alarm.specs.Standing.{Stands};
-    ghost use Rattle.rm_alarm.specs.Group.{alarm_alone, alarm_together, AreFine, HasForgotten, nothing_begins};
+    ghost use Rattle.rm_alarm.specs.Group.{alarm_alone, alarm_together, AreFine, HasForgotten, alarms_finite};
 
     ghost stands = { Stands };
 
@@ -43,8 +41,7 @@ impl Group for Alarms {
 
     ghost released = { HasForgotten };
 
-    ghost finite = { λ settings journal now.
-        table_finite (alarms_table settings journal) (indexes_of alarm_table [] journal) (row_listed alarm_table no_rows [] nothing_begins journal) };
+    ghost finite = { λ settings journal now. alarms_finite settings journal };
 
     fn cell(&self, name: &Oid, _now: u32) -> Option<Value<'_>> {
         prove!(self.rows.len() <= 16);

@@ -20,6 +20,7 @@ mod taking;
 mod tests;
 mod thresholds;
 mod values;
+mod watched;
 
 pub use alarms::Alarms;
 pub use course::Course;
@@ -28,3 +29,4 @@ pub use laws::{crossing_conditions, frames_pass, one_crossing};
 pub use rm_model::Sampled;
 pub use row::AlarmRow;
 pub use thresholds::Thresholds;
+pub use watched::Watched;

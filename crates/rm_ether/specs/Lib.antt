@@ -5,3 +5,4 @@ pub mod Standing
 pub mod StatisticsRows
 pub mod Shown
 pub mod Group
+pub mod Sampled

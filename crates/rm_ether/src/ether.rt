@@ -8,8 +8,8 @@ use crate::column::COLUMNS;
 use crate::row::StatisticsRow;
 use rm_proto::Facts;
 use rm_status::{
-    Assigns, Controls, Denied, Group, Look, Objects, State, StatusKind, Verdict, is_of_column,
-    next_name,
+    Assigns, Controls, Denied, Group, Look, Objects, Readable, State, StatusKind, Unsampled,
+    Verdict, is_of_column, next_name,
 };
 use rm_val::{Oid, Value};
 use std::alloc::Global;
@@ -150,4 +150,25 @@ impl Objects for Ether {
     fn has_object(name: &Oid) -> bool {
         is_of_column(name, &entry(), &COLUMNS)
     }
+}
+
+impl Readable for Ether {
+    ghost use Rattle.rm_model.specs.Cells.{cells_of};
+    ghost use Rattle.rm_ether.specs.Shown.{rows_table};
+
+    ghost shown = { λ s now. cells_of (rows_table s.rows) };
+
+    fn value(&self, name: &Oid, _now: u32) -> Option<Value<'_>> {
+        cell_of(&self.rows, name)
+    }
+
+    fn shows(&self, _now: u32) {
+        prove!(self.rows.len() <= 16);
+    }
+}
+
+impl Unsampled for Ether {
+    ghost use Rattle.rm_ether.specs.Sampled.{ether_sampled};
+
+    ghost sampled = { λ s settings journal moment alarm reading stands. ether_sampled settings journal moment alarm reading s stands };
 }

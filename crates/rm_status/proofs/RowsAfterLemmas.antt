@@ -1,5 +1,6 @@
 -- The rows of a control table after each act.
 use Rattle.std.proofs.Common.{◌≡◌, ℕ, ◌<◌, suc, List, [], ◌∷◌, length, Bool, true, false, cond, not, ◌&&◌, Option, Some, None, refl, sym, ap, subst, ◌∙◌, nat_eq, find, option_map, arith}
+use Rattle.std.specs.Prelude.{ℤ}
 use Rattle.std.specs.Option.{option_or, option_and_then}
 use Rattle.std.specs.Str.{bytes_eq}
 use Rattle.std.proofs.lemmas.Slice.Eq.{bytes_eq-Decides}
@@ -12,9 +13,9 @@ use Rattle.rm_model.specs.declared.row.Ask.{Ask}
 use Rattle.rm_model.specs.declared.row.Ask.TheVariants.{Nothing, Create, CreateValid, Enable, Disable, Destroy}
 use Rattle.rm_model.specs.declared.place.Place.{Place}
 use Rattle.rm_model.specs.declared.place.Place.TheVariants.{Outside, Entry, Column, Cell}
-use Rattle.rm_model.specs.Journal.{Act, Frame, Assignments, passes, assigns, Journal, frames_in, value_given}
+use Rattle.rm_model.specs.Journal.{Act, Frame, Assignments, passes, assigns, samples, Journal, frames_in, value_given}
 use Rattle.rm_model.specs.ControlTable.{ControlTable}
-use Rattle.rm_model.specs.ControlRows.{Beginning, cell_name, value_ask, set_ask, next_state, is_absent, is_valid, state_of, set_value, stays_valid, since}
+use Rattle.rm_model.specs.ControlRows.{Beginning, cell_name, value_ask, set_ask, act_ask, next_state, is_absent, is_valid, state_of, set_value, stays_valid, since}
 use Rattle.rm_model.specs.Judgement.{Bindings, name_at, place_of, place_behind, value_fault, writable_kind, alone_fault, second_pass, together_fault, row_fault, column_fault, is_always, is_made, is_again, is_crowded, is_ready_with, column_kind, is_sound, unless}
 use Rattle.rm_model.specs.Alike.{HasSameColumns}
 use Rattle.rm_model.proofs.Tables.{behind_front}
@@ -52,10 +53,27 @@ none_given t column index other (b ∷ more) fine =
       | false ↦ λ _. none_given t column index other more fine.1
     ] refl
 
+-- A sample asks nothing of a row of a table that isn't sampled.
+
+module _ (t : ControlTable) (beginning : Beginning) (unsampled : t.is_sampled ≡ false) (journal : Journal) (moment alarm : ℕ) (reading : Option ℤ) (index : List ℕ) where
+  asks_nothing : (r : Option ℤ) → act_ask t (samples moment alarm r) index ≡ Nothing
+  asks_nothing (Some number) = refl
+  asks_nothing None = ap (λ b. cond (b && bytes_eq index (alarm ∷ [])) Destroy Nothing) unsampled
+
+  pub state_sampled : state_of t beginning (samples moment alarm reading ∷ journal) index ≡ state_of t beginning journal index
+  state_sampled = ap (λ ask. next_state ask (state_of t beginning journal index)) (asks_nothing reading)
+
 module _ {C : Type 0} (t : ControlTable) (beginning : Beginning) (set_to : C → ℕ → Option Val) where
   -- a frame changes no row
   pub rows_passes : (rows : List (Row C)) (journal : Journal) (frame : Frame) → AreRowsAfter t beginning set_to rows journal → AreRowsAfter t beginning set_to rows (passes frame ∷ journal)
   rows_passes rows journal frame is = record { alike = record { states = is.alike.states; columns = is.alike.columns }; others = is.others }
+
+  -- a sample changes no row of a table that isn't sampled
+  pub rows_samples : t.is_sampled ≡ false → (rows : List (Row C)) (journal : Journal) (moment alarm : ℕ) (reading : Option ℤ) → AreRowsAfter t beginning set_to rows journal → AreRowsAfter t beginning set_to rows (samples moment alarm reading ∷ journal)
+  rows_samples unsampled rows journal moment alarm reading is = record {
+    alike = record { states = λ i. is.alike.states i ∙ sym (state_sampled t beginning unsampled journal moment alarm reading (i ∷ [])); columns = is.alike.columns };
+    others = λ index other. state_sampled t beginning unsampled journal moment alarm reading index ∙ is.others index other;
+  }
 
   -- a change of the rows' other data leaves what their columns were set to
   module _ (change : ℕ → State → C → C) (keeps : (index : ℕ) (state : State) (columns : C) (n : ℕ) → set_to (change index state columns) n ≡ set_to columns n) (rows new : List (Row C)) (changed : (i : ℕ) → row_in new i ≡ option_map (changed_row change) (row_in rows i)) where
@@ -122,6 +140,16 @@ since_starts t beginning act journal index starts = ap (λ b. cond b (act ∷ si
 -- a Set is no frame
 pub frames_kept : (t : ControlTable) (beginning : Beginning) (moment : ℕ) (values : Assignments) (journal : Journal) (index : List ℕ) → stays_valid t beginning (assigns moment values) journal index ≡ true → frames_in (since t beginning (assigns moment values ∷ journal) index) ≡ frames_in (since t beginning journal index)
 frames_kept t beginning moment values journal index stays = ap (λ b. frames_in (cond b (assigns moment values ∷ since t beginning journal index) [])) stays
+
+-- a sample is no frame
+pub frames_sampled : (t : ControlTable) (beginning : Beginning) → t.is_sampled ≡ false → (journal : Journal) (moment alarm : ℕ) (reading : Option ℤ) (index : List ℕ) → frames_in (since t beginning (samples moment alarm reading ∷ journal) index) ≡ frames_in (since t beginning journal index)
+frames_sampled t beginning unsampled journal moment alarm reading index =
+    ap (λ s. frames_in (cond (is_valid (state_of t beginning journal index) && is_valid s) (samples moment alarm reading ∷ since t beginning journal index) [])) (state_sampled t beginning unsampled journal moment alarm reading index)
+    ∙ by_state (is_valid (state_of t beginning journal index)) refl
+  where
+    by_state : (valid : Bool) → is_valid (state_of t beginning journal index) ≡ valid → frames_in (cond (valid && valid) (samples moment alarm reading ∷ since t beginning journal index) []) ≡ frames_in (since t beginning journal index)
+    by_state true e = refl
+    by_state false e = ap frames_in (sym (since_idle t beginning journal index e))
 
 -- other data of a row stays where each column leaves it
 module _ {C D : Type 0} (t : ControlTable) (with_column : C → ℕ → Val → C) (blank : C) (other : C → D) (leaves : (c : C) (n : ℕ) (v : Val) → other (with_column c n v) ≡ other c) where

@@ -12,3 +12,4 @@ pub mod Values
 pub mod Indexes
 pub mod RowsAfter
 pub mod Bare
+pub mod Readable

@@ -102,7 +102,7 @@ impl Objects for System {
 }
 
 /// The value of the scalar with that name at a moment in milliseconds. None where the group has no such scalar.
-fn scalar(name: &Oid, now: u32) -> Option<Value<'static>>
+pub(crate) fn scalar(name: &Oid, now: u32) -> Option<Value<'static>>
     ensures value { option_map val_of result ≡ cells_of (system_table now) name.now }
     ensures spelling { IfSome result (λ value. HasSpelling (val_of value)) }
 {

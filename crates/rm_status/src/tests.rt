@@ -3,6 +3,7 @@ ghost use Rattle.std.specs.Prelude.{◌≤◌};
 mod beside;
 mod given;
 mod made_up;
+mod readings;
 mod seen;
 mod sets;
 mod slot;

@@ -1,0 +1,19 @@
+use Rattle.rm_alarm.proofs.Watching.{reads}
+use Rattle.rm_alarm.proofs.watched.WatchedGroup.prepare.Goals as goal
+
+pub returns-clause-stands : goal.returns-clause-stands
+returns-clause-stands g c settings journal is = record {
+  readings = is.readings;
+  watched = c.prepare.ensures.stands settings journal is.watched;
+  stand = c.remember.ensures.stands settings journal is.stand;
+  based = c.remember.ensures.based settings journal is.based;
+}
+
+pub returns-clause-ready : goal.returns-clause-ready
+returns-clause-ready g c = record {
+  watched = c.in_ok-prepare.ensures.ready;
+  fine = c.remember.ensures.fine;
+  read = λ settings journal readings stands later.
+      c.remember.ensures.read settings journal
+      (reads g.G.Group.cells (g.G.Readable.shown c.prepare.new.self c.args.now) settings journal c.args.now (c.shows.ensures settings journal stands later) readings);
+}

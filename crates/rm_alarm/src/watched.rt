@@ -1,0 +1,154 @@
+// A group, and the alarms that sample its variables.
+ghost use Rattle.std.specs.Prelude.{◌≡◌, ℕ, ◌≤◌, List, ◌∷◌, ◌||◌, Some};
+ghost use Rattle.std.specs.Option.{option_map, option_or};
+ghost use Rattle.rm_model.specs.Settings.{Settings};
+ghost use Rattle.rm_model.specs.Journal.{Journal, samples, last_moment};
+ghost use Rattle.rm_model.specs.Cells.{cells_of, is_of_column};
+ghost use Rattle.rm_model.specs.ControlRows.{no_rows};
+ghost use Rattle.rm_model.specs.Judgement.{rows_after};
+ghost use Rattle.rm_model.specs.Alarms.{alarm_entry, alarm_table, sampled, due_of, IsNextDue};
+ghost use Rattle.rm_model.proofs.Finite.{both_finite};
+ghost use Rattle.rm_alarm.specs.AlarmTable.{alarm_columns, alarms_table};
+ghost use Rattle.rm_alarm.specs.Group.{alarm_alone, alarm_together, AreFine, HasForgotten, alarms_finite, due_in};
+ghost use Rattle.rm_alarm.specs.Watched.{AreWatched, ArePrepared, number_read};
+
+use crate::alarms::Alarms;
+use rm_model::Sampled;
+use rm_status::{
+    Assigns, Denied, Group, Look, Objects, Readable, Sight, Unsampled, Verdict, choose_nearer,
+    lower_verdict,
+};
+use rm_val::{Oid, Value};
+use std::alloc::Global;
+
+/// A group, and the alarms that sample its variables, as one group. Where both have a variable of a name, the group's counts.
+/// A judgement names the lower of the bindings that theirs name, by the group's where both name the same.
+#[derive(Drop)]
+pub struct Watched<G> {
+    /// The group whose variables alarms may sample.
+    pub watched: G,
+    /// The alarms.
+    pub alarms: Alarms,
+}
+
+impl<G: Readable> Group for Watched<G> {
+    ghost stands = { λ s settings journal. AreWatched G.cells (G.stands s.watched settings journal) s.alarms settings journal };
+
+    ghost clock = { λ s. G.clock s.watched };
+
+    ghost frames = { λ s. G.frames s.watched };
+
+    ghost stocked = { λ s. G.stocked s.watched };
+
+    ghost cells = { λ settings journal now name. option_or (G.cells settings journal now name) (cells_of (alarms_table settings journal) name) };
+
+    ghost alone = { λ name value. option_or (G.alone name value) (alarm_alone name value) };
+
+    ghost together = { λ settings journal now readings bindings place.
+        option_or (G.together settings journal now readings bindings place)
+        (alarm_together (settings.readings journal now) (rows_after alarm_table no_rows journal) bindings place) };
+
+    ghost reserves = { λ settings journal bindings index. G.reserves settings journal bindings index };
+
+    ghost accepts = { λ s now readings bindings. G.accepts s.watched now readings bindings × AreFine s.alarms bindings };
+
+    ghost prepared = { λ s now bindings. ArePrepared G.cells (G.stands s.watched) (G.prepared s.watched now bindings) s.alarms now bindings };
+
+    ghost released = { λ s. G.released s.watched × HasForgotten s.alarms };
+
+    ghost finite = { λ settings journal now.
+        both_finite (G.cells settings journal now) (cells_of (alarms_table settings journal)) (G.finite settings journal now) (alarms_finite settings journal) };
+
+    fn cell(&self, name: &Oid, now: u32) -> Option<Value<'_>> {
+        match self.watched.cell(name, now) {
+            Some(value) => Some(value),
+            None => self.alarms.cell(name, now),
+        }
+    }
+
+    fn after(&self, name: &Oid, now: u32, out: &mut Oid) -> Option<Value<'_>> {
+        let mut other = Oid::new();
+        let watched = self.watched.after(name, now, out);
+        let alarm = self.alarms.after(name, now, &mut other);
+        choose_nearer(watched, out, alarm, other)
+    }
+
+    fn judge_alone<A: Assigns>(&self, set: &A) -> Verdict {
+        lower_verdict(self.watched.judge_alone(set), self.alarms.judge_alone(set))
+    }
+
+    fn judge_rows<A: Assigns, L: Look>(&self, set: &A, now: u32, look: &L) -> Verdict {
+        self.watched.shows(now);
+        let sight = Sight {
+            group: &self.watched,
+        };
+        let watched = self.watched.judge_rows(set, now, look);
+        let alarms = self.alarms.judge_rows(set, now, &sight);
+        lower_verdict(watched, alarms)
+    }
+
+    fn prepare<A: Assigns, L: Look>(
+        &mut self,
+        alloc: Global,
+        set: &A,
+        now: u32,
+        look: &L,
+    ) -> Result<(), Denied> {
+        self.watched.prepare(alloc, set, now, look)?;
+        self.watched.shows(now);
+        let sight = Sight {
+            group: &self.watched,
+        };
+        self.alarms.remember(set, now, &sight);
+        Ok(())
+    }
+
+    fn commit<A: Assigns>(&mut self, set: &A, now: u32) {
+        self.alarms.assign(set, now);
+        self.watched.commit(set, now);
+    }
+
+    fn discard(&mut self) {
+        self.alarms.forget();
+        self.watched.discard();
+    }
+}
+
+impl<G: Objects> Objects for Watched<G> {
+    ghost objects = { λ name. G.objects name || is_of_column alarm_entry alarm_columns name };
+
+    fn has_object(name: &Oid) -> bool {
+        G::has_object(name) || Alarms::has_object(name)
+    }
+}
+
+impl<G: Readable + Unsampled> Watched<G> {
+    /// The sample that is taken next: its moment, in milliseconds, and the number of the alarm. It is the earliest, and of
+    /// several at one moment the one of the lowest alarm. None where no alarm is valid.
+    pub fn next_due(&self) -> Option<(u64, u32)>
+        ensures next { IsNextDue (due_in self.now.alarms) result }
+        ensures journal { (settings : Settings) (journal : Journal) → AreWatched G.cells (G.stands self.now.watched settings journal) self.now.alarms settings journal
+            → IsNextDue (due_of journal) result }
+    {
+        self.alarms.next_due()
+    }
+
+    /// Takes the sample of an alarm that is due at a moment, in milliseconds, and tells what it comes to. The row of an alarm
+    /// whose variable is gone is removed.
+    pub fn sample(&mut self, index: u32, moment: u32) -> Sampled
+        requires { due_in self.old.alarms index ≡ Some moment }
+        ensures watched { self.new.watched ≡ self.old.watched }
+        ensures stands { (settings : Settings) (journal : Journal) → AreWatched G.cells (G.stands self.old.watched settings journal) self.old.alarms settings journal
+            → last_moment journal ≤ moment
+            → let after = samples moment index (number_read settings journal moment index) ∷ journal in
+            AreWatched G.cells (G.stands self.new.watched settings after) self.new.alarms settings after }
+        ensures result { (settings : Settings) (journal : Journal) → AreWatched G.cells (G.stands self.old.watched settings journal) self.old.alarms settings journal
+            → last_moment journal ≤ moment → result ≡ sampled settings journal moment index (number_read settings journal moment index) }
+    {
+        self.watched.shows(moment);
+        let sight = Sight {
+            group: &self.watched,
+        };
+        self.alarms.sample(index, moment, &sight)
+    }
+}
