@@ -7,6 +7,7 @@ use crate::request::Request;
 use crate::respond::respond;
 use crate::settings::Settings;
 use rm_ether::{Ether, MOST_FRAMES};
+use rm_history::History;
 use rm_pcap::Frame;
 use rm_pdu::{Bindings, read_message};
 use rm_proto::facts;
@@ -21,7 +22,7 @@ pub const MOST_REPLY: usize = 1472;
 #[derive(Drop)]
 pub struct Agent {
     settings: Settings,
-    groups: Both<System, Ether>,
+    groups: Both<System, Both<Ether, History>>,
     // The last moment that it was given, in milliseconds.
     last: u32,
     // How many frames it was given.
@@ -38,18 +39,24 @@ impl Agent {
     ghost use Rattle.rm_agent.specs.Answers.{reason_for, reason_in, IsReplied, IsShort};
     ghost use Rattle.rm_agent.specs.Agent.{settings_of, last_given, frames_given, Stands};
 
-    /// The agent before the first frame. It asks for no memory yet.
-    pub fn new(_alloc: Global, settings: Settings) -> Result<Agent, NoMemory>
+    /// The agent before the first frame. It takes the storage of one row of each table whose rows take storage while they are
+    /// valid. NoMemory where there is none.
+    pub fn new(alloc: Global, settings: Settings) -> Result<Agent, NoMemory>
         ensures stands { IfOk result (λ agent. Stands agent []) }
         ensures settings { IfOk result (λ agent. settings_of agent ≡ settings) }
         ensures last { IfOk result (λ agent. last_given agent ≡ 0) }
         ensures frames { IfOk result (λ agent. frames_given agent ≡ 0) }
     {
+        let mut history = History::new();
+        history.reserve(alloc)?;
         Ok(Agent {
             settings,
             groups: Both {
                 first: System,
-                second: Ether::new(),
+                second: Both {
+                    first: Ether::new(),
+                    second: history,
+                },
             },
             last: 0,
             frames: 0,
@@ -69,7 +76,8 @@ impl Agent {
         ensures frames { frames_given self.new ≡ frames_given self.old + 1 }
     {
         let facts = facts(frame.bytes, frame.original, self.settings.keep_short);
-        self.groups.second.frame(&facts, frame.moment);
+        self.groups.second.first.frame(&facts, frame.moment);
+        self.groups.second.second.frame(&facts, frame.moment);
         self.last = frame.moment;
         self.frames += 1;
     }

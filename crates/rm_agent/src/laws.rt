@@ -11,6 +11,7 @@ ghost use Rattle.rm_agent.specs.Sets.{given_by};
 ghost use Rattle.rm_agent.specs.Groups.{Reserves};
 
 use rm_ether::Ether;
+use rm_history::History;
 use rm_pdu::{Kind, bindings_lengthen, empty_messages_are_short};
 use rm_status::{Both, Group, System, next_or_none};
 
@@ -32,7 +33,7 @@ pub fn every_reply()
     bindings_lengthen();
     empty_messages_are_short();
     next_or_none();
-    cells_are_finite::<Both<System, Ether>>();
+    cells_are_finite::<Both<System, Both<Ether, History>>>();
 }
 
 // A law: the cells of a group are finitely many.
