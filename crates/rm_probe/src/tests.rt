@@ -8,6 +8,8 @@ use std::process::Abort;
 use std::test::Fail;
 
 mod datagrams;
+mod exchange;
+mod history;
 mod message;
 mod output;
 mod sets;
@@ -113,7 +115,7 @@ fn check(
     what: &str,
 ) -> Result<(), Fail> {
     let mut shelf = shelf_of(alloc, capture, requests)?;
-    let mut out = sink_of(alloc, 4096)?;
+    let mut out = sink_of(alloc, 16_384)?;
     let ended = run_replay(alloc, &mut shelf, &mut out)?;
     assert_eq!(rt; ended, status, "{what}");
     assert_eq!(rt; str::from_utf8(out.bytes())?, text, "{what}");

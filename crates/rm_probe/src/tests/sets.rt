@@ -1,10 +1,6 @@
 // SetRequests in a run: a Set acts from its own place in the order of events on, and at one moment frames come first.
-use super::message::{
-    GET, NO_INSTANCE, NULL, NUMBERS, PRIVATE, PUBLIC, RESPONSE, SET, bindings, message,
-};
-use super::{capture_of, check};
-use crate::Status;
-use std::alloc::Global;
+use super::exchange::{Exchange, check_exchanges};
+use super::message::{GET, NO_INSTANCE, NULL, PRIVATE, PUBLIC, SET};
 use std::test::Fail;
 
 // The contents of the names of etherStatsPkts of rows 1 to 3, etherStatsOwner.2, and etherStatsStatus of rows 2 and 3.
@@ -19,18 +15,6 @@ const OWNER_2: &str = "2b06010201100101011402";
 const STATUS_2: &str = "2b06010201100101011502";
 
 const STATUS_3: &str = "2b06010201100101011503";
-
-// A request at a moment, and its reply.
-struct Exchange {
-    moment: u32,
-    community: &'static str,
-    // The tag of the request's PDU.
-    tag: &'static str,
-    given: &'static [(&'static str, &'static str)],
-    // The error-status and the error-index.
-    fault: (u8, u8),
-    told: &'static [(&'static str, &'static str)],
-}
 
 // Frames come at 1000, 2000, 2000 and 2001. Row 2 becomes valid before those at 2000, and row 3 behind them.
 const EXCHANGES: [Exchange; 11] = [
@@ -124,52 +108,13 @@ const EXCHANGES: [Exchange; 11] = [
     },
 ];
 
-// The response with this error-status and this error-index, each of one octet, and these bindings.
-fn response(
-    alloc: Global,
-    community: &str,
-    (status, index): (u8, u8),
-    told: &[(&str, &str)],
-) -> Result<String, Fail> {
-    let numbers = format!(in alloc; "0201010201{status:02x}0201{index:02x}")?;
-    message(
-        alloc,
-        community,
-        RESPONSE,
-        &numbers,
-        &bindings(alloc, told)?,
-    )
-}
-
 #[test]
 fn sets_act_in_the_order_of_events(rt: HostRuntime) -> Result<(), Fail> {
-    let alloc = rt.alloc();
-    let mut requests = String::new(alloc);
-    let mut text = String::new(alloc);
-    for (place, exchange) in EXCHANGES.iter().enumerate() {
-        let Exchange {
-            moment,
-            community,
-            tag,
-            ..
-        } = exchange;
-        let given = bindings(alloc, exchange.given)?;
-        let request = message(alloc, community, tag, NUMBERS, &given)?;
-        requests.push_str(&format!(in alloc; "{moment} {request}\n")?)?;
-        let number = place + 1;
-        let reply = response(alloc, community, exchange.fault, exchange.told)?;
-        text.push_str(&format!(in alloc; "{moment} {number} reply {reply}\n")?)?;
-    }
-    text.push_str("end 4 11\n")?;
-    let capture = capture_of(
-        alloc,
-        &[
-            [9, 0, 60, 60],
-            [10, 0, 60, 60],
-            [10, 0, 60, 60],
-            [10, 1000, 60, 60],
-        ],
-    )?;
-    let files = (capture.as_slice(), requests.as_bytes());
-    check(&rt, alloc, files, (Status::Done, &text), "sets")
+    let records = [
+        [9, 0, 60, 60],
+        [10, 0, 60, 60],
+        [10, 0, 60, 60],
+        [10, 1000, 60, 60],
+    ];
+    check_exchanges(&rt, rt.alloc(), &records, &EXCHANGES, "sets")
 }
