@@ -1,5 +1,6 @@
 // What buckets count. The frames have 60 octets without the check sequence.
 mod shown;
+mod walk;
 
 use crate::plan::Plan;
 use crate::run::Run;
