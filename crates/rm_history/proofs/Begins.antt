@@ -76,13 +76,6 @@ module _ (rows : List (Row ControlColumns)) (now : ℕ) where
           others row (omega arith) (apart row (λ e. omega arith)) ∙ to.rest row (omega arith);
     }
 
-  pub all_begun : (last : ℕ) (runs new : List Run) → IsIndexAfter rows last None → HasBegunTo last runs new → AllBegin now rows runs new
-  all_begun last runs new none to row some =
-      elim (nat_le row last) as (λ t. nat_le row last ≡ t → Begins now row (run_in runs row) (valid_columns rows row) (run_in new row)) [
-        | true ↦ λ is. to.begun row some (le_is row last is)
-        | false ↦ λ is. let above : last < row = le_isnt row last is in nothing_there row (run_in runs row) (run_in new row) (none row above) (to.rest row above)
-      ] refl
-
   -- a history that there is then is that of a valid row
   of_valid : (row : ℕ) (o n : Option Run) (c : Option ControlColumns) → valid_columns rows row ≡ c → (is_some o ≡ true → valid_in rows row ≡ true) → Begins now row o c n → is_some n ≡ true → valid_in rows row ≡ true
   of_valid row (Some run) n c is used b some = used refl

@@ -3,10 +3,11 @@ mod Rings
 mod Frames
 mod Each
 mod Spares
-mod ShownRows
-mod Walks
-mod SameCells
 mod Becoming
 mod Storage
 mod InRange
 mod Begins
+mod AfterSets
+mod ShownRows
+mod Walks
+mod SameCells

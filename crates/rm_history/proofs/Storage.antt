@@ -121,3 +121,11 @@ module _ (t : ControlTable) (before others : Beginning) (bs : Bindings) (same : 
 
   pub count_after_alike : count_valid_after t before bs ≡ count_valid_after t others bs
   count_after_alike = ap (λ p. count_below p 65536) (λ d row. ap (λ s. is_valid (next_state (set_ask t bs (row ∷ [])) s)) (same row) d)
+
+-- the rows that have a history are 65535 at most
+pub numbered : (rows : List (Row ControlColumns)) → AreControlRows rows → (runs : List Run) → ((row : ℕ) → 1 ≤ row → is_some (run_in runs row) ≡ valid_in rows row) → (row : ℕ) → is_some (run_in runs row) ≡ true → row ≤ 65535
+numbered rows there runs held zero some = omega arith
+numbered rows there runs held (suc row) some = most (suc row) (valid_number rows (suc row) there.1 (sym (held (suc row) (omega arith)) ∙ some))
+  where
+    most : (n : ℕ) → is_row_number n ≡ true → n ≤ 65535
+    most n is = let lt = below n is in omega (arith, lt)

@@ -8,9 +8,9 @@ pub mod ColumnLaws
 pub mod Standing
 pub mod Runs
 pub mod Shown
-pub mod Walk
-pub mod SampleNumbers
-pub mod Finite
 pub mod Begun
 pub mod WellHeld
 pub mod Group
+pub mod Walk
+pub mod SampleNumbers
+pub mod Finite

@@ -1,11 +1,13 @@
 //! The history of Ethernet interfaces: historyControlTable and etherHistoryTable (RFC 1757, sections 5.2 and 5.3).
 #![tactic(auto)]
 
+mod assigning;
 mod beginning;
 mod cells;
 mod control_cell;
 mod control_column;
 mod control_columns;
+mod group;
 mod history;
 mod plan;
 mod preparing;
@@ -17,3 +19,5 @@ mod samples;
 mod shown_buckets;
 #[cfg(test)]
 mod tests;
+
+pub use history::History;

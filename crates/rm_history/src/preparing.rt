@@ -6,22 +6,16 @@ ghost use Rattle.rm_model.specs.ControlRows.{no_rows};
 ghost use Rattle.rm_model.specs.Judgement.{rows_after};
 ghost use Rattle.rm_model.specs.Reserves.{Reserves, count_valid_after};
 ghost use Rattle.rm_status.specs.Rows.{rows_before};
-ghost use Rattle.rm_history.specs.HistoryControl.{control_entry, history_control};
+ghost use Rattle.rm_history.specs.HistoryControl.{history_control};
 ghost use Rattle.rm_history.specs.ControlColumns.{set_to};
 ghost use Rattle.rm_history.specs.Group.{Stands, AreFine, IsStocked, IsReady, IsReleased, frames_given, last_given};
 
+use crate::control_cell::control_entry;
 use crate::control_columns::STATUS;
 use crate::history::History;
 use rm_status::{Assigns, Denied};
-use rm_val::{NoMemory, Oid};
+use rm_val::NoMemory;
 use std::alloc::Global;
-
-/// The identifier of historyControlEntry.
-pub(crate) fn control_entry() -> Oid
-    ensures { result ≡ control_entry }
-{
-    Oid::from_slice(&[1, 3, 6, 1, 2, 1, 16, 2, 1, 1]).unwrap()
-}
 
 impl History {
     /// Takes the storage of each row that is valid after a Set, with which nothing is wrong. Denied where there is no memory

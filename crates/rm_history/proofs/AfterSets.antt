@@ -1,0 +1,214 @@
+-- The rows and the histories after a Set with which nothing is wrong.
+use Rattle.std.proofs.Common.{◌≡◌, ℕ, ◌<◌, ◌≤◌, List, [], ◌∷◌, length, map, Bool, true, false, cond, ◌&&◌, Option, Some, None, refl, sym, ◌∙◌, ap, subst, nat_eq, arith}
+use Rattle.std.specs.Prelude.{pos, is_some, unwrap_or}
+use Rattle.std.specs.List.{AllByRecursion}
+use Rattle.std.specs.Option.{option_or, option_and_then}
+use Rattle.rm_val.specs.Val.{Val, int, name}
+use Rattle.rm_model.specs.Settings.{Settings}
+use Rattle.rm_model.specs.Journal.{Assignments, Journal, assigns, frames_in, last_moment, value_given}
+use Rattle.rm_model.specs.Interfaces.{interface_name, frames_of}
+use Rattle.rm_model.specs.ControlTable.{default_of}
+use Rattle.rm_model.specs.ControlRows.{no_rows, cell_name, set_ask, next_state, is_absent, is_valid, set_value, stays_valid, since, activated}
+use Rattle.rm_model.specs.Judgement.{Bindings, count_below, second_pass, is_always}
+use Rattle.rm_model.specs.Reserves.{count_valid, count_valid_after}
+use Rattle.rm_model.specs.declared.row.State.{State}
+use Rattle.rm_model.specs.declared.row.State.TheVariants.{Absent, UnderCreation, Valid}
+use Rattle.rm_status.specs.declared.row.Row.{Row}
+use Rattle.rm_status.specs.Rows.{row_in, rows_before, state_seen, columns_seen, state_in, AreControlRows}
+use Rattle.rm_status.specs.Commit.{row_after}
+use Rattle.rm_status.specs.RowsAfter.{AreRowsAfter}
+use Rattle.rm_status.proofs.Bares.{state_then}
+use Rattle.rm_status.proofs.Puts.{AllFine}
+use Rattle.rm_status.proofs.RowsAfterLemmas.{rows_assigns, since_starts, frames_kept, fixed_column}
+use Rattle.rm_history.specs.declared.control_columns.ControlColumns.{ControlColumns}
+use Rattle.rm_history.specs.declared.plan.Plan.{Plan}
+use Rattle.rm_history.specs.declared.run.Run.{Run}
+use Rattle.rm_history.specs.Buckets.{end_of, bucket_sum}
+use Rattle.rm_history.specs.HistoryControl.{history_control, control_state, control_set, granted, plan_of, counted_frames}
+use Rattle.rm_status.specs.Values.{natural_in}
+use Rattle.rm_history.specs.ControlColumns.{set_to, blank_columns, with_column}
+use Rattle.rm_history.specs.ColumnLaws.{blank_alike, set_with}
+use Rattle.rm_history.specs.Run.{Keeps}
+use Rattle.rm_history.specs.Runs.{run_in, valid_in, released, Fits, IsBegun}
+use Rattle.rm_history.specs.Standing.{IsRun, IsHistory, AreHistories}
+use Rattle.rm_history.specs.Begun.{plan_from, if_valid, valid_columns, Begins, AllBegin}
+use Rattle.rm_history.proofs.InRange.{is_after}
+use Rattle.rm_history.proofs.Spares.{released_in, all_map}
+
+valid_is : (s : State) → is_valid s ≡ true → s ≡ Valid
+valid_is Absent h = cc
+valid_is UnderCreation h = cc
+valid_is Valid h = refl
+
+there_is : (s : State) → is_valid s ≡ true → is_absent s ≡ false
+there_is Absent h = cc
+there_is UnderCreation h = refl
+there_is Valid h = refl
+
+both_true : (a b : Bool) → a ≡ true → b ≡ true → (a && b) ≡ true
+both_true true true h k = refl
+both_true true false h k = absurd (cc)
+both_true false b h k = absurd (cc)
+
+first_false : (a b : Bool) → a ≡ false → (a && b) ≡ false
+first_false true b h = absurd (cc)
+first_false false b h = refl
+
+-- the histories that are left of rows that stay valid are those that there were
+pub left_used : (valid : ℕ → Bool) (runs : List Run) (row : ℕ) → 1 ≤ row → is_some (run_in (map (released valid) runs) row) ≡ true → valid row ≡ true
+left_used valid runs row some there =
+    elim (valid row) as (λ t. is_some (cond t (run_in runs row) None) ≡ true → t ≡ true) [
+      | true ↦ λ _. refl
+      | false ↦ λ no. absurd (cc)
+    ] (ap is_some (sym (released_in valid runs row some)) ∙ there)
+
+pub left_fit : (valid : ℕ → Bool) (last frames : ℕ) (runs : List Run) → AllByRecursion (Fits last frames) runs → AllByRecursion (Fits last frames) (map (released valid) runs)
+left_fit valid last frames runs fits = all_map (Fits last frames) (released valid) (λ run fit. fit) runs fits
+
+pub later_fit : (last now frames : ℕ) → last ≤ now → (runs : List Run) → AllByRecursion (Fits last frames) runs → AllByRecursion (Fits now frames) runs
+later_fit last now frames later [] fits = tt
+later_fit last now frames later (run ∷ runs) fits = ((omega (arith, fits.0.0, later), fits.0.1), later_fit last now frames later runs fits.1)
+
+-- what a plan has of the columns of a row
+abbrev planned : ℕ → Val → Val → Plan
+planned start interval requested = record { start = start; seconds = natural_in interval; kept = granted (natural_in requested) }
+
+-- what the rows show that are kept
+module _ (rows : List (Row ControlColumns)) (journal : Journal) (is : AreRowsAfter history_control no_rows set_to rows journal) (i : ℕ) (row : Row ControlColumns) (here : row_in rows i ≡ Some row) (valid : is_valid row.state ≡ true) where
+  shown_at : is_absent (state_seen (row_in rows i)) ≡ false
+  shown_at = ap (λ o. is_absent (state_seen o)) here ∙ there_is row.state valid
+
+  source_is : name (interface_name row.columns.source) ≡ control_set journal (i ∷ []) 2
+  source_is = ap (λ o. unwrap_or (option_and_then (λ c. set_to c 2) (columns_seen o)) (default_of history_control 2)) (sym here) ∙ (is.alike.columns i shown_at).0.shown
+
+  requested_is : int (pos row.columns.requested) ≡ control_set journal (i ∷ []) 3
+  requested_is = ap (λ o. unwrap_or (option_and_then (λ c. set_to c 3) (columns_seen o)) (default_of history_control 3)) (sym here) ∙ (is.alike.columns i shown_at).1.0.shown
+
+  interval_is : int (pos row.columns.interval) ≡ control_set journal (i ∷ []) 5
+  interval_is = ap (λ o. unwrap_or (option_and_then (λ c. set_to c 5) (columns_seen o)) (default_of history_control 5)) (sym here) ∙ (is.alike.columns i shown_at).1.1.0.shown
+
+module _ (settings : Settings) (journal : Journal) (now : ℕ) (bs : Bindings) (values : Assignments)
+    (later : last_moment journal ≤ now)
+    (gives : (name : List ℕ) → value_given values name ≡ value_given bs name)
+    (fine : AllFine history_control bs)
+    (rows new : List (Row ControlColumns)) (held : AreControlRows rows)
+    (together : (k : ℕ) → k < length bs → second_pass history_control (rows_before set_to rows) bs k ≡ None)
+    (after : (i : ℕ) → row_in new i ≡ row_after history_control with_column blank_columns bs i (row_in rows i))
+    (is : AreRowsAfter history_control no_rows set_to rows journal) where
+  abbrev with_set : Journal
+  with_set = assigns now values ∷ journal
+
+  pub rows_with_set : AreRowsAfter history_control no_rows set_to new with_set
+  rows_with_set = rows_assigns history_control no_rows set_to with_column blank_columns set_with blank_alike refl journal now bs values gives fine rows new held is after
+
+  module _ (i : ℕ) where
+    abbrev place : List ℕ
+    place = i ∷ []
+
+    new_state : state_in new i ≡ control_state with_set place
+    new_state = rows_with_set.alike.states i
+
+    -- a row that was valid and stays so
+    module _ (old : is_valid (control_state journal place) ≡ true) (valid : valid_in new i ≡ true) where
+      valid_now : is_valid (control_state with_set place) ≡ true
+      valid_now = ap is_valid (sym new_state) ∙ valid
+
+      stays : stays_valid history_control no_rows (assigns now values) journal place ≡ true
+      stays = both_true (is_valid (control_state journal place)) (is_valid (control_state with_set place)) old valid_now
+
+      was_valid : state_in rows i ≡ Valid
+      was_valid = is.alike.states i ∙ valid_is (control_state journal place) old
+
+      next_is : (o p : Option (Row ControlColumns)) → row_in rows i ≡ o → row_in new i ≡ p → is_valid (next_state (set_ask history_control bs place) Valid) ≡ true
+      next_is o None e k = let no : is_valid Absent ≡ true = ap (λ x. is_valid (state_seen x)) (sym k) ∙ valid in absurd (cc)
+      next_is o (Some row) e k =
+          let next = is_after bs i (row_in rows i) row (sym (after i) ∙ k) in
+          ap (λ s. is_valid (next_state (set_ask history_control bs place) s)) (sym was_valid) ∙ sym (ap is_valid next.0) ∙ ap (λ x. is_valid (state_seen x)) (sym k) ∙ valid
+
+      -- its columns are as they were, but for the owner
+      same_column : (n : ℕ) → nat_eq n 7 ≡ false → is_always history_control n ≡ false → control_set with_set place n ≡ control_set journal place n
+      same_column n column fixed =
+          let unbound : value_given values (cell_name history_control.entry n place) ≡ None = gives (cell_name history_control.entry n place)
+          ∙ fixed_column history_control (rows_before set_to rows) bs together n i column fixed was_valid (next_is (row_in rows i) (row_in new i) refl refl) in
+          ap (λ o. unwrap_or (option_or o (cond (is_absent (control_state journal place)) None (set_value history_control no_rows journal place n))) (default_of history_control n)) unbound
+          ∙ ap (λ b. unwrap_or (cond b None (set_value history_control no_rows journal place n)) (default_of history_control n)) (there_is (control_state journal place) old)
+
+      same_plan : plan_of with_set place ≡ plan_of journal place
+      same_plan =
+          ap (λ t. planned (cond t (activated history_control no_rows journal place) (cond (is_valid (control_state with_set place)) now 0)) (control_set with_set place 5) (control_set with_set place 3)) stays
+          ∙ ap (λ v. planned (activated history_control no_rows journal place) v (control_set with_set place 3)) (same_column 5 refl refl)
+          ∙ ap (planned (activated history_control no_rows journal place) (control_set journal place 5)) (same_column 3 refl refl)
+
+      same_frames : counted_frames with_set place ≡ counted_frames journal place
+      same_frames =
+          ap (λ source. frames_of source (frames_in (since history_control no_rows with_set place))) (same_column 2 refl refl)
+          ∙ ap (frames_of (control_set journal place 2)) (frames_kept history_control no_rows now values journal place stays)
+
+      run_stays : (run : Run) → IsRun run settings journal i → IsRun run settings with_set i
+      run_stays run ran = record {
+        valid = valid_is (control_state with_set place) valid_now;
+        plan = ran.plan ∙ sym same_plan;
+        source = ran.source ∙ sym (same_column 2 refl refl);
+        keeps = subst (Keeps run settings) (sym same_frames) ran.keeps;
+        reached = omega (arith, ran.reached, later);
+      }
+
+    -- a row that becomes valid
+    module _ (idle : is_valid (control_state journal place) ≡ false) (row : Row ControlColumns) (here : row_in new i ≡ Some row) (valid : is_valid row.state ≡ true) where
+      valid_then : is_valid (control_state with_set place) ≡ true
+      valid_then = ap is_valid (sym new_state) ∙ ap (λ o. is_valid (state_seen o)) here ∙ valid
+
+      starts : stays_valid history_control no_rows (assigns now values) journal place ≡ false
+      starts = first_false (is_valid (control_state journal place)) (is_valid (control_state with_set place)) idle
+
+      starts_now : activated history_control no_rows with_set place ≡ now
+      starts_now =
+          ap (λ t. cond t (activated history_control no_rows journal place) (cond (is_valid (control_state with_set place)) now 0)) starts
+          ∙ ap (λ t. cond t now 0) valid_then
+
+      new_plan : plan_from row.columns now ≡ plan_of with_set place
+      new_plan = sym (
+          ap (λ n. planned n (control_set with_set place 5) (control_set with_set place 3)) starts_now
+          ∙ ap (λ v. planned now v (control_set with_set place 3)) (sym (interval_is new with_set rows_with_set i row here valid))
+          ∙ ap (planned now (int (pos row.columns.interval))) (sym (requested_is new with_set rows_with_set i row here valid))
+          )
+
+      no_frames : counted_frames with_set place ≡ []
+      no_frames = ap (λ acts. frames_of (control_set with_set place 2) (frames_in acts)) (since_starts history_control no_rows (assigns now values) journal place starts)
+
+      run_begins : (run : Run) → IsBegun i row.columns.source (plan_from row.columns now) run → IsRun run settings with_set i
+      run_begins run begun = record {
+        valid = valid_is (control_state with_set place) valid_then;
+        plan = begun.plan_is ∙ new_plan;
+        source = ap (λ n. name (interface_name n)) begun.source_is ∙ source_is new with_set rows_with_set i row here valid;
+        keeps = λ bucket each some left. begun.buckets bucket each some ∙ sym (ap (λ frames. bucket_sum settings run.plan frames bucket each) no_frames);
+        reached = subst (λ n. end_of run.plan n ≤ now) (sym begun.closed) (subst (λ (p : Plan). end_of p 0 ≤ now) (sym begun.plan_is) (omega arith));
+      }
+
+    -- what becomes of the history of a row
+    history_then : (o new_run : Option Run) (t : Bool) (p : Option (Row ControlColumns)) → row_in new i ≡ p → is_valid (state_seen p) ≡ t → IsHistory settings journal i o → Begins now i (cond t o None) (if_valid p) new_run → IsHistory settings with_set i new_run
+    history_then o n true None e k was b = absurd (cc)
+    history_then (Some run) n true (Some row) e k was b =
+        subst (IsHistory settings with_set i) (sym b) (run_stays (ap is_valid was.valid) (ap (λ x. is_valid (state_seen x)) e ∙ k) run was)
+    history_then None n true (Some row) e k was b =
+        at_new n (subst (λ c. Begins now i None c n) (ap (λ t. cond t (Some row.columns) None) k) b)
+      where
+        at_new : (n : Option Run) → Begins now i None (Some row.columns) n → IsHistory settings with_set i n
+        at_new None begun = absurd begun
+        at_new (Some run) begun = run_begins was row e k run begun
+    history_then o n false p e k was b =
+        let none : n ≡ None = subst (λ c. Begins now i None c n) (gone p k) b in
+        subst (IsHistory settings with_set i) (sym none) (ap is_valid (sym new_state) ∙ ap (λ x. is_valid (state_seen x)) e ∙ k)
+      where
+        gone : (p : Option (Row ControlColumns)) → is_valid (state_seen p) ≡ false → if_valid p ≡ None
+        gone None k = refl
+        gone (Some row) k = ap (λ t. cond t (Some row.columns) None) k
+
+  pub histories_with_set : (runs kept_now : List Run) → AreHistories runs settings journal → AllBegin now new (map (released (valid_in new)) runs) kept_now → AreHistories kept_now settings with_set
+  histories_with_set runs kept_now are all i some =
+      history_then i (run_in runs i) (run_in kept_now i) (valid_in new i) (row_in new i) refl refl (are i some)
+      (subst (λ o. Begins now i o (valid_columns new i) (run_in kept_now i)) (released_in (valid_in new) runs i some) (all i some))
+
+-- as many rows are valid after a Set as it says
+pub count_then : (bs : Bindings) (rows new : List (Row ControlColumns)) → ((i : ℕ) → row_in new i ≡ row_after history_control with_column blank_columns bs i (row_in rows i)) → count_valid (rows_before set_to new) ≡ count_valid_after history_control (rows_before set_to rows) bs
+count_then bs rows new after = ap (λ p. count_below p 65536) (λ d row. ap is_valid (ap state_seen (after row) ∙ state_then history_control with_column blank_columns bs row (row_in rows row)) d)

@@ -1,0 +1,100 @@
+// The group history, as a group of objects.
+ghost use Rattle.std.specs.Prelude.{◌≡◌, ℕ, List};
+ghost use Rattle.std.specs.Option.{option_or};
+
+use crate::cells::{cell_of, next_of};
+use crate::control_cell::control_entry;
+use crate::control_column::CONTROL_COLUMNS;
+use crate::control_columns::STATUS;
+use crate::history::History;
+use crate::sample_cell::sample_entry;
+use crate::sample_column::SAMPLE_COLUMNS;
+use rm_status::{
+    Assigns, Denied, Group, Look, Objects, Verdict, is_of_column, judge_read_only, lower_verdict,
+};
+use rm_val::{Oid, Value};
+use std::alloc::Global;
+
+impl Group for History {
+    ghost use Rattle.rm_model.specs.Cells.{cells_of};
+    ghost use Rattle.rm_model.specs.ControlRows.{no_rows};
+    ghost use Rattle.rm_model.specs.Judgement.{second_pass, rows_after};
+    ghost use Rattle.rm_model.specs.Reserves.{Reserves};
+    ghost use Rattle.rm_history.specs.HistoryControl.{history_control, control_table};
+    ghost use Rattle.rm_history.specs.EtherHistory.{sample_table};
+    ghost use Rattle.rm_history.specs.Finite.{history_finite};
+    ghost use Rattle.rm_history.specs.Group.{Stands, history_alone, AreFine, IsStocked, IsReady, IsReleased, frames_given, last_given};
+
+    ghost stands = { Stands };
+
+    ghost clock = { last_given };
+
+    ghost frames = { frames_given };
+
+    ghost stocked = { IsStocked };
+
+    ghost cells = { λ settings journal now name. option_or (cells_of (control_table journal) name) (cells_of (sample_table settings journal now) name) };
+
+    ghost alone = { history_alone };
+
+    ghost together = { λ settings journal now readings bindings place. second_pass history_control (rows_after history_control no_rows journal) bindings place };
+
+    ghost reserves = { λ settings journal bindings index. Reserves history_control (rows_after history_control no_rows journal) bindings index };
+
+    ghost accepts = { λ s now readings bindings. AreFine s bindings };
+
+    ghost prepared = { λ s now bindings. IsReady s bindings };
+
+    ghost released = { IsReleased };
+
+    ghost finite = { history_finite };
+
+    fn cell(&self, name: &Oid, now: u32) -> Option<Value<'_>> {
+        prove!(self.rows.len() <= 16);
+        cell_of(&self.rows, &self.runs, name, now)
+    }
+
+    fn after(&self, name: &Oid, now: u32, out: &mut Oid) -> Option<Value<'_>> {
+        prove!(self.rows.len() <= 16);
+        next_of(&self.rows, &self.runs, name, now, out)
+    }
+
+    fn judge_alone<A: Assigns>(&self, set: &A) -> Verdict {
+        let control = self.rows.judge_alone(set, &control_entry(), STATUS);
+        let samples = judge_read_only(set, &sample_entry(), &SAMPLE_COLUMNS);
+        lower_verdict(control, samples)
+    }
+
+    fn judge_rows<A: Assigns, L: Look>(&self, set: &A, _now: u32, _look: &L) -> Verdict {
+        self.rows.judge_rows(set, &control_entry(), STATUS)
+    }
+
+    fn prepare<A: Assigns, L: Look>(
+        &mut self,
+        alloc: Global,
+        set: &A,
+        _now: u32,
+        _look: &L,
+    ) -> Result<(), Denied> {
+        self.make_ready(alloc, set)
+    }
+
+    fn commit<A: Assigns>(&mut self, set: &A, now: u32) {
+        self.assign(set, now);
+    }
+
+    fn discard(&mut self) {
+        self.give_back();
+    }
+}
+
+impl Objects for History {
+    ghost use Rattle.rm_history.specs.Group.{history_objects};
+
+    ghost objects = { history_objects };
+
+    fn has_object(name: &Oid) -> bool {
+        is_of_column(name, &control_entry(), &CONTROL_COLUMNS)
+            || is_of_column(name, &sample_entry(), &SAMPLE_COLUMNS)
+    }
+}
