@@ -1,4 +1,6 @@
 // What buckets count. The frames have 60 octets without the check sequence.
+mod given;
+mod sets;
 mod shown;
 mod walk;
 
