@@ -1,5 +1,8 @@
 // What buckets count. The frames have 60 octets without the check sequence.
+mod given;
+mod sets;
 mod shown;
+mod walk;
 
 use crate::plan::Plan;
 use crate::run::Run;
