@@ -5,4 +5,4 @@ use Rattle.rm_agent.proofs.agent.Agent.new.Goals as goal
 pub returns-clause-stands : goal.returns-clause-stands
 returns-clause-stands c =
     let counting = counting_by c.args.settings in
-    record { groups = (tt, (c.new-new.ensures.stands counting, c.reserve.ensures.stands counting [] (c.new.ensures.stands counting))); last = omega arith }
+    record { groups = (tt, (c.new.ensures.stands counting, c.reserve.ensures.stands counting [] (c.new-history.ensures.stands counting))); last = omega arith }
