@@ -9,3 +9,4 @@ pub mod AlarmTable
 pub mod Standing
 pub mod Group
 pub mod Watched
+pub mod MadeUp
