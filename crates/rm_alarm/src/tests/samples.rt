@@ -3,6 +3,7 @@ use crate::Sampled::{Falling, Gone, Quiet, Rising};
 use crate::tests::given::{Given, answer, name_of, number, scalar};
 use crate::tests::passed::Passed;
 use crate::{Alarms, Sampled, Watched};
+use arrayvec::ArrayVec;
 use rm_status::{Group, Readable, Unsampled};
 use rm_val::Value;
 use std::alloc::Global;
@@ -52,6 +53,20 @@ fn take_next<G: Readable + Unsampled>(group: &mut Watched<G>) -> Option<(u32, u3
     let (moment, index) = group.next_due()?;
     let moment = u32::try_from(moment).ok()?;
     Some((index, moment, group.sample(index, moment)))
+}
+
+// Takes all samples that are due up to a moment. The alarm and the moment of each.
+fn take_all(group: &mut Watched<Passed>, latest: u32) -> ArrayVec<(u32, u32), 8> {
+    let mut taken = ArrayVec::new();
+    while let Some((moment, index)) = group.next_due() {
+        if moment > u64::from(latest) {
+            break;
+        }
+        let moment = moment as u32;
+        group.sample(index, moment);
+        let _ = taken.try_push((index, moment));
+    }
+    taken
 }
 
 // What a column of alarm 1 shows.
@@ -138,5 +153,34 @@ fn an_alarm_starts_anew(rt: HostRuntime) -> Result<(), Fail> {
     group.watched.pass(10);
     assert_eq!(rt; take_next(&mut group), Some((1, 2700, Rising)));
     assert_eq!(rt; shown(&group, 5), Some(10));
+    Ok(())
+}
+
+// two alarms, each 2 and each 3 seconds: of samples at one moment that of the lower alarm comes first
+#[test]
+fn samples_in_order(rt: HostRuntime) -> Result<(), Fail> {
+    let alloc = rt.alloc();
+    let mut group = with_alarm(&rt, alloc, 0, &columns(1, 1), 0);
+    assert_eq!(rt;
+        answer(
+            alloc,
+            &mut group,
+            &[number(STATUS, 1, 3), number(STATUS, 2, 2)],
+            0
+        ),
+        None
+    );
+    let set = [
+        number(2, 1, 3),
+        number(STATUS, 1, 1),
+        number(2, 2, 2),
+        scalar(3, 2, 2),
+        number(STATUS, 2, 1),
+    ];
+    assert_eq!(rt; answer(alloc, &mut group, &set, 0), None);
+    let taken = take_all(&mut group, 6999);
+    let expected = [(2, 2000), (1, 3000), (2, 4000), (1, 6000), (2, 6000)];
+    assert_eq!(rt; taken.as_slice(), expected.as_slice());
+    assert_eq!(rt; group.next_due(), Some((8000, 2)));
     Ok(())
 }
