@@ -78,7 +78,7 @@ not_made_by n e =
       ]
     ] e
 
-not_made_valid : (o : Option Val) → next_state (value_ask EntryStatus o) Absent ≡ Valid → ⊥
+pub not_made_valid : (o : Option Val) → next_state (value_ask EntryStatus o) Absent ≡ Valid → ⊥
 not_made_valid None e = cc
 not_made_valid (Some (int (pos n))) e = not_made_by n e
 not_made_valid (Some (int (negsuc n))) e = cc

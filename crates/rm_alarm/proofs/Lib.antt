@@ -7,4 +7,5 @@ mod AfterSets
 mod Changes
 mod Judged
 mod Cells
+mod Pace
 mod Watching

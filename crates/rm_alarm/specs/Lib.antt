@@ -2,10 +2,13 @@ pub mod Kept
 pub mod Rows
 pub mod RowLaws
 pub mod Spelled
+pub mod Paced
 pub mod Taking
 pub mod Shown
 pub mod Due
 pub mod AlarmTable
 pub mod Standing
 pub mod Group
+pub mod Left
 pub mod Watched
+pub mod MadeUp

@@ -1,5 +1,6 @@
 // The group alarm.
 ghost use Rattle.rm_alarm.specs.Spelled.{AreSpelled, spelled_prop};
+ghost use Rattle.rm_alarm.specs.Paced.{ArePaced, paced_prop};
 
 use crate::row::AlarmRow;
 use rm_model::Sampled;
@@ -10,4 +11,5 @@ use rm_status::{Controls, Look, StatusKind};
 pub struct Alarms {
     pub(crate) rows: Controls<AlarmRow>,
     ghost spelled: { AreSpelled rows } by { spelled_prop rows },
+    ghost paced: { ArePaced rows } by { paced_prop rows },
 }

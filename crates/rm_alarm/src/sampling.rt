@@ -1,5 +1,5 @@
 // The samples of alarms.
-ghost use Rattle.std.specs.Prelude.{◌≡◌, ℕ, List, [], ◌∷◌, Some};
+ghost use Rattle.std.specs.Prelude.{◌≡◌, ℕ, ◌<◌, ◌≤◌, List, [], ◌∷◌, Some};
 ghost use Rattle.std.specs.Option.{option_map};
 ghost use Rattle.rm_model.specs.Settings.{Settings};
 ghost use Rattle.rm_model.specs.Journal.{Journal, samples};
@@ -10,6 +10,7 @@ ghost use Rattle.rm_alarm.specs.declared.row.AlarmRow.{AlarmRow as Columns};
 ghost use Rattle.rm_alarm.specs.Rows.{variable_kept};
 ghost use Rattle.rm_alarm.specs.Standing.{Stands, AreBased};
 ghost use Rattle.rm_alarm.specs.Group.{due_in};
+ghost use Rattle.rm_alarm.specs.Left.{samples_left};
 ghost use Rattle.rm_alarm.specs.Taking.{HasTaken};
 
 use crate::alarms::Alarms;
@@ -38,6 +39,7 @@ impl Alarms {
             → AreBased self.new settings (samples moment index (option_map (λ reading. reading.value) (L.readings look.now moment (variable_of journal index))) ∷ journal) }
         ensures result { (settings : Settings) (journal : Journal) → Stands self.old settings journal → AreBased self.old settings journal
             → result ≡ sampled settings journal moment index (option_map (λ reading. reading.value) (L.readings look.now moment (variable_of journal index))) }
+        ensures fewer { (latest : ℕ) → moment ≤ latest → samples_left self.new latest < samples_left self.old latest }
     {
         prove!(self.rows.len() <= 16);
         match read(&self.rows, index, moment, look) {

@@ -1,4 +1,9 @@
 // What samples cross was worked out by hand from RFC 1757, section 5.4.
+mod given;
+mod passed;
+mod samples;
+mod sets;
+
 use crate::Sampled::{Falling, Quiet, Rising};
 use crate::{Hysteresis, Sampled, Thresholds};
 use std::process::Abort;

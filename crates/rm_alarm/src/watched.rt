@@ -1,5 +1,5 @@
 // A group, and the alarms that sample its variables.
-ghost use Rattle.std.specs.Prelude.{◌≡◌, ℕ, ◌≤◌, List, ◌∷◌, ◌||◌, Some};
+ghost use Rattle.std.specs.Prelude.{◌≡◌, ℕ, ◌<◌, ◌≤◌, List, ◌∷◌, ◌||◌, Some};
 ghost use Rattle.std.specs.Option.{option_map, option_or};
 ghost use Rattle.rm_model.specs.Settings.{Settings};
 ghost use Rattle.rm_model.specs.Journal.{Journal, samples, last_moment};
@@ -10,6 +10,7 @@ ghost use Rattle.rm_model.specs.Alarms.{alarm_entry, alarm_table, sampled, due_o
 ghost use Rattle.rm_model.proofs.Finite.{both_finite};
 ghost use Rattle.rm_alarm.specs.AlarmTable.{alarm_columns, alarms_table};
 ghost use Rattle.rm_alarm.specs.Group.{alarm_alone, alarm_together, AreFine, HasForgotten, alarms_finite, due_in};
+ghost use Rattle.rm_alarm.specs.Left.{samples_left};
 ghost use Rattle.rm_alarm.specs.Watched.{AreWatched, ArePrepared, number_read};
 
 use crate::alarms::Alarms;
@@ -144,6 +145,7 @@ impl<G: Readable + Unsampled> Watched<G> {
             AreWatched G.cells (G.stands self.new.watched settings after) self.new.alarms settings after }
         ensures result { (settings : Settings) (journal : Journal) → AreWatched G.cells (G.stands self.old.watched settings journal) self.old.alarms settings journal
             → last_moment journal ≤ moment → result ≡ sampled settings journal moment index (number_read settings journal moment index) }
+        ensures fewer { (latest : ℕ) → moment ≤ latest → samples_left self.new.alarms latest < samples_left self.old.alarms latest }
     {
         self.watched.shows(moment);
         let sight = Sight {

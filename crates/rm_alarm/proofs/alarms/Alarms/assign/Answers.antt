@@ -1,10 +1,14 @@
 use Rattle.rm_alarm.proofs.AfterSets.{rows_set, kept_set, based_set}
 use Rattle.rm_alarm.proofs.Changes.{spelled_set}
+use Rattle.rm_alarm.proofs.Pace.{paced_set}
 use Rattle.rm_alarm.proofs.alarms.Alarms.assign.Goals as goal
 
 pub invariant_of-self : goal.invariant_of-self
 invariant_of-self g c =
-    record { spelled = spelled_set c.args.now (g.A.Assigns.bindings c.args.set.now) c.requires.alone c.requires.values c.args.self.now.rows c.commit.new.self c.change_each.new.self c.commit.ensures c.change_each.ensures c.args.self.now.spelled }
+    record {
+      spelled = spelled_set c.args.now (g.A.Assigns.bindings c.args.set.now) c.requires.alone c.requires.values c.args.self.now.rows c.commit.new.self c.change_each.new.self c.commit.ensures c.change_each.ensures c.args.self.now.spelled;
+      paced = paced_set c.args.now (g.A.Assigns.bindings c.args.set.now) c.requires.alone c.args.self.now.rows c.commit.new.self c.change_each.new.self c.requires.together c.commit.ensures c.change_each.ensures c.args.self.now.paced;
+    }
 
 pub returns-clause-stands : goal.returns-clause-stands
 returns-clause-stands g c settings journal values st gives =

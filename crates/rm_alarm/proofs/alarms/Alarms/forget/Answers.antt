@@ -1,10 +1,17 @@
-use Rattle.std.proofs.Common.{refl}
+use Rattle.std.proofs.Common.{refl, rules}
 use Rattle.rm_model.specs.ControlRows.{no_rows}
 use Rattle.rm_model.specs.Alarms.{alarm_table}
 use Rattle.rm_status.proofs.RowsAfterLemmas.{rows_changed}
 use Rattle.rm_alarm.specs.Rows.{set_to, without_base}
 use Rattle.rm_alarm.proofs.Changes.{kept_changed, based_changed}
+use Rattle.rm_alarm.proofs.Pace.{paced_changed}
 use Rattle.rm_alarm.proofs.alarms.Alarms.forget.Goals as goal
+
+pub invariant_of-self : goal.invariant_of-self
+invariant_of-self c = record {
+  spelled = search rules;
+  paced = paced_changed (λ index state row. without_base row) (λ index state row. refl) (λ index state row. refl) c.args.self.now.rows c.change_each.new.self c.change_each.ensures c.args.self.now.paced;
+}
 
 pub returns-clause-stands : goal.returns-clause-stands
 returns-clause-stands c settings journal st = record {

@@ -1,4 +1,4 @@
-use Rattle.std.proofs.Common.{◌≡◌, ℕ, length, refl, sym, ap, subst, ◌∙◌}
+use Rattle.std.proofs.Common.{◌≡◌, ℕ, length, refl, sym, ap, subst, ◌∙◌, rules}
 use Rattle.rm_model.specs.ControlRows.{no_rows, Beginning}
 use Rattle.rm_model.specs.Judgement.{IsFirstFault, second_pass}
 use Rattle.rm_model.specs.Alarms.{alarm_table}
@@ -12,7 +12,17 @@ use Rattle.rm_alarm.specs.declared.row.AlarmRow.{AlarmRow}
 use Rattle.rm_alarm.specs.Rows.{set_to, reading_base, variable_with}
 use Rattle.rm_alarm.proofs.AfterSets.{was_there}
 use Rattle.rm_alarm.proofs.Changes.{kept_changed, based_changed, same_before, named}
+use Rattle.rm_alarm.proofs.Pace.{paced_changed}
 use Rattle.rm_alarm.proofs.alarms.Alarms.remember.Goals as goal
+
+pub invariant_of-self : goal.invariant_of-self
+invariant_of-self g c =
+    let bs = g.A.Assigns.bindings c.args.set.now in
+    let readings = g.L.Look.readings c.args.look.now c.args.now in
+    record {
+      spelled = search rules;
+      paced = paced_changed (λ index state row. reading_base readings bs index row) (λ index state row. refl) (λ index state row. refl) c.args.self.now.rows c.change_each.new.self c.change_each.ensures c.args.self.now.paced;
+    }
 
 pub returns-clause-fine : goal.returns-clause-fine
 returns-clause-fine g c =

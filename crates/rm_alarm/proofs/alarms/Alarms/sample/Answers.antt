@@ -18,6 +18,7 @@ use Rattle.rm_alarm.specs.Taking.{HasTaken}
 use Rattle.rm_alarm.proofs.RowFacts.{row_there, variable_is}
 use Rattle.rm_alarm.proofs.Samples.{Based, rows_samples, kept_samples, based_samples, sample_comes_to}
 use Rattle.rm_alarm.proofs.Taken.{Due, due_row, spelled_taken, spelled_gone, rows_gone, kept_gone, based_gone}
+use Rattle.rm_alarm.proofs.Pace.{paced_taken, paced_gone, fewer_taken, fewer_gone}
 use Rattle.rm_alarm.proofs.alarms.Alarms.sample.Goals as goal
 
 abbrev number_read : Option Reading → Option ℤ
@@ -33,7 +34,11 @@ pub invariant_of-self : goal.invariant_of-self
 invariant_of-self g c =
     let fits : SFits w64 c.in-Some.reading.value = search rules in
     let taken : HasTaken c.args.self.now.rows c.take.new.rows c.args.index c.args.moment c.in-Some.reading.value c.take.result = simp (to_z-of_z, fits) at c.take.ensures in
-    record { spelled = spelled_taken c.args.self.now.rows c.take.new.rows c.args.index c.args.moment c.in-Some.reading.value c.take.result (due_row c.args.self.now.rows c.args.index c.args.moment c.requires) taken c.args.self.now.spelled }
+    let due = due_row c.args.self.now.rows c.args.index c.args.moment c.requires in
+    record {
+      spelled = spelled_taken c.args.self.now.rows c.take.new.rows c.args.index c.args.moment c.in-Some.reading.value c.take.result due taken c.args.self.now.spelled;
+      paced = paced_taken c.args.self.now.rows c.take.new.rows c.args.index c.args.moment c.in-Some.reading.value c.take.result due taken c.args.self.now.paced;
+    }
 
 pub returns-in-Some-clause-stands : goal.returns-in-Some-clause-stands
 returns-in-Some-clause-stands g c settings journal st based =
@@ -68,7 +73,22 @@ returns-in-Some-clause-result g c settings journal st based =
 
 pub invariant_of-self-in-None : goal.invariant_of-self-in-None
 invariant_of-self-in-None g c =
-    record { spelled = spelled_gone c.args.self.now.rows c.remove.new.self c.args.index c.remove.ensures c.args.self.now.spelled }
+    record {
+      spelled = spelled_gone c.args.self.now.rows c.remove.new.self c.args.index c.remove.ensures c.args.self.now.spelled;
+      paced = paced_gone c.args.self.now.rows c.remove.new.self c.args.index c.remove.ensures c.args.self.now.paced;
+    }
+
+pub returns-in-Some-clause-fewer : goal.returns-in-Some-clause-fewer
+returns-in-Some-clause-fewer g c latest within =
+    let fits : SFits w64 c.in-Some.reading.value = search rules in
+    let taken : HasTaken c.args.self.now.rows c.take.new.rows c.args.index c.args.moment c.in-Some.reading.value c.take.result = simp (to_z-of_z, fits) at c.take.ensures in
+    let due = due_row c.args.self.now.rows c.args.index c.args.moment c.requires in
+    fewer_taken c.args.self.now.rows c.take.new.rows c.args.index c.args.moment latest within c.len.ensures.rows c.args.self.now.paced due c.in-Some.reading.value c.take.result taken
+
+pub returns-in-None-clause-fewer : goal.returns-in-None-clause-fewer
+returns-in-None-clause-fewer g c latest within =
+    let due = due_row c.args.self.now.rows c.args.index c.args.moment c.requires in
+    fewer_gone c.args.self.now.rows c.remove.new.self c.args.index c.args.moment latest within c.len.ensures.rows c.args.self.now.paced due c.remove.ensures
 
 pub returns-in-None-clause-stands : goal.returns-in-None-clause-stands
 returns-in-None-clause-stands g c settings journal st based =

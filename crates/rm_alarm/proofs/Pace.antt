@@ -1,0 +1,306 @@
+-- That alarms which are valid have an interval, after each act, and that each sample leaves fewer.
+use Rattle.std.proofs.Common.{◌≡◌, ℕ, ◌+◌, ◌-◌, ◌*◌, ◌<◌, ◌≤◌, zero, suc, List, [], ◌∷◌, length, Bool, true, false, cond, ◌&&◌, Option, Some, None, refl, sym, ap, subst, ◌∙◌, nat_eq, nat_le, option_map, find, arith}
+use Rattle.std.specs.Prelude.{ℤ, pos, negsuc, nat_abs, unwrap_or, is_some, ◌||◌}
+use Rattle.std.specs.Option.{option_or, option_and_then}
+use Rattle.std.specs.Str.{bytes_eq}
+use Rattle.std.proofs.lemmas.Slice.Eq.{bytes_eq-Decides}
+use Rattle.std.proofs.lemmas.Bool.Decides.{nat_tests}
+use borrow.Author.Tests.{eqb-true}
+use Rattle.rm_val.specs.Val.{Val, int}
+use Rattle.rm_val.specs.declared.error.ErrorStatus.{ErrorStatus}
+use Rattle.rm_val.specs.declared.error.ErrorStatus.TheVariants.{InconsistentValue, WrongValue}
+use Rattle.rm_model.specs.Journal.{value_given}
+use Rattle.rm_model.specs.ControlRows.{cell_name, value_ask, set_ask, next_state}
+use Rattle.rm_model.specs.Judgement.{Bindings, name_at, place_of, first_pass, second_pass, together_fault, alone_fault, value_fault, column_kind, is_in, is_ready_with, is_again, is_crowded, row_fault, unless}
+use Rattle.rm_model.specs.Alarms.{alarm_entry, alarm_table, up_from}
+use Rattle.rm_model.specs.declared.row.StatusKind.TheVariants.{EntryStatus}
+use Rattle.rm_model.specs.declared.row.Ask.{Ask}
+use Rattle.rm_model.specs.declared.row.Ask.TheVariants.{Nothing, Create, CreateValid, Enable, Disable, Destroy}
+use Rattle.rm_model.specs.declared.place.Place.TheVariants.{Cell}
+use Rattle.rm_model.specs.declared.row.State.{State}
+use Rattle.rm_model.specs.declared.row.State.TheVariants.{Absent, UnderCreation, Valid}
+use Rattle.rm_model.specs.declared.sampled.Sampled.{Sampled}
+use Rattle.rm_status.specs.declared.row.Row.{Row}
+use Rattle.rm_status.specs.Rows.{row_in, rows_before, state_seen, columns_seen, AreControlRows}
+use Rattle.rm_status.specs.Change.{changed_row}
+use Rattle.rm_status.specs.Commit.{put_all, row_after}
+use Rattle.rm_status.proofs.Puts.{AllFine, all_fine, set_in_all}
+use Rattle.rm_alarm.specs.declared.course.Course.{Course}
+use Rattle.rm_alarm.specs.declared.row.AlarmRow.{AlarmRow}
+use Rattle.rm_alarm.specs.Due.{due_at}
+use Rattle.rm_alarm.specs.Left.{sum_below, span_to}
+use Rattle.rm_alarm.specs.Paced.{is_paced, ArePaced}
+use Rattle.rm_alarm.specs.Rows.{set_to, with_column, blank_row, settled, interval_kept, interval_shown}
+use Rattle.rm_alarm.specs.RowLaws.{set_with}
+use Rattle.rm_alarm.specs.Taking.{with_course, HasTaken}
+use Rattle.rm_alarm.proofs.AfterSets.{was_there, there_is, not_made_valid}
+use Rattle.rm_alarm.proofs.RowFacts.{row_fits}
+use Rattle.rm_alarm.proofs.Taken.{Due}
+
+in_some : {A : Type 0} (x y : A) → Some x ≡ Some y → x ≡ y
+in_some x y e = cc
+
+both_true : (a b : Bool) → (a && b) ≡ true → (a ≡ true) × (b ≡ true)
+both_true true b h = (refl, h)
+both_true false b h = absurd (cc)
+
+no_first : {A : Type 0} (o p : Option A) → option_or o p ≡ None → o ≡ None
+no_first None p h = refl
+no_first (Some x) p h = cc
+
+-- an alarm that keeps something of its samples has an interval
+has_interval : (s : State) (o : Option ℤ) (course : Course) → is_paced s o (Some course) ≡ true → 1 ≤ nat_abs (unwrap_or o (pos 0))
+has_interval s (Some z) course is = grind (arith, nat_tests)
+has_interval Valid None course is = absurd (cc)
+has_interval UnderCreation None course is = absurd (cc)
+has_interval Absent None course is = absurd (cc)
+
+other_course : (s : State) (o : Option ℤ) (course other : Course) → is_paced s o (Some course) ≡ is_paced s o (Some other)
+other_course s (Some z) course other = refl
+other_course Valid None course other = refl
+other_course UnderCreation None course other = refl
+other_course Absent None course other = refl
+
+-- a change that leaves intervals and what is kept of samples
+pub paced_changed : (change : ℕ → State → AlarmRow → AlarmRow) → ((index : ℕ) (state : State) (row : AlarmRow) → (change index state row).interval ≡ row.interval) → ((index : ℕ) (state : State) (row : AlarmRow) → (change index state row).course ≡ row.course)
+    → (rows new : List (Row AlarmRow)) → ((i : ℕ) → row_in new i ≡ option_map (changed_row change) (row_in rows i)) → ArePaced rows → ArePaced new
+paced_changed change intervals courses rows new changed paced i row here =
+    let got = was_there (changed_row change) (row_in rows i) row (sym (changed i) ∙ here) in
+    let old : Row AlarmRow = got.0 in
+    let then_ : AlarmRow = change old.index old.state old.columns in
+    subst (λ (r : Row AlarmRow). is_paced r.state r.columns.interval r.columns.course ≡ true) got.2
+    (ap (λ o. is_paced old.state o then_.course) (intervals old.index old.state old.columns) ∙ ap (is_paced old.state old.columns.interval) (courses old.index old.state old.columns) ∙ paced i old got.1)
+
+-- a sample
+pub paced_taken : (rows new : List (Row AlarmRow)) (index moment : ℕ) (number : ℤ) (result : Sampled) → Due rows index moment → HasTaken rows new index moment number result → ArePaced rows → ArePaced new
+paced_taken rows new index moment number result due taken paced i r is_r =
+    elim (nat_eq index i) as (λ t. nat_eq index i ≡ t → is_paced r.state r.columns.interval r.columns.course ≡ true) [
+      | true ↦ λ e.
+          let got = taken.itself due.row due.course due.here due.has in
+          let same : with_course due.row got.0 ≡ r = in_some (with_course due.row got.0) r (sym got.1 ∙ ap (row_in new) (eqb-true index i e) ∙ is_r) in
+          subst (λ (x : Row AlarmRow). is_paced x.state x.columns.interval x.columns.course ≡ true) same
+          (other_course due.row.state due.row.columns.interval got.0 due.course ∙ ap (is_paced due.row.state due.row.columns.interval) (sym due.has) ∙ paced index due.row due.here)
+      | false ↦ λ e. paced i r (sym (taken.others i e) ∙ is_r)
+    ] refl
+
+pub paced_gone : (rows new : List (Row AlarmRow)) (index : ℕ) → ((i : ℕ) → row_in new i ≡ cond (nat_eq index i) None (row_in rows i)) → ArePaced rows → ArePaced new
+paced_gone rows new index lacks paced i r is_r = by_test (nat_eq index i) (sym (lacks i) ∙ is_r)
+  where
+    by_test : (t : Bool) → cond t None (row_in rows i) ≡ Some r → is_paced r.state r.columns.interval r.columns.course ≡ true
+    by_test true h = absurd (cc)
+    by_test false h = paced i r h
+
+-- A Set with which nothing is wrong.
+
+-- an interval that a Set gives is a second or more
+in_range : (z : ℤ) → is_in (up_from 1 2147483647) z ≡ true → nat_le 1 (nat_abs z) ≡ true
+in_range (pos n) is = left (nat_le 1 n) (nat_le n 2147483647) is
+  where
+    left : (a b : Bool) → ((a && b) || false) ≡ true → a ≡ true
+    left true b h = refl
+    left false b h = cc
+in_range (negsuc n) is = absurd (cc)
+
+passes : (b : Bool) (status : ErrorStatus) → unless b status ≡ None → b ≡ true
+passes true status h = refl
+passes false status h = absurd (cc)
+
+taken_interval : (z : ℤ) → value_fault (column_kind alarm_table 2) (int z) ≡ None → nat_le 1 (nat_abs z) ≡ true
+taken_interval z fine = in_range z (passes (is_in (up_from 1 2147483647) z) WrongValue fine)
+
+given_fine : (i : ℕ) (v : Val) (bs : Bindings) → AllFine alarm_table bs → value_given bs (cell_name alarm_entry 2 (i ∷ [])) ≡ Some v → value_fault (column_kind alarm_table 2) v ≡ None
+given_fine i v [] fine e = absurd (cc)
+given_fine i v (b ∷ more) fine e =
+    elim (bytes_eq b.name (cell_name alarm_entry 2 (i ∷ []))) as (λ t. bytes_eq b.name (cell_name alarm_entry 2 (i ∷ [])) ≡ t → option_map (λ a. a.value) (cond t (Some b) (find (λ a. bytes_eq a.name (cell_name alarm_entry 2 (i ∷ []))) more)) ≡ Some v → value_fault (column_kind alarm_table 2) v ≡ None) [
+      | true ↦ λ same k.
+          let name : b.name ≡ cell_name alarm_entry 2 (i ∷ []) = (bytes_eq-Decides b.name (cell_name alarm_entry 2 (i ∷ []))).0 same in
+          let fault : alone_fault alarm_table (Cell 2 i) b.value ≡ None = ap (λ n. alone_fault alarm_table (place_of alarm_entry n) b.value) (sym name) ∙ fine.0 in
+          ap (value_fault (column_kind alarm_table 2)) (sym (in_some b.value v k)) ∙ no_first _ _ fault
+      | false ↦ λ _ k. given_fine i v more fine.1 k
+    ] refl e
+
+interval_by : (given : Option Val) (new old : Option ℤ) → option_map int new ≡ option_or given (option_map int old) → ((v : Val) → given ≡ Some v → value_fault (column_kind alarm_table 2) v ≡ None)
+    → ((z : ℤ) → old ≡ Some z → nat_le 1 (nat_abs z) ≡ true) → (z : ℤ) → new ≡ Some z → nat_le 1 (nat_abs z) ≡ true
+interval_by None new None e fine was z is = absurd (let none : option_map int new ≡ None = e in let some : option_map int new ≡ Some (int z) = ap (option_map int) is in cc)
+interval_by None new (Some y) e fine was z is = was z (let some : option_map int new ≡ Some (int z) = ap (option_map int) is in let same : y ≡ z = cc in ap Some same)
+interval_by (Some v) new old e fine was z is =
+    let some : option_map int new ≡ Some (int z) = ap (option_map int) is in
+    let same : v ≡ int z = cc in
+    taken_interval z (ap (value_fault (column_kind alarm_table 2)) (sym same) ∙ fine v refl)
+
+-- where a value that is given stands
+given_at : (bs : Bindings) (n : List ℕ) (v : Val) → value_given bs n ≡ Some v → (k : ℕ) × (k < length bs) × (name_at bs k ≡ n)
+given_at [] n v e = absurd (cc)
+given_at (b ∷ more) n v e =
+    elim (bytes_eq b.name n) as (λ t. bytes_eq b.name n ≡ t → option_map (λ a. a.value) (cond t (Some b) (find (λ a. bytes_eq a.name n) more)) ≡ Some v → (k : ℕ) × (k < suc (length more)) × (name_at (b ∷ more) k ≡ n)) [
+      | true ↦ λ same _. (0, omega arith, (bytes_eq-Decides b.name n).0 same)
+      | false ↦ λ _ k. let rest = given_at more n v k in (suc rest.0, (let within = rest.1 in omega arith), rest.2)
+    ] refl e
+
+enables : (ask : Ask) → next_state ask UnderCreation ≡ Valid → ask ≡ Enable
+enables Nothing e = absurd (cc)
+enables Create e = absurd (cc)
+enables CreateValid e = absurd (cc)
+enables Enable e = refl
+enables Disable e = absurd (cc)
+enables Destroy e = absurd (cc)
+
+settled_paced : (now : ℕ) (s : State) (row : AlarmRow) → ((z : ℤ) → row.interval ≡ Some z → nat_le 1 (nat_abs z) ≡ true) → (s ≡ Valid → row.interval ≡ None → ⊥) → is_paced s (settled now s row).interval (settled now s row).course ≡ true
+settled_paced now s row range needed = by_interval s row.interval refl needed
+  where
+    by_interval : (s : State) (o : Option ℤ) → row.interval ≡ o → (s ≡ Valid → row.interval ≡ None → ⊥) → is_paced s (settled now s row).interval (settled now s row).course ≡ true
+    by_interval Valid (Some z) e needed = rw e (range z e)
+    by_interval Valid None e needed = absurd (needed refl e)
+    by_interval UnderCreation (Some z) e needed = rw e (range z e)
+    by_interval UnderCreation None e needed = rw e refl
+    by_interval Absent (Some z) e needed = rw e (range z e)
+    by_interval Absent None e needed = rw e refl
+
+module _ (now : ℕ) (bs : Bindings) (alone : (k : ℕ) → k < length bs → first_pass alarm_table bs k ≡ None)
+    (rows middle new : List (Row AlarmRow)) (together : (k : ℕ) → k < length bs → second_pass alarm_table (rows_before set_to rows) bs k ≡ None)
+    (after : (i : ℕ) → row_in middle i ≡ row_after alarm_table with_column blank_row bs i (row_in rows i))
+    (settles : (i : ℕ) → row_in new i ≡ option_map (changed_row (λ index state row. settled now state row)) (row_in middle i))
+    (paced : ArePaced rows) where
+  module _ (i : ℕ) where
+    abbrev given : ℕ → Option Val
+    given n = value_given bs (cell_name alarm_entry n (i ∷ []))
+
+    abbrev ask : Ask
+    ask = set_ask alarm_table bs (i ∷ [])
+
+    abbrev is_ready_then : Bool
+    is_ready_then = is_ready_with alarm_table (rows_before set_to rows) bs (i ∷ [])
+
+    -- an alarm that becomes valid is ready
+    ready : state_seen (row_in rows i) ≡ UnderCreation → next_state ask UnderCreation ≡ Valid → is_ready_then ≡ true
+    ready under next = by_given (given 12) refl
+      where
+        by_given : (o : Option Val) → given 12 ≡ o → is_ready_then ≡ true
+        by_given None e = absurd (let no : UnderCreation ≡ Valid = ap (λ o. next_state (value_ask EntryStatus o) UnderCreation) (sym e) ∙ next in cc)
+        by_given (Some v) e =
+            let at = given_at bs (cell_name alarm_entry 12 (i ∷ [])) v e in
+            let crowded : Bool = is_crowded alarm_table (rows_before set_to rows) bs in
+            let again : Bool = is_again bs at.0 in
+            let fault : row_fault alarm_table (state_seen (row_in rows i)) ask is_ready_then crowded again 12 ≡ None = ap (λ n. together_fault alarm_table (rows_before set_to rows) bs at.0 (place_of alarm_entry n)) (sym at.2) ∙ together at.0 at.1 in
+            let under_creation : row_fault alarm_table UnderCreation ask is_ready_then crowded again 12 ≡ None = ap (λ s. row_fault alarm_table s ask is_ready_then crowded again 12) (sym under) ∙ fault in
+            let enabled : row_fault alarm_table UnderCreation Enable is_ready_then crowded again 12 ≡ None = ap (λ a. row_fault alarm_table UnderCreation a is_ready_then crowded again 12) (sym (enables ask next)) ∙ under_creation in
+            passes is_ready_then InconsistentValue (no_first _ _ enabled)
+
+    -- and so has an interval
+    is_set : is_ready_then ≡ true → is_some (option_or (given 2) ((rows_before set_to rows).set (i ∷ []) 2)) ≡ true
+    is_set is = (both_true _ _ (both_true _ _ is).0).0
+
+    needs_interval : (o : Option (Row AlarmRow)) → row_in rows i ≡ o → next_state ask (state_seen o) ≡ Valid → given 2 ≡ None → (unwrap_or (columns_seen o) blank_row).interval ≡ None → ⊥
+    needs_interval None e next none interval = not_made_valid (given 12) next
+    needs_interval (Some r) e next none interval = by_state r.state refl
+      where
+        by_state : (s : State) → r.state ≡ s → ⊥
+        by_state Absent is = not_made_valid (given 12) (ap (next_state ask) (sym is) ∙ next)
+        by_state Valid is =
+            let no : is_paced Valid None r.columns.course ≡ true = ap (λ s. is_paced s None r.columns.course) (sym is) ∙ ap (λ o. is_paced r.state o r.columns.course) (sym interval) ∙ paced i r e in
+            cc
+        by_state UnderCreation is =
+            let some = is_set (ready (ap state_seen e ∙ is) (ap (next_state ask) (sym is) ∙ next)) in
+            let before : (rows_before set_to rows).set (i ∷ []) 2 ≡ None = ap (λ o. option_and_then (λ c. set_to c 2) (columns_seen o)) e ∙ ap interval_shown interval in
+            let unset : option_or (given 2) ((rows_before set_to rows).set (i ∷ []) 2) ≡ None = ap (λ g. option_or g ((rows_before set_to rows).set (i ∷ []) 2)) none ∙ before in
+            let no : false ≡ true = sym (ap is_some unset) ∙ some in
+            cc
+
+    was_in_range : (o : Option (Row AlarmRow)) → row_in rows i ≡ o → (z : ℤ) → (unwrap_or (columns_seen o) blank_row).interval ≡ Some z → nat_le 1 (nat_abs z) ≡ true
+    was_in_range None e z is = absurd (cc)
+    was_in_range (Some r) e z is = ap (λ o. is_paced r.state o r.columns.course) (sym is) ∙ paced i r e
+
+    abbrev old : AlarmRow
+    old = unwrap_or (columns_seen (row_in rows i)) blank_row
+
+    abbrev put : AlarmRow
+    put = put_all alarm_table with_column blank_row bs i old
+
+    set : option_map int put.interval ≡ option_or (given 2) (option_map int old.interval)
+    set = set_in_all alarm_table with_column blank_row set_to set_with bs i 2 old refl (all_fine alarm_table bs alone)
+
+    put_in_range : (z : ℤ) → put.interval ≡ Some z → nat_le 1 (nat_abs z) ≡ true
+    put_in_range = interval_by (given 2) put.interval old.interval set (λ v e. given_fine i v bs (all_fine alarm_table bs alone) e) (was_in_range (row_in rows i) refl)
+
+    put_needed : next_state ask (state_seen (row_in rows i)) ≡ Valid → put.interval ≡ None → ⊥
+    put_needed next none =
+        let both : option_or (given 2) (option_map int old.interval) ≡ None = sym set ∙ ap (option_map int) none in
+        let ungiven : given 2 ≡ None = no_first (given 2) (option_map int old.interval) both in
+        let unset : option_map int old.interval ≡ None = ap (λ g. option_or g (option_map int old.interval)) (sym ungiven) ∙ both in
+        needs_interval (row_in rows i) refl next ungiven (not_set old.interval unset)
+      where
+        not_set : (o : Option ℤ) → option_map int o ≡ None → o ≡ None
+        not_set None e = refl
+        not_set (Some z) e = cc
+
+  pub paced_set : ArePaced new
+  paced_set i row here =
+      let got = was_there (changed_row (λ index state row. settled now state row)) (row_in middle i) row (sym (settles i) ∙ here) in
+      let made = there_is _ got.0 (sym (after i) ∙ got.1) in
+      let next : State = next_state (ask i) (state_seen (row_in rows i)) in
+      subst (λ (r : Row AlarmRow). is_paced r.state r.columns.interval r.columns.course ≡ true) got.2
+      (subst (λ (r : Row AlarmRow). is_paced r.state (settled now r.state r.columns).interval (settled now r.state r.columns).course ≡ true) made
+      (settled_paced now next (put i) (put_in_range i) (put_needed i)))
+
+-- Each sample up to a moment leaves fewer.
+
+sum_same : (f g : ℕ → ℕ) (n : ℕ) → ((i : ℕ) → i < n → f i ≡ g i) → sum_below f n ≡ sum_below g n
+unfolding sum_below
+sum_same f g zero same = refl
+sum_same f g (suc n) same = let here = same n (omega arith) in let rest = sum_same f g n (λ i low. same i (omega arith)) in omega arith
+
+apart : (i j : ℕ) → i < j → nat_eq j i ≡ false
+apart i j low = grind (arith, nat_tests)
+
+lower : (j n : ℕ) → j < suc n → nat_eq j n ≡ false → j < n
+lower j n within other = grind (arith, nat_tests)
+
+sum_less : (f g : ℕ → ℕ) (j n : ℕ) → j < n → ((i : ℕ) → nat_eq j i ≡ false → f i ≡ g i) → f j < g j → sum_below f n < sum_below g n
+unfolding sum_below
+sum_less f g j zero within others less = absurd (omega arith)
+sum_less f g j (suc n) within others less =
+    elim (nat_eq j n) as (λ t. nat_eq j n ≡ t → f n + sum_below f n < g n + sum_below g n) [
+      | true ↦ λ e.
+          let here : f n < g n = subst (λ k. f k < g k) (eqb-true j n e) less in
+          let rest = sum_same f g n (λ i low. others i (subst (λ k. nat_eq k i ≡ false) (sym (eqb-true j n e)) (apart i n low))) in
+          omega arith
+      | false ↦ λ e.
+          let here = others n e in
+          let rest = sum_less f g j n (lower j n within e) others less in
+          omega arith
+    ] refl
+
+module _ (rows new : List (Row AlarmRow)) (index moment latest : ℕ) (within : moment ≤ latest) (held : AreControlRows rows) (paced : ArePaced rows) (due : Due rows index moment) where
+  abbrev left : List (Row AlarmRow) → ℕ → ℕ
+  left some alarm = span_to latest (due_at some alarm)
+
+  abbrev of_course : Option Course → ℕ
+  of_course kept = span_to latest (option_map (λ course. course.due) kept)
+
+  abbrev of_row : Option (Row AlarmRow) → ℕ
+  of_row row = span_to latest (option_and_then (λ (r : Row AlarmRow). option_map (λ course. course.due) r.columns.course) row)
+
+  was : left rows index ≡ latest + 1 - moment
+  was = ap of_row due.here ∙ ap of_course due.has ∙ ap (λ d. latest + 1 - d) due.now
+
+  fewer : ((i : ℕ) → nat_eq index i ≡ false → row_in new i ≡ row_in rows i) → left new index < left rows index → sum_below (left new) 65536 < sum_below (left rows) 65536
+  fewer others less =
+      let fits = row_fits rows index due.row held.1 due.here in
+      sum_less (left new) (left rows) index 65536 (omega arith) (λ i other. ap of_row (others i other)) less
+
+  pub fewer_taken : (number : ℤ) (result : Sampled) → HasTaken rows new index moment number result → sum_below (left new) 65536 < sum_below (left rows) 65536
+  fewer_taken number result taken =
+      let got = taken.itself due.row due.course due.here due.has in
+      let is : left new index ≡ latest + 1 - (moment + 1000 * interval_kept due.row.columns) = ap of_row got.1 ∙ ap (λ d. latest + 1 - d) got.2.due in
+      let seconds : 1 ≤ interval_kept due.row.columns = has_interval due.row.state due.row.columns.interval due.course (ap (is_paced due.row.state due.row.columns.interval) (sym due.has) ∙ paced index due.row due.here) in
+      let before = was in
+      fewer taken.others (omega arith)
+
+  pub fewer_gone : ((i : ℕ) → row_in new i ≡ cond (nat_eq index i) None (row_in rows i)) → sum_below (left new) 65536 < sum_below (left rows) 65536
+  fewer_gone lacks =
+      let is : left new index ≡ 0 = ap of_row (lacks index ∙ ap (λ t. cond t None (row_in rows index)) (itself index)) in
+      let before = was in
+      fewer (λ i other. lacks i ∙ ap (λ t. cond t None (row_in rows i)) other) (omega arith)
+    where
+      itself : (i : ℕ) → nat_eq i i ≡ true
+      itself i = grind (arith, nat_tests)

@@ -1,0 +1,186 @@
+// Alarms on made-up variables. What their samples come to was worked out by hand from RFC 1757, section 5.4.
+use crate::Sampled::{Falling, Gone, Quiet, Rising};
+use crate::tests::given::{Given, answer, name_of, number, scalar};
+use crate::tests::passed::Passed;
+use crate::{Alarms, Sampled, Watched};
+use arrayvec::ArrayVec;
+use rm_status::{Group, Readable, Unsampled};
+use rm_val::Value;
+use std::alloc::Global;
+use std::process::Abort;
+use std::test::Fail;
+
+const STATUS: u32 = 12;
+
+// Alarm 1 samples the number of frames each second, with the thresholds 10 and 5.
+fn columns(sample_type: i32, startup: i32) -> [Given; 7] {
+    [
+        number(2, 1, 1),
+        scalar(3, 1, 2),
+        number(4, 1, sample_type),
+        number(6, 1, startup),
+        number(7, 1, 10),
+        number(8, 1, 5),
+        number(STATUS, 1, 1),
+    ]
+}
+
+// The group with alarm 1, valid since a moment, before which so many frames passed.
+fn with_alarm(
+    rt: &impl Abort,
+    alloc: Global,
+    frames: u32,
+    columns: &[Given],
+    moment: u32,
+) -> Watched<Passed> {
+    let mut group = Watched {
+        watched: Passed {
+            frames,
+            is_there: true,
+        },
+        alarms: Alarms::new(),
+    };
+    assert_eq!(rt;
+        answer(alloc, &mut group, &[number(STATUS, 1, 2)], moment),
+        None
+    );
+    assert_eq!(rt; answer(alloc, &mut group, columns, moment), None);
+    group
+}
+
+// Takes the next sample at its moment. The alarm, its moment in milliseconds and what the sample comes to.
+fn take_next<G: Readable + Unsampled>(group: &mut Watched<G>) -> Option<(u32, u32, Sampled)> {
+    let (moment, index) = group.next_due()?;
+    let moment = u32::try_from(moment).ok()?;
+    Some((index, moment, group.sample(index, moment)))
+}
+
+// Takes all samples that are due up to a moment. The alarm and the moment of each.
+fn take_all(group: &mut Watched<Passed>, latest: u32) -> ArrayVec<(u32, u32), 8> {
+    let mut taken = ArrayVec::new();
+    while let Some((moment, index)) = group.next_due() {
+        if moment > u64::from(latest) {
+            break;
+        }
+        let moment = moment as u32;
+        group.sample(index, moment);
+        let _ = taken.try_push((index, moment));
+    }
+    taken
+}
+
+// What a column of alarm 1 shows.
+fn shown(group: &Watched<Passed>, column: u32) -> Option<i32> {
+    match group.cell(&name_of(column, 1), 60_000) {
+        Some(Value::Int(value)) => Some(value),
+        _ => None,
+    }
+}
+
+// The moment of a sample, how many frames pass before it, the value that it has, and what it comes to.
+type Sample = (u32, u32, i32, Sampled);
+
+fn check_samples(rt: &impl Abort, group: &mut Watched<Passed>, samples: &[Sample]) {
+    for &(moment, frames, value, expected) in samples {
+        group.watched.pass(frames);
+        let next = take_next(group);
+        assert_eq!(rt; next, Some((1, moment, expected)), "{moment}");
+        assert_eq!(rt; shown(group, 5), Some(value), "{moment}");
+    }
+}
+
+// deltaValue, fallingAlarm: the first sample alone can't rise
+#[test]
+fn differences_of_a_counter(rt: HostRuntime) -> Result<(), Fail> {
+    let mut group = with_alarm(&rt, rt.alloc(), u32::MAX - 5, &columns(2, 2), 500);
+    assert_eq!(rt; shown(&group, 5), Some(0));
+    let samples = [
+        (1500, 12, 12, Quiet),
+        (2500, 7, 7, Quiet),
+        (3500, 11, 11, Rising),
+        (4500, 5, 5, Falling),
+        (5500, 10, 10, Rising),
+        (6500, 11, 11, Quiet),
+    ];
+    check_samples(&rt, &mut group, &samples);
+    Ok(())
+}
+
+// absoluteValue, risingOrFallingAlarm
+#[test]
+fn values_of_a_counter(rt: HostRuntime) -> Result<(), Fail> {
+    let mut group = with_alarm(&rt, rt.alloc(), 3, &columns(1, 3), 0);
+    let samples = [
+        (1000, 1, 4, Falling),
+        (2000, 5, 9, Quiet),
+        (3000, 1, 10, Rising),
+        (4000, u32::MAX - 9, 0, Falling),
+    ];
+    check_samples(&rt, &mut group, &samples);
+    Ok(())
+}
+
+#[test]
+fn an_alarm_goes_with_its_variable(rt: HostRuntime) -> Result<(), Fail> {
+    let mut group = with_alarm(&rt, rt.alloc(), 0, &columns(1, 1), 0);
+    assert_eq!(rt; take_next(&mut group), Some((1, 1000, Quiet)));
+    group.watched.is_there = false;
+    assert_eq!(rt; shown(&group, STATUS), Some(1));
+    assert_eq!(rt; take_next(&mut group), Some((1, 2000, Gone)));
+    assert_eq!(rt; shown(&group, STATUS), None);
+    assert_eq!(rt; take_next(&mut group), None);
+    Ok(())
+}
+
+// an alarm that becomes valid again starts anew, from what its variable reads then
+#[test]
+fn an_alarm_starts_anew(rt: HostRuntime) -> Result<(), Fail> {
+    let mut group = with_alarm(&rt, rt.alloc(), 0, &columns(2, 1), 0);
+    let alloc = rt.alloc();
+    group.watched.pass(20);
+    assert_eq!(rt; take_next(&mut group), Some((1, 1000, Rising)));
+    assert_eq!(rt;
+        answer(alloc, &mut group, &[number(STATUS, 1, 3)], 1500),
+        None
+    );
+    assert_eq!(rt; shown(&group, 5), Some(0));
+    assert_eq!(rt; take_next(&mut group), None);
+    group.watched.pass(30);
+    assert_eq!(rt;
+        answer(alloc, &mut group, &[number(STATUS, 1, 1)], 1700),
+        None
+    );
+    group.watched.pass(10);
+    assert_eq!(rt; take_next(&mut group), Some((1, 2700, Rising)));
+    assert_eq!(rt; shown(&group, 5), Some(10));
+    Ok(())
+}
+
+// two alarms, each 2 and each 3 seconds: of samples at one moment that of the lower alarm comes first
+#[test]
+fn samples_in_order(rt: HostRuntime) -> Result<(), Fail> {
+    let alloc = rt.alloc();
+    let mut group = with_alarm(&rt, alloc, 0, &columns(1, 1), 0);
+    assert_eq!(rt;
+        answer(
+            alloc,
+            &mut group,
+            &[number(STATUS, 1, 3), number(STATUS, 2, 2)],
+            0
+        ),
+        None
+    );
+    let set = [
+        number(2, 1, 3),
+        number(STATUS, 1, 1),
+        number(2, 2, 2),
+        scalar(3, 2, 2),
+        number(STATUS, 2, 1),
+    ];
+    assert_eq!(rt; answer(alloc, &mut group, &set, 0), None);
+    let taken = take_all(&mut group, 6999);
+    let expected = [(2, 2000), (1, 3000), (2, 4000), (1, 6000), (2, 6000)];
+    assert_eq!(rt; taken.as_slice(), expected.as_slice());
+    assert_eq!(rt; group.next_due(), Some((8000, 2)));
+    Ok(())
+}
