@@ -5,3 +5,5 @@ pub mod Firings
 pub mod Tables
 pub mod EventRows
 pub mod RowLaws
+pub mod Log
+pub mod Logs
