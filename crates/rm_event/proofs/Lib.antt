@@ -1,2 +1,5 @@
 mod Entries
 mod Spares
+mod RowFacts
+mod Moments
+mod Fires

@@ -7,3 +7,5 @@ pub mod EventRows
 pub mod RowLaws
 pub mod Log
 pub mod Logs
+pub mod Held
+pub mod Standing

@@ -4,10 +4,15 @@
 mod event_column;
 mod event_row;
 mod event_type;
+mod events;
 mod fired;
+mod firing;
+mod laws;
 mod log;
 mod log_column;
 mod logs;
 
 pub use event_type::EventType;
+pub use events::Events;
 pub use fired::Fired;
+pub use laws::{act_begins, act_ends, act_passes};
