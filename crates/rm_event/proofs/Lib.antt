@@ -3,3 +3,6 @@ mod Spares
 mod RowFacts
 mod Moments
 mod Fires
+mod Begun
+mod Counts
+mod Assigned

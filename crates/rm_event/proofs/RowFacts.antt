@@ -1,5 +1,5 @@
 -- Rows of a control table.
-use Rattle.std.proofs.Common.{◌≡◌, ℕ, ◌≤◌, List, [], ◌∷◌, Bool, true, false, cond, ◌&&◌, Option, Some, None, refl, sym, ap, subst, ◌∙◌, nat_eq, nat_le, arith}
+use Rattle.std.proofs.Common.{◌≡◌, ℕ, ◌<◌, ◌≤◌, List, [], ◌∷◌, Bool, true, false, cond, ◌&&◌, Option, Some, None, refl, sym, ap, subst, ◌∙◌, nat_eq, nat_le, arith}
 use Rattle.std.proofs.lemmas.Bool.Decides.{nat_tests}
 use borrow.Author.Tests.{eqb-true}
 use Rattle.rm_model.specs.ControlRows.{is_absent, is_valid}
@@ -77,3 +77,13 @@ module _ {C : Type 0} where
       by_row : (o : Option (Row C)) → is_valid (state_seen o) ≡ true → (columns : C) × (columns_seen o ≡ Some columns)
       by_row None no_way = absurd (cc)
       by_row (Some row) is = (row.columns, refl)
+
+  pub valid_below : (rows : List (Row C)) (i : ℕ) → AllThere rows → is_valid (state_in rows i) ≡ true → i < 65536
+  valid_below rows i there valid = let fits = (valid_fits rows i there valid).1 in omega (arith, fits)
+
+  -- between a row and the next one there is none
+  pub none_between : (rows : List (Row C)) (last index : ℕ) → IsIndexAfter rows last (Some index) → (i : ℕ) → last < i → i < index → is_valid (state_in rows i) ≡ false
+  none_between rows last index after i low high = ap (λ o. is_valid (state_seen o)) (after.2 i low high)
+
+  pub none_above : (rows : List (Row C)) (last : ℕ) → IsIndexAfter rows last None → (i : ℕ) → last < i → is_valid (state_in rows i) ≡ false
+  none_above rows last after i low = ap (λ o. is_valid (state_seen o)) (after i low)

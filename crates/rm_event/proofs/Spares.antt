@@ -305,3 +305,7 @@ none_found logs row e = no_log (log_in logs row) refl
 
 pub in_some : {x y : Log} → Some x ≡ Some y → x ≡ y
 in_some e = cc
+
+pub not_some : (o : Option Log) → is_some o ≡ false → o ≡ None
+not_some None e = refl
+not_some (Some log) e = cc

@@ -9,3 +9,4 @@ pub mod Log
 pub mod Logs
 pub mod Held
 pub mod Standing
+pub mod Group

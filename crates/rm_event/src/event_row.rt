@@ -21,6 +21,9 @@ const COMMUNITY: u32 = 4;
 /// The number of eventOwner.
 const OWNER: u32 = 6;
 
+/// The number of eventStatus.
+pub(crate) const STATUS: u32 = 7;
+
 /// How many octets a text has at most.
 const MOST_TEXT: usize = 127;
 

@@ -1,6 +1,8 @@
 //! The group event: eventTable and logTable (RFC 1757, section 5.9).
 #![tactic(auto)]
 
+mod assigning;
+mod event_cell;
 mod event_column;
 mod event_row;
 mod event_type;

@@ -3,8 +3,9 @@ ghost use Rattle.std.specs.Prelude.{◌≡◌, ℕ, ◌+◌, ◌<◌, ◌≤◌,
 ghost use Rattle.std.specs.Option.{option_copied};
 ghost use Rattle.rm_model.specs.Judgement.{count_below};
 ghost use Rattle.rm_event.specs.declared.log.Log.{Log as Kept};
-ghost use Rattle.rm_event.specs.Log.{IsNew, HasFired};
-ghost use Rattle.rm_event.specs.Logs.{kept, log_in, AreDistinct, released, valid_in};
+ghost use Rattle.rm_event.specs.Held.{AreOfValid};
+ghost use Rattle.rm_event.specs.Log.{HasFired};
+ghost use Rattle.rm_event.specs.Logs.{kept, log_in, AreDistinct, HasNew, AreBegun, released, valid_in};
 
 use crate::event_row::EventRow;
 use crate::event_type::EventType;
@@ -68,7 +69,7 @@ impl Logs {
         ensures distinct { AreDistinct (kept self.old) → AreDistinct (kept self.new) }
         ensures more { length (kept self.old) ≤ length (kept self.new) }
         ensures ok { OnOk result (count ≤ length (kept self.new)) }
-        ensures err { OnErr result (length (kept self.old) < count) }
+        ensures err { OnErr result (length (kept self.new) < count) }
     {
         while self.len() < count {
             let log = Log::spare(alloc)?;
@@ -97,13 +98,69 @@ impl Logs {
         }
     }
 
-    /// Begins the log of a row that has none, in storage that is spare.
-    pub fn begin(&mut self, row: u32)
+    /// Makes the logs spare whose rows aren't valid, and begins one for each valid row that has none. There is storage for all of
+    /// them.
+    pub fn follow(&mut self, rows: &Controls<EventRow>)
+        requires distinct { AreDistinct (kept self.old) }
+        requires enough { count_below (valid_in rows.now) 65536 ≤ length (kept self.old) }
+        ensures of_valid { AreOfValid (kept self.new) rows.now }
+        ensures distinct { AreDistinct (kept self.new) }
+        ensures count { length (kept self.new) ≡ length (kept self.old) }
+        ensures stays { (row : ℕ) (log : Kept) → 1 ≤ row → valid_in rows.now row ≡ true → log_in (kept self.old) row ≡ Some log → log_in (kept self.new) row ≡ Some log }
+        ensures begun { (row : ℕ) → 1 ≤ row → valid_in rows.now row ≡ true → log_in (kept self.old) row ≡ None → HasNew (kept self.new) row }
+    {
+        prove!(rows.len() <= 16);
+        self.release(rows);
+        self.begin_each(rows);
+    }
+
+    // Begins a log for each valid row that has none.
+    fn begin_each(&mut self, rows: &Controls<EventRow>)
+        requires distinct { AreDistinct (kept self.old) }
+        requires used { (row : ℕ) → 1 ≤ row → is_some (log_in (kept self.old) row) ≡ true → valid_in rows.now row ≡ true }
+        requires enough { count_below (valid_in rows.now) 65536 ≤ length (kept self.old) }
+        ensures { AreBegun (valid_in rows.now) (kept self.old) (kept self.new) 65535 }
+    {
+        prove!(rows.len() <= 16);
+        let mut last = 0;
+        while let Some(index) = rows.after(last) {
+            self.begin_of(rows, index);
+            last = index;
+        }
+    }
+
+    // Begins the log of a row, where the row is valid and has none.
+    fn begin_of(&mut self, rows: &Controls<EventRow>, row: u32)
+        requires some_row { 1 ≤ row }
+        requires distinct { AreDistinct (kept self.old) }
+        requires used { (other : ℕ) → 1 ≤ other → is_some (log_in (kept self.old) other) ≡ true → valid_in rows.now other ≡ true }
+        requires enough { count_below (valid_in rows.now) 65536 ≤ length (kept self.old) }
+        ensures begun { valid_in rows.now row ≡ true → log_in (kept self.old) row ≡ None → HasNew (kept self.new) row }
+        ensures stays { (log : Kept) → log_in (kept self.old) row ≡ Some log → log_in (kept self.new) row ≡ Some log }
+        ensures idle { valid_in rows.now row ≡ false → log_in (kept self.new) row ≡ log_in (kept self.old) row }
+        ensures others { (other : ℕ) → 1 ≤ other → nat_eq row other ≡ false → log_in (kept self.new) other ≡ log_in (kept self.old) other }
+        ensures distinct { AreDistinct (kept self.new) }
+        ensures count { length (kept self.new) ≡ length (kept self.old) }
+    {
+        prove!(rows.len() <= 16);
+        if is_valid(rows, row) && !self.has(row) {
+            self.begin(row);
+        }
+    }
+
+    // Whether a row has a log.
+    fn has(&self, row: u32) -> bool
+        ensures { result ≡ is_some (log_in (kept self.now) row) }
+    {
+        self.get(row).is_some()
+    }
+
+    // Begins the log of a row that has none, in storage that is spare.
+    fn begin(&mut self, row: u32)
         requires some_row { 1 ≤ row }
         requires none { log_in (kept self.old) row ≡ None }
         requires spare { is_some (log_in (kept self.old) 0) ≡ true }
-        ensures begun { IfSome (log_in (kept self.new) row) IsNew }
-        ensures there { is_some (log_in (kept self.new) row) ≡ true }
+        ensures begun { HasNew (kept self.new) row }
         ensures others { (other : ℕ) → 1 ≤ other → nat_eq row other ≡ false → log_in (kept self.new) other ≡ log_in (kept self.old) other }
         ensures distinct { AreDistinct (kept self.old) → AreDistinct (kept self.new) }
         ensures count { length (kept self.new) ≡ length (kept self.old) }
@@ -113,8 +170,8 @@ impl Logs {
         }
     }
 
-    /// Makes the logs spare whose rows aren't valid.
-    pub fn release(&mut self, rows: &Controls<EventRow>)
+    // Makes the logs spare whose rows aren't valid.
+    fn release(&mut self, rows: &Controls<EventRow>)
         ensures { kept self.new ≡ map (released (valid_in rows.now)) (kept self.old) }
     {
         if let Some(list) = &mut self.list {
@@ -158,8 +215,7 @@ fn begin_in(list: &mut Vec<Log>, row: u32)
     requires some_row { 1 ≤ row }
     requires none { log_in list.old.items row ≡ None }
     requires spare { is_some (log_in list.old.items 0) ≡ true }
-    ensures begun { IfSome (log_in list.new.items row) IsNew }
-    ensures there { is_some (log_in list.new.items row) ≡ true }
+    ensures begun { HasNew list.new.items row }
     ensures others { (other : ℕ) → 1 ≤ other → nat_eq row other ≡ false → log_in list.new.items other ≡ log_in list.old.items other }
     ensures distinct { AreDistinct list.old.items → AreDistinct list.new.items }
     ensures count { length list.new.items ≡ length list.old.items }
@@ -189,10 +245,16 @@ fn release_in(logs: &mut [Log], rows: &Controls<EventRow>)
 fn release_one(log: &mut Log, rows: &Controls<EventRow>)
     ensures { log.new ≡ released (valid_in rows.now) log.old }
 {
-    match rows.state(log.row) {
-        State::Valid => {}
-        _ => log.row = 0,
+    if !is_valid(rows, log.row) {
+        log.row = 0;
     }
+}
+
+// Whether a row is valid.
+fn is_valid(rows: &Controls<EventRow>, row: u32) -> bool
+    ensures { result ≡ valid_in rows.now row }
+{
+    matches!(rows.state(row), State::Valid)
 }
 
 // The log of a row among some.

@@ -1,8 +1,6 @@
-use Rattle.std.proofs.Common.{◌≡◌, List, cond, Option, Some, None, sym, ◌∙◌, ap, subst, slice_set, nat_eq}
+use Rattle.std.proofs.Common.{◌≡◌, List, cond, Some, None, sym, ◌∙◌, ap, subst, slice_set, nat_eq}
 use Rattle.std.specs.List.{position}
-use Rattle.std.specs.Prelude.{is_some, IfSome}
 use Rattle.rm_event.specs.declared.log.Log.{Log}
-use Rattle.rm_event.specs.Log.{IsNew}
 use Rattle.rm_event.specs.Logs.{log_in}
 use Rattle.rm_event.proofs.Spares.{spare_at, set_in, set_itself, distinct_set, no_spare}
 use Rattle.rm_event.proofs.logs.begin_in.Goals as goal
@@ -14,14 +12,7 @@ returns-in-Some-clause-begun c =
     let y : Log = c.begin.new.self in
     let at = spare_at logs c.in-Some.place d (subst (λ (l : List Log). position (λ (log : Log). nat_eq log.row 0) l ≡ Some c.in-Some.place) c.as_slice.ensures.value (sym c.in-Some.ensures)) in
     let here : log_in (slice_set logs c.in-Some.place y) c.args.row ≡ Some y = set_itself logs c.in-Some.place d y c.args.row at.0 at.1 c.begin.ensures.row c.requires.some_row c.requires.none in
-    subst (λ (o : Option Log). IfSome o IsNew) (sym here) c.begin.ensures.empty
-
-pub returns-in-Some-clause-there : goal.returns-in-Some-clause-there
-returns-in-Some-clause-there c =
-    let logs = c.args.list.now.items in
-    let d = c.index_mut.result.now in
-    let at = spare_at logs c.in-Some.place d (subst (λ (l : List Log). position (λ (log : Log). nat_eq log.row 0) l ≡ Some c.in-Some.place) c.as_slice.ensures.value (sym c.in-Some.ensures)) in
-    ap is_some (set_itself logs c.in-Some.place d c.begin.new.self c.args.row at.0 at.1 c.begin.ensures.row c.requires.some_row c.requires.none)
+    record { log = y; here = here; new = c.begin.ensures.empty }
 
 pub returns-in-Some-clause-others : goal.returns-in-Some-clause-others
 returns-in-Some-clause-others c = λ other some apart.
@@ -37,5 +28,5 @@ returns-in-Some-clause-distinct c = λ h.
     let at = spare_at logs c.in-Some.place d (subst (λ (l : List Log). position (λ (log : Log). nat_eq log.row 0) l ≡ Some c.in-Some.place) c.as_slice.ensures.value (sym c.in-Some.ensures)) in
     distinct_set logs c.in-Some.place d c.begin.new.self c.args.row at.0 at.1 c.begin.ensures.row c.requires.some_row c.requires.none h
 
-pub returns-in_default-clause-there : goal.returns-in_default-clause-there
-returns-in_default-clause-there c = absurd (no_spare c.args.list.now.items (subst (λ (l : List Log). None ≡ position (λ (log : Log). nat_eq log.row 0) l) c.as_slice.ensures.value c.in_default.ensures) c.requires.spare)
+pub returns-in_default-clause-begun : goal.returns-in_default-clause-begun
+returns-in_default-clause-begun c = absurd (no_spare c.args.list.now.items (subst (λ (l : List Log). None ≡ position (λ (log : Log). nat_eq log.row 0) l) c.as_slice.ensures.value c.in_default.ensures) c.requires.spare)
