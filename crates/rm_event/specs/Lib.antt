@@ -10,3 +10,7 @@ pub mod Logs
 pub mod Held
 pub mod Standing
 pub mod Group
+pub mod Walk
+pub mod EntryNumbers
+pub mod Shown
+pub mod Finite

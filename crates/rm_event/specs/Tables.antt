@@ -5,7 +5,7 @@ use Rattle.rm_val.specs.Val.{Val, int, ticks, null}
 use Rattle.rm_model.specs.Settings.{Settings}
 use Rattle.rm_model.specs.Journal.{Journal}
 use Rattle.rm_model.specs.Cells.{Table}
-use Rattle.rm_model.specs.ControlRows.{is_absent, index_value, entry_status}
+use Rattle.rm_model.specs.ControlRows.{is_absent, is_valid, index_value, entry_status}
 use Rattle.rm_status.specs.Rows.{row_number}
 use Rattle.rm_event.specs.declared.event_column.EventColumn.{EventColumn}
 use Rattle.rm_event.specs.declared.event_column.EventColumn.TheVariants as event
@@ -50,9 +50,10 @@ is_shown entries number = nat_le 1 number && (nat_le number entries && nat_lt en
 abbrev pub time_at : List ℕ → ℕ → ℕ
 time_at moments number = option_map_or tick_of (slice_get moments (length moments - number)) 0
 
--- whether these numbers are those of an event and of an entry of its log that is shown
+-- whether these numbers are those of an event whose row is valid and of an entry of its log that is shown
 abbrev pub is_entry : Settings → Journal → List ℕ → Bool
-is_entry settings journal (event ∷ number ∷ []) = is_shown (length (log_of settings journal event)) number
+is_entry settings journal (event ∷ number ∷ []) =
+    is_valid (event_state journal (event ∷ [])) && is_shown (length (log_of settings journal event)) number
 is_entry settings journal index = false
 
 -- what a column of an entry shows

@@ -2,6 +2,8 @@
 #![tactic(auto)]
 
 mod assigning;
+mod cells;
+mod entries;
 mod event_cell;
 mod event_column;
 mod event_row;
@@ -9,8 +11,10 @@ mod event_type;
 mod events;
 mod fired;
 mod firing;
+mod group;
 mod laws;
 mod log;
+mod log_cell;
 mod log_column;
 mod logs;
 

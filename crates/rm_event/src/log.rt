@@ -32,6 +32,7 @@ pub struct Log {
 impl Log {
     ghost use Rattle.rm_event.specs.Log.{IsNew, HasFired, kept_time};
     ghost use Rattle.rm_event.specs.Tables.{is_shown};
+    ghost use Rattle.rm_event.specs.Walk.{IsNumberAbove, shows_any};
 
     /// Storage that is spare.
     pub fn spare(alloc: Global) -> Result<Log, NoMemory>
@@ -74,6 +75,23 @@ impl Log {
         ensures { result ≡ is_shown self.now.added number }
     {
         1 <= number && number <= self.added && self.added < number + MOST_SHOWN
+    }
+
+    /// Whether any entry is shown: the last one, then.
+    pub fn shows_any(&self) -> bool
+        ensures { result ≡ shows_any self.now.added }
+    {
+        self.shows(self.added)
+    }
+
+    /// The least number above one of an entry that is shown. None where none above is shown.
+    pub fn number_above(&self, number: u32) -> Option<u32>
+        ensures { IsNumberAbove (is_shown self.now.added) number result }
+    {
+        if number >= self.added {
+            return None;
+        }
+        Some(number.max(self.added.saturating_sub(MOST_SHOWN)) + 1)
     }
 
     /// The time of the entry with that number, 0 where it isn't kept.

@@ -49,6 +49,16 @@ impl Logs {
         }
     }
 
+    /// All of them, the spare ones included.
+    pub fn all(&self) -> &[Log]
+        ensures { result.now ≡ kept self.now }
+    {
+        match &self.list {
+            Some(list) => list.as_slice(),
+            None => &[],
+        }
+    }
+
     /// Notes in the log of a row that its event, which is of that type, fires at a moment in milliseconds.
     pub fn fire(&mut self, row: u32, event_type: EventType, moment: u32)
         ensures itself { (log : Kept) → log_in (kept self.old) row ≡ Some log → (new : Kept) × (log_in (kept self.new) row ≡ Some new) × HasFired event_type moment log new }

@@ -1,7 +1,7 @@
 use Rattle.std.proofs.Common.{ℕ, refl, ap, ◌∙◌, sym, take, ◌∷◌, ◌/◌, arith}
 use Rattle.circular_buffer.specs.Buffer.{Buffer}
 use Rattle.rm_event.specs.declared.log.Log.{Log}
-use Rattle.rm_event.proofs.Entries.{fires_logged, fires_full, fires_silent}
+use Rattle.rm_event.proofs.OneFiring.{fires_logged, fires_full, fires_silent}
 use Rattle.rm_event.proofs.log.Log.fire.Goals.{else-is_logged-via-then-is_logged+else-self-lt-MOST_ENTRIES, else-is_logged-via-else-is_logged}
 use Rattle.rm_event.proofs.log.Log.fire.Goals as goal
 
