@@ -137,12 +137,12 @@ spare_left valid n logs row h under used is none enough =
           | false ↦ λ _ there. used other there (not_first e other there)
         ] refl k
 
+pub length_more : (logs : List Log) (log : Log) → length (logs ++ log ∷ []) ≡ length logs + 1
+length_more [] log = refl
+length_more (x ∷ logs) log = let more = length_more logs log in omega (arith, more)
+
 pub longer : (n : ℕ) (logs new : List Log) (log : Log) → new ≡ logs ++ log ∷ [] → n ≤ length logs → n ≤ length new
 longer n logs new log e h = subst (λ l. n ≤ length l) (sym e) (let one = length_more logs log in omega (arith, one, h))
-  where
-    length_more : (logs : List Log) (log : Log) → length (logs ++ log ∷ []) ≡ length logs + 1
-    length_more [] log = refl
-    length_more (x ∷ logs) log = let more = length_more logs log in omega (arith, more)
 
 -- A spare log at a place becomes that of a row.
 set_in_at : (log : Log) (y : Log) (row other : ℕ) (o : Option Log) → log.row ≡ 0 → y.row ≡ row → 1 ≤ other → cond (nat_eq y.row other) (Some y) o ≡ cond (nat_eq row other) (Some y) (cond (nat_eq log.row other) (Some log) o)

@@ -9,7 +9,7 @@ ghost use Rattle.rm_status.specs.Rows.{state_in, columns_in};
 ghost use Rattle.rm_event.specs.declared.event_row.EventRow.{EventRow as Columns};
 ghost use Rattle.rm_event.specs.EventTable.{event_state, type_of};
 ghost use Rattle.rm_event.specs.Firings.{is_set};
-ghost use Rattle.rm_event.specs.Logs.{kept};
+ghost use Rattle.rm_event.specs.Group.{IsStocked, IsReleased};
 ghost use Rattle.rm_event.specs.Standing.{HasRows, Stands, IsUnderWay, fired_of, community_of};
 
 use crate::event_type::EventType;
@@ -23,7 +23,8 @@ use std::alloc::Global;
 impl Events {
     /// No events, and no storage.
     pub fn new() -> Events
-        ensures { (settings : Settings) → Stands result settings [] }
+        ensures stands { (settings : Settings) → Stands result settings [] }
+        ensures released { IsReleased result }
     {
         Events {
             rows: Controls::new(StatusKind::EntryStatus),
@@ -33,8 +34,9 @@ impl Events {
 
     /// Takes the storage of one row. No variable changes.
     pub fn reserve(&mut self, alloc: Global) -> Result<(), NoMemory>
-        ensures stocked { OnOk result (1 ≤ length (kept self.new.logs)) }
+        ensures stocked { OnOk result (IsStocked self.new) }
         ensures stands { (settings : Settings) (journal : Journal) → Stands self.old settings journal → Stands self.new settings journal }
+        ensures released { IsReleased self.old → IsReleased self.new }
     {
         self.logs.grow(alloc, 1)
     }
@@ -45,7 +47,8 @@ impl Events {
         ensures under_way { (settings : Settings) (act : Act) (earlier : Journal) (some : List ℕ) → is_set act ≡ false → moment_of act ≡ moment
             → IsUnderWay self.old settings act earlier some → IsUnderWay self.new settings act earlier (some ++ index ∷ []) }
         ensures result { (journal : Journal) → HasRows self.old journal → result ≡ fired_of (event_state journal (index ∷ [])) (type_of journal index) }
-        ensures stocked { length (kept self.new.logs) ≡ length (kept self.old.logs) }
+        ensures stocked { IsStocked self.old → IsStocked self.new }
+        ensures released { IsReleased self.old → IsReleased self.new }
     {
         match self.valid_type(index) {
             Some(event_type) => {

@@ -1,5 +1,5 @@
 // The logs that are kept.
-ghost use Rattle.std.specs.Prelude.{◌≡◌, ℕ, ◌+◌, ◌<◌, ◌≤◌, ◌⊎◌, [], ◌∷◌, ◌++◌, map, length, min, true, false, Some, None, is_some, position, nat_eq, OnOk, OnErr, IfSome, is_ok, if◌then◌else◌};
+ghost use Rattle.std.specs.Prelude.{◌≡◌, ℕ, ◌+◌, ◌<◌, ◌≤◌, ◌⊎◌, [], ◌∷◌, ◌++◌, map, length, min, max, true, false, Some, None, is_some, position, nat_eq, OnOk, OnErr, IfSome, is_ok, if◌then◌else◌};
 ghost use Rattle.std.specs.Option.{option_copied};
 ghost use Rattle.rm_model.specs.Judgement.{count_below};
 ghost use Rattle.rm_event.specs.declared.log.Log.{Log as Kept};
@@ -78,6 +78,7 @@ impl Logs {
         ensures same { (row : ℕ) → 1 ≤ row → log_in (kept self.new) row ≡ log_in (kept self.old) row }
         ensures distinct { AreDistinct (kept self.old) → AreDistinct (kept self.new) }
         ensures more { length (kept self.old) ≤ length (kept self.new) }
+        ensures no_more { length (kept self.new) ≤ max count (length (kept self.old)) }
         ensures ok { OnOk result (count ≤ length (kept self.new)) }
         ensures err { OnErr result (length (kept self.new) < count) }
     {

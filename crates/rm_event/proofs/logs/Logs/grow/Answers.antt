@@ -1,7 +1,7 @@
-use Rattle.std.proofs.Common.{◌≡◌, ◌∙◌, ap, subst, sym, [], ◌∷◌, ◌++◌, length}
+use Rattle.std.proofs.Common.{◌+◌, arith, ◌≡◌, ◌∙◌, ap, subst, sym, [], ◌∷◌, ◌++◌, length}
 use Rattle.rm_event.specs.declared.log.Log.{Log}
 use Rattle.rm_event.specs.Logs.{kept, log_in, AreDistinct}
-use Rattle.rm_event.proofs.Spares.{spare_more, distinct_more, longer}
+use Rattle.rm_event.proofs.Spares.{spare_more, distinct_more, longer, length_more}
 use Rattle.rm_event.proofs.logs.Logs.grow.Goals as goal
 
 pub loop-alloc-preserved : goal.loop-alloc-preserved
@@ -12,5 +12,6 @@ loop-alloc-preserved c =
     record {
       same = λ row some. ap (λ l. log_in l row) added ∙ spare_more (kept c.loop-alloc.self) log row none some ∙ c.loop-alloc.invariant.same row some;
       distinct = λ h. subst AreDistinct (sym added) (distinct_more (kept c.loop-alloc.self) log none (c.loop-alloc.invariant.distinct h));
+      no_more = let one : length (kept c.add.new.self) ≡ length (kept c.loop-alloc.self) + 1 = ap length added ∙ length_more (kept c.loop-alloc.self) log in omega (arith, one, c.loop-alloc-test.true, c.len.ensures);
       more = longer (length (kept c.args.self.now)) (kept c.loop-alloc.self) (kept c.add.new.self) log added c.loop-alloc.invariant.more;
     }

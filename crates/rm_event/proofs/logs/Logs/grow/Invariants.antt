@@ -1,4 +1,5 @@
 use Rattle.std.proofs.Common.{◌≡◌, ℕ, ◌-◌, ◌≤◌, length}
+use Rattle.std.specs.Prelude.{max}
 use Rattle.rm_event.specs.Logs.{kept, log_in, AreDistinct}
 use Rattle.rm_event.proofs.logs.Logs.grow.Given as goal
 
@@ -6,6 +7,7 @@ abbrev pub invariant-loop-alloc : goal.invariant-loop-alloc
 invariant-loop-alloc l = record {
   same : (row : ℕ) → 1 ≤ row → log_in (kept l.self) row ≡ log_in (kept l.fn.self) row;
   distinct : AreDistinct (kept l.fn.self) → AreDistinct (kept l.self);
+  no_more : length (kept l.self) ≤ max l.count (length (kept l.fn.self));
   more : length (kept l.fn.self) ≤ length (kept l.self);
 }
 
