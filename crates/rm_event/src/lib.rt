@@ -17,6 +17,8 @@ mod log;
 mod log_cell;
 mod log_column;
 mod logs;
+#[cfg(test)]
+mod tests;
 
 pub use event_type::EventType;
 pub use events::Events;
