@@ -1,0 +1,126 @@
+-- What is kept of events after a Set with which nothing is wrong.
+use Rattle.std.proofs.Common.{◌≡◌, ℕ, ◌<◌, ◌≤◌, List, [], ◌∷◌, length, Bool, true, false, cond, ◌&&◌, Option, Some, None, refl, sym, ap, subst, ◌∙◌}
+use Rattle.std.specs.Prelude.{unwrap_or}
+use Rattle.std.specs.Option.{option_or}
+use Rattle.rm_model.specs.Settings.{Settings}
+use Rattle.rm_model.specs.Journal.{Assignments, Journal, assigns, value_given}
+use Rattle.rm_model.specs.ControlTable.{default_of}
+use Rattle.rm_model.specs.ControlRows.{no_rows, cell_name, value_ask, set_ask, next_state, is_absent, is_valid, set_value, stays_valid}
+use Rattle.rm_model.specs.Judgement.{Bindings, count_below, first_pass, second_pass}
+use Rattle.rm_model.specs.Reserves.{count_valid_after}
+use Rattle.rm_model.specs.declared.row.State.{State}
+use Rattle.rm_model.specs.declared.row.State.TheVariants.{Absent, UnderCreation, Valid}
+use Rattle.rm_status.specs.declared.row.Row.{Row}
+use Rattle.rm_status.specs.Rows.{row_in, rows_before, state_in, state_seen, AreControlRows}
+use Rattle.rm_status.specs.Commit.{row_after}
+use Rattle.rm_status.specs.RowsAfter.{AreRowsAfter}
+use Rattle.rm_status.proofs.Bares.{state_then}
+use Rattle.rm_status.proofs.Puts.{all_fine}
+use Rattle.rm_status.proofs.RowsAfterLemmas.{rows_assigns, fixed_column}
+use Rattle.rm_event.specs.declared.event_row.EventRow.{EventRow}
+use Rattle.rm_event.specs.declared.log.Log.{Log}
+use Rattle.rm_event.specs.EventType.{type_in}
+use Rattle.rm_event.specs.EventTable.{event_table, event_state, type_of}
+use Rattle.rm_event.specs.EventRows.{set_to, with_column, blank_row}
+use Rattle.rm_event.specs.RowLaws.{set_with, blank_alike}
+use Rattle.rm_event.specs.Firings.{firings}
+use Rattle.rm_event.specs.Log.{IsLog}
+use Rattle.rm_event.specs.Logs.{log_in, HasNew, valid_in}
+use Rattle.rm_event.specs.Held.{AreOfValid}
+use Rattle.rm_event.specs.Standing.{IsLogOf, AreLogs}
+use Rattle.rm_event.proofs.RowFacts.{valid_there}
+use Rattle.rm_event.proofs.Spares.{not_some}
+
+valid_is : (s : State) → is_valid s ≡ true → s ≡ Valid
+valid_is Absent h = cc
+valid_is UnderCreation h = cc
+valid_is Valid h = refl
+
+both : (a b : Bool) → (a && b) ≡ true → (a ≡ true) × (b ≡ true)
+both true b h = (refl, h)
+both false b h = absurd (cc)
+
+not_first : (a b : Bool) → b ≡ true → (a && b) ≡ false → a ≡ false
+not_first true b is h = absurd (cc)
+not_first false b is h = refl
+
+-- the valid rows after a Set
+pub valid_after : (bs : Bindings) (rows new : List (Row EventRow)) → ((i : ℕ) → row_in new i ≡ row_after event_table with_column blank_row bs i (row_in rows i)) → count_below (valid_in new) 65536 ≡ count_valid_after event_table (rows_before set_to rows) bs
+valid_after bs rows new after = ap (λ p. count_below p 65536) (λ d i. (ap is_valid (ap state_seen (after i) ∙ state_then event_table with_column blank_row bs i (row_in rows i))) d)
+
+module _ (settings : Settings) (journal : Journal) (moment : ℕ) (bs : Bindings) (values : Assignments)
+    (gives : (name : List ℕ) → value_given values name ≡ value_given bs name)
+    (alone : (k : ℕ) → k < length bs → first_pass event_table bs k ≡ None)
+    (rows new : List (Row EventRow)) (held : AreControlRows rows)
+    (together : (k : ℕ) → k < length bs → second_pass event_table (rows_before set_to rows) bs k ≡ None)
+    (after : (i : ℕ) → row_in new i ≡ row_after event_table with_column blank_row bs i (row_in rows i))
+    (is : AreRowsAfter event_table no_rows set_to rows journal) where
+  abbrev with_set : Journal
+  with_set = assigns moment values ∷ journal
+
+  pub rows_with_set : AreRowsAfter event_table no_rows set_to new with_set
+  rows_with_set = rows_assigns event_table no_rows set_to with_column blank_row set_with blank_alike refl journal moment bs values gives (all_fine event_table bs alone) rows new held is after
+
+  module _ (logs logs_new : List Log) (of_valid : AreOfValid logs rows) (of_valid_new : AreOfValid logs_new new)
+      (stays : (row : ℕ) (log : Log) → 1 ≤ row → valid_in new row ≡ true → log_in logs row ≡ Some log → log_in logs_new row ≡ Some log)
+      (begun : (row : ℕ) → 1 ≤ row → valid_in new row ≡ true → log_in logs row ≡ None → HasNew logs_new row)
+      (are : AreLogs logs journal (firings settings journal)) (event : ℕ) (some : 1 ≤ event) where
+    abbrev place : List ℕ
+    place = event ∷ []
+
+    abbrev IsIt : Option Log → Type 0
+    IsIt o = IsLogOf (event_state with_set place) (type_of with_set event) (firings settings with_set event) o
+
+    was : state_in rows event ≡ event_state journal place
+    was = is.alike.states event
+
+    now : state_in new event ≡ event_state with_set place
+    now = rows_with_set.alike.states event
+
+    -- the type of an event that stays valid is as it was
+    same_type : is_valid (event_state journal place) ≡ true → is_valid (event_state with_set place) ≡ true → type_of with_set event ≡ type_of journal event
+    same_type old valid =
+        let was_valid : state_in rows event ≡ Valid = was ∙ valid_is (event_state journal place) old in
+        let asked : set_ask event_table values place ≡ set_ask event_table bs place = ap (value_ask event_table.status_kind) (gives (cell_name event_table.entry event_table.status place)) in
+        let remains : is_valid (next_state (set_ask event_table bs place) Valid) ≡ true =
+        ap (λ s. is_valid (next_state (set_ask event_table bs place) s)) (sym (valid_is (event_state journal place) old)) ∙ ap (λ a. is_valid (next_state a (event_state journal place))) (sym asked) ∙ valid in
+        let unbound : value_given values (cell_name event_table.entry 3 place) ≡ None = gives (cell_name event_table.entry 3 place) ∙ fixed_column event_table (rows_before set_to rows) bs together 3 event refl refl was_valid remains in
+        ap (λ o. type_in (unwrap_or (option_or o (cond (is_absent (event_state journal place)) None (set_value event_table no_rows journal place 3))) (default_of event_table 3))) unbound
+        ∙ ap (λ b. type_in (unwrap_or (cond b None (set_value event_table no_rows journal place 3)) (default_of event_table 3))) (valid_there (event_state journal place) old)
+
+    -- one that stays valid
+    goes_on : stays_valid event_table no_rows (assigns moment values) journal place ≡ true → (o : Option Log) → log_in logs event ≡ o → IsLogOf (event_state journal place) (type_of journal event) (firings settings journal event) o → IsIt (log_in logs_new event)
+    goes_on remains None here idle =
+        let old : is_valid (event_state journal place) ≡ true = (both (is_valid (event_state journal place)) (is_valid (event_state with_set place)) remains).0 in
+        let no : ◌≡◌ {A = Bool} true false = sym old ∙ idle in
+        absurd (cc)
+    goes_on remains (Some log) here held_log =
+        let each = both (is_valid (event_state journal place)) (is_valid (event_state with_set place)) remains in
+        let right : valid_in new event ≡ true = ap is_valid now ∙ each.1 in
+        let same : firings settings journal event ≡ firings settings with_set event = sym (ap (λ b. cond b (firings settings journal event) []) remains) in
+        subst IsIt (sym (stays event log some right here))
+        (each.1, subst (λ k. IsLog log k (firings settings with_set event)) (sym (same_type each.0 each.1)) (subst (IsLog log (type_of journal event)) same held_log.1))
+
+    -- one that becomes valid
+    starts : stays_valid event_table no_rows (assigns moment values) journal place ≡ false → is_valid (event_state with_set place) ≡ true → IsIt (log_in logs_new event)
+    starts begins valid =
+        let old : is_valid (event_state journal place) ≡ false = not_first (is_valid (event_state journal place)) (is_valid (event_state with_set place)) valid begins in
+        let none : log_in logs event ≡ None = not_some (log_in logs event) (of_valid event some ∙ ap is_valid was ∙ old) in
+        let fresh = begun event some (ap is_valid now ∙ valid) none in
+        let nothing : [] ≡ firings settings with_set event = sym (ap (λ b. cond b (firings settings journal event) []) begins) in
+        subst IsIt (sym fresh.here) (valid, subst (IsLog fresh.log (type_of with_set event)) nothing (fresh.new (type_of with_set event)))
+
+    -- one that isn't valid
+    rests : is_valid (event_state with_set place) ≡ false → IsIt (log_in logs_new event)
+    rests idle =
+        let none : log_in logs_new event ≡ None = not_some (log_in logs_new event) (of_valid_new event some ∙ ap is_valid now ∙ idle) in
+        subst IsIt (sym none) idle
+
+    pub logs_with_set : IsIt (log_in logs_new event)
+    logs_with_set = elim (stays_valid event_table no_rows (assigns moment values) journal place) as (λ t. stays_valid event_table no_rows (assigns moment values) journal place ≡ t → IsIt (log_in logs_new event)) [
+      | true ↦ λ remains. goes_on remains (log_in logs event) refl (are event some)
+      | false ↦ λ begins. elim (is_valid (event_state with_set place)) as (λ t. is_valid (event_state with_set place) ≡ t → IsIt (log_in logs_new event)) [
+        | true ↦ λ valid. starts begins valid
+        | false ↦ λ idle. rests idle
+      ] refl
+    ] refl

@@ -1,0 +1,11 @@
+mod OneFiring
+mod Spares
+mod RowFacts
+mod Moments
+mod Fires
+mod Begun
+mod Counts
+mod Walks
+mod SameCells
+mod Judged
+mod Assigned

@@ -1,0 +1,179 @@
+-- What the rows and the logs show is what the tables show after the journal.
+use Rattle.std.proofs.Common.{◌≡◌, ℕ, zero, suc, ◌+◌, ◌-◌, ◌<◌, ◌≤◌, List, [], ◌∷◌, length, take, map, refl, sym, ◌∙◌, ap, subst, Bool, true, false, cond, ◌&&◌, Option, Some, None, nat_le, arith}
+use Rattle.std.specs.Prelude.{not, is_some, slice_get, unwrap_or}
+use Rattle.std.specs.Option.{option_or, option_map_or}
+use Rattle.std.proofs.lemmas.Bool.Decides.{nat_tests}
+use Rattle.rm_val.specs.Val.{Val, int, octets, ticks, null}
+use Rattle.rm_model.specs.Settings.{Settings}
+use Rattle.rm_model.specs.Journal.{Journal}
+use Rattle.rm_model.specs.Cells.{cells_of, cell_at, instance_of, IsNext}
+use Rattle.rm_model.specs.ControlRows.{no_rows, entry_status, is_absent, is_valid}
+use Rattle.rm_model.specs.declared.instance.Instance.{Instance}
+use Rattle.rm_status.specs.declared.row.Row.{Row}
+use Rattle.rm_status.specs.Rows.{row_in, state_in, columns_in, state_seen, columns_seen, AreControlRows}
+use Rattle.rm_status.specs.Indexes.{is_index_in}
+use Rattle.rm_status.specs.RowsAfter.{AreRowsAfter}
+use Rattle.rm_status.proofs.RowsAfterLemmas.{is_row_after}
+use Rattle.rm_event.specs.declared.event_column.EventColumn.{EventColumn}
+use Rattle.rm_event.specs.declared.event_column.EventColumn.TheVariants as event
+use Rattle.rm_event.specs.declared.log_column.LogColumn.{LogColumn}
+use Rattle.rm_event.specs.declared.log_column.LogColumn.TheVariants as log
+use Rattle.rm_event.specs.declared.event_row.EventRow.{EventRow}
+use Rattle.rm_event.specs.declared.log.Log.{Log}
+use Rattle.rm_event.specs.Columns.{event_columns, event_column, log_columns, log_column}
+use Rattle.rm_event.specs.EventTable.{event_entry, event_table, event_state, event_set, type_of}
+use Rattle.rm_event.specs.EventRows.{set_to}
+use Rattle.rm_event.specs.Firings.{firings, last_sent, tick_of, most_shown}
+use Rattle.rm_event.specs.Tables.{event_value, events_table, log_entry, log_of, is_shown, time_at, is_entry, log_value, log_table}
+use Rattle.rm_event.specs.Log.{IsLog, kept_time}
+use Rattle.rm_event.specs.Logs.{log_in}
+use Rattle.rm_event.specs.Held.{AreOfValid}
+use Rattle.rm_event.specs.Standing.{IsLogOf, AreLogs}
+use Rattle.rm_event.specs.Shown.{sent_in, row_value, value_in, rows_table, description_in, is_kept, entry_value, entry_in, logs_table, cells_shown}
+use Rattle.rm_event.proofs.RowFacts.{found_there, valid_there, valid_columns, valid_fits}
+use Rattle.rm_event.proofs.Moments.{idle_firings}
+use Rattle.rm_event.proofs.Fires.{description_is, type_shown_is, community_is, owner_is}
+
+le_yes : (a b : ℕ) → a ≤ b → nat_le a b ≡ true
+le_yes a b h = grind (arith, nat_tests)
+
+-- eventTable
+module _ (rows : List (Row EventRow)) (held : AreControlRows rows) (logs : List Log) (settings : Settings) (journal : Journal)
+    (is : AreRowsAfter event_table no_rows set_to rows journal) (are : AreLogs logs journal (firings settings journal)) where
+  -- when an event fired last
+  sent_is : (i : ℕ) → 1 ≤ i → sent_in logs i ≡ last_sent (firings settings journal i)
+  sent_is i some = of_log (log_in logs i) (are i some)
+    where
+      of_log : (o : Option Log) → IsLogOf (event_state journal (i ∷ [])) (type_of journal i) (firings settings journal i) o → option_map_or (λ log. log.sent) o 0 ≡ last_sent (firings settings journal i)
+      of_log None idle = sym (ap last_sent (idle_firings settings journal i idle))
+      of_log (Some log) it = it.1.sent
+
+  module _ (i : ℕ) (row : Row EventRow) (here : row_in rows i ≡ Some row) where
+    state_is : row.state ≡ event_state journal (i ∷ [])
+    state_is = sym (ap state_seen here) ∙ is.alike.states i
+
+    has : columns_in rows i ≡ Some row.columns
+    has = ap columns_seen here
+
+    there : is_absent (state_in rows i) ≡ false
+    there = ap (λ o. is_absent (state_seen o)) here ∙ (found_there rows i row held.1 here).1
+
+    first : 1 ≤ i
+    first = least i (found_there rows i row held.1 here).0
+      where
+        least : (n : ℕ) → (nat_le 1 n && nat_le n 65535) ≡ true → 1 ≤ n
+        least n h = grind (arith, nat_tests)
+
+    row_shows : (column : EventColumn) → row_value i row.state row.columns (sent_in logs i) column ≡ event_value settings journal (i ∷ []) column
+    row_shows event.Index = refl
+    row_shows event.Description = description_is rows journal is i row.columns has there
+    row_shows event.Type = type_shown_is rows journal is i row.columns has there
+    row_shows event.Community = community_is rows journal is i row.columns has there
+    row_shows event.LastTimeSent = ap ticks (sent_is i first)
+    row_shows event.Owner = owner_is rows journal is i row.columns has there
+    row_shows event.Status = ap (λ s. int (entry_status s)) state_is
+
+  is_row : (index : List ℕ) → not (is_absent (event_state journal index)) ≡ is_index_in rows index
+  is_row index = is_row_after event_table no_rows set_to rows journal held is index
+
+  value_at : (i : ℕ) (o : Option (Row EventRow)) → row_in rows i ≡ o → (column : EventColumn) → cond (is_some o) (Some (value_in i o (sent_in logs i) column)) None ≡ cond (is_some o) (Some (event_value settings journal (i ∷ []) column)) None
+  value_at i None e column = refl
+  value_at i (Some row) e column = ap Some (row_shows i row e column)
+
+  event_at : (at : Option Instance) → cell_at (rows_table rows logs) at ≡ cell_at (events_table settings journal) at
+  event_at None = refl
+  event_at (Some at) = by_index at.index ∙ sym (ap (λ b. cond b (Some (event_value settings journal at.index (event_column at.column))) None) (is_row at.index))
+    where
+      by_index : (index : List ℕ) → cell_at (rows_table rows logs) (Some (record { column = at.column; index = index })) ≡ cond (is_index_in rows index) (Some (event_value settings journal index (event_column at.column))) None
+      by_index [] = refl
+      by_index (i ∷ []) = value_at i (row_in rows i) refl (event_column at.column)
+      by_index (i ∷ j ∷ more) = refl
+
+  same_events : (name : List ℕ) → cells_of (rows_table rows logs) name ≡ cells_of (events_table settings journal) name
+  same_events name = event_at (instance_of event_entry event_columns name)
+
+  -- there is no row 0
+  no_row_0 : is_valid (event_state journal (0 ∷ [])) ≡ false
+  no_row_0 = elim (is_valid (event_state journal (0 ∷ []))) as (λ t. is_valid (event_state journal (0 ∷ [])) ≡ t → t ≡ false) [
+    | true ↦ λ e. let fits = (valid_fits rows 0 held.1 (ap is_valid (is.alike.states 0) ∙ e)).0 in absurd (omega (arith, fits))
+    | false ↦ λ _. refl
+  ] refl
+
+  -- The entries of a log.
+
+  times : (n k : ℕ) (moments : List ℕ) → k < n → unwrap_or (slice_get (map tick_of (take n moments)) k) 0 ≡ option_map_or tick_of (slice_get moments k) 0
+  times zero k moments h = absurd (omega arith)
+  times (suc n) k [] h = refl
+  times (suc n) zero (moment ∷ moments) h = refl
+  times (suc n) (suc k) (moment ∷ moments) h = times n k moments (omega arith)
+
+  module _ (i : ℕ) (kept : Log) (valid : is_valid (event_state journal (i ∷ [])) ≡ true) (it : IsLog kept (type_of journal i) (firings settings journal i)) where
+    description_there : description_in rows i ≡ event_set journal (i ∷ []) 2
+    description_there =
+        let right : is_valid (state_in rows i) ≡ true = ap is_valid (is.alike.states i) ∙ valid in
+        let columns = valid_columns rows i right in
+        ap (λ o. option_map_or (λ (c : EventRow). octets c.description.items) o null) columns.1
+        ∙ description_is rows journal is i columns.0 columns.1 (valid_there (state_in rows i) right)
+
+    time_is : (number : ℕ) → is_shown kept.added number ≡ true → kept_time kept number ≡ time_at (log_of settings journal i) number
+    time_is number shown =
+        ap (λ l. unwrap_or (slice_get l (kept.added - number)) 0) it.ring
+        ∙ ap (λ n. unwrap_or (slice_get (map tick_of (take most_shown (log_of settings journal i))) (n - number)) 0) it.added
+        ∙ times most_shown (length (log_of settings journal i) - number) (log_of settings journal i) (near (length (log_of settings journal i)) (subst (λ n. is_shown n number ≡ true) it.added shown))
+      where
+        near : (entries : ℕ) → is_shown entries number ≡ true → entries - number < 32
+        near entries h = let low : entries < number + 32 = grind (arith, nat_tests) in let high : number ≤ entries = grind (arith, nat_tests) in omega (arith, low, high)
+
+    entry_shows : (number : ℕ) → is_shown kept.added number ≡ true → (column : LogColumn) → entry_value i kept (description_in rows i) number column ≡ log_value settings journal i number column
+    entry_shows number shown log.EventIndex = refl
+    entry_shows number shown log.Index = refl
+    entry_shows number shown log.Time = ap ticks (time_is number shown)
+    entry_shows number shown log.Description = description_there
+
+  abbrev shown_after : ℕ → ℕ → LogColumn → Option Val
+  shown_after i number column = cond (is_entry settings journal (i ∷ number ∷ [])) (Some (log_value settings journal i number column)) None
+
+  of_shown : (i number : ℕ) (column : LogColumn) (kept : Log) → is_valid (event_state journal (i ∷ [])) ≡ true → IsLog kept (type_of journal i) (firings settings journal i) → (b : Bool) → is_shown kept.added number ≡ b → cond b (Some (entry_value i kept (description_in rows i) number column)) None ≡ cond b (Some (log_value settings journal i number column)) None
+  of_shown i number column kept valid it true shown = ap Some (entry_shows i kept valid it number shown column)
+  of_shown i number column kept valid it false shown = refl
+
+  of_log : (i number : ℕ) (column : LogColumn) (o : Option Log) → IsLogOf (event_state journal (i ∷ [])) (type_of journal i) (firings settings journal i) o
+      → cond (option_map_or (λ kept. is_shown kept.added number) o false) (Some (entry_in i o (description_in rows i) number column)) None ≡ shown_after i number column
+  of_log i number column None idle = sym (ap (λ b. cond (b && is_shown (length (log_of settings journal i)) number) (Some (log_value settings journal i number column)) None) idle)
+  of_log i number column (Some kept) it =
+      of_shown i number column kept it.0 it.1 (is_shown kept.added number) refl
+      ∙ sym (ap (λ b. cond b (Some (log_value settings journal i number column)) None) entry_is)
+    where
+      entry_is : is_entry settings journal (i ∷ number ∷ []) ≡ is_shown kept.added number
+      entry_is = ap (λ b. b && is_shown (length (log_of settings journal i)) number) it.0 ∙ ap (λ n. is_shown n number) (sym it.1.added)
+
+  of_pair : (i number : ℕ) (column : LogColumn) → cond (is_kept logs (i ∷ number ∷ [])) (Some (entry_in i (log_in logs i) (description_in rows i) number column)) None ≡ shown_after i number column
+  of_pair zero number column = sym (ap (λ b. cond (b && is_shown (length (log_of settings journal 0)) number) (Some (log_value settings journal 0 number column)) None) no_row_0)
+  of_pair (suc i) number column =
+      ap (λ b. cond (b && option_map_or (λ kept. is_shown kept.added number) (log_in logs (suc i)) false) (Some (entry_in (suc i) (log_in logs (suc i)) (description_in rows (suc i)) number column)) None) (le_yes 1 (suc i) (omega arith))
+      ∙ of_log (suc i) number column (log_in logs (suc i)) (are (suc i) (omega arith))
+
+  entry_cell_at : (at : Option Instance) → cell_at (logs_table rows logs) at ≡ cell_at (log_table settings journal) at
+  entry_cell_at None = refl
+  entry_cell_at (Some at) = by_index at.index
+    where
+      by_index : (index : List ℕ) → cell_at (logs_table rows logs) (Some (record { column = at.column; index = index })) ≡ cell_at (log_table settings journal) (Some (record { column = at.column; index = index }))
+      by_index [] = refl
+      by_index (i ∷ []) = refl
+      by_index (i ∷ number ∷ []) = of_pair i number (log_column at.column)
+      by_index (i ∷ number ∷ next ∷ more) = refl
+
+  same_entries : (name : List ℕ) → cells_of (logs_table rows logs) name ≡ cells_of (log_table settings journal) name
+  same_entries name = entry_cell_at (instance_of log_entry log_columns name)
+
+  pub same_cells : (name : List ℕ) → cells_shown rows logs name ≡ option_or (cells_of (events_table settings journal) name) (cells_of (log_table settings journal) name)
+  same_cells name = λ d. option_or (same_events name d) (same_entries name d)
+
+  -- what is next among the cells that are shown is next among those of the journal
+  pub next_cell : (asked found : List ℕ) (value : Option Val) → IsNext (cells_shown rows logs) asked value found → IsNext (λ name. option_or (cells_of (events_table settings journal) name) (cells_of (log_table settings journal) name)) asked value found
+  next_cell asked found value next = subst (λ (cells : List ℕ → Option Val). IsNext cells asked value found) (λ d name. same_cells name d) next
+
+-- no log is of a row above the greatest index
+pub logs_fit : (rows : List (Row EventRow)) (held : AreControlRows rows) (logs : List Log) → AreOfValid logs rows → (row : ℕ) → is_some (log_in logs row) ≡ true → row ≤ 65535
+logs_fit rows held logs of_valid zero has = omega arith
+logs_fit rows held logs of_valid (suc row) has = (valid_fits rows (suc row) held.1 (sym (of_valid (suc row) (omega arith)) ∙ has)).1

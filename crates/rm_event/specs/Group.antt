@@ -1,0 +1,55 @@
+-- The group event, as a caller sees it.
+use Rattle.std.specs.Prelude.{ℕ, ◌≤◌, max, List, length, Bool, ◌||◌, Option}
+use Rattle.std.specs.Option.{option_or}
+use Rattle.rm_val.specs.Val.{Val}
+use Rattle.rm_val.specs.declared.error.ErrorStatus.{ErrorStatus}
+use Rattle.rm_model.specs.Settings.{Settings}
+use Rattle.rm_model.specs.Journal.{Journal}
+use Rattle.rm_model.specs.Cells.{Cells, cells_of, is_of_column}
+use Rattle.rm_model.specs.Judgement.{Bindings, place_of, alone_fault, first_pass, second_pass, IsFirstFault}
+use Rattle.rm_model.specs.Reserves.{count_valid, count_valid_after}
+use Rattle.rm_model.specs.declared.verdict.Verdict.TheVariants.{Fine}
+use Rattle.rm_status.specs.Rows.{rows_before}
+use Rattle.rm_status.specs.Alone.{read_only}
+use Rattle.rm_event.specs.declared.events.Events.{Events}
+use Rattle.rm_event.specs.Columns.{event_columns, log_columns}
+use Rattle.rm_event.specs.EventTable.{event_entry, event_table}
+use Rattle.rm_event.specs.EventRows.{set_to}
+use Rattle.rm_event.specs.Logs.{kept}
+use Rattle.rm_event.specs.Tables.{events_table, log_entry, log_table}
+
+-- the cells of eventTable and logTable after a journal
+abbrev pub event_cells : Settings → Journal → Cells
+event_cells settings journal name =
+    option_or (cells_of (events_table settings journal) name) (cells_of (log_table settings journal) name)
+
+-- whether a name begins with the identifier of an object of one of them
+abbrev pub event_objects : List ℕ → Bool
+event_objects name = is_of_column event_entry event_columns name || is_of_column log_entry log_columns name
+
+-- what is wrong with a binding alone: the columns of logTable are read only
+abbrev pub event_alone : List ℕ → Val → Option ErrorStatus
+event_alone name value =
+    option_or (alone_fault event_table (place_of event_entry name) value) (read_only (is_of_column log_entry log_columns) name value)
+
+-- both passes find nothing wrong with a Set, by the rows that are kept
+pub record AreFine (events : Events) (bindings : Bindings) : Type 0 where
+  pub alone : IsFirstFault (length bindings) (first_pass event_table bindings) Fine
+  pub together : IsFirstFault (length bindings) (second_pass event_table (rows_before set_to events.rows) bindings) Fine
+
+-- there is the storage of one row
+abbrev pub IsStocked : Events → Type 0
+IsStocked events = 1 ≤ length (kept events.logs)
+
+-- there is the storage of each row that is valid after a Set
+abbrev pub HasRoom : Events → Bindings → Type 0
+HasRoom events bindings = count_valid_after event_table (rows_before set_to events.rows) bindings ≤ length (kept events.logs)
+
+-- nothing is wrong with a Set, and there is storage for it
+pub record IsPrepared (events : Events) (bindings : Bindings) : Type 0 where
+  pub fine : AreFine events bindings
+  pub room : HasRoom events bindings
+
+-- there is no more storage than that of the valid rows, or that of one row
+abbrev pub IsReleased : Events → Type 0
+IsReleased events = length (kept events.logs) ≤ max 1 (count_valid (rows_before set_to events.rows))

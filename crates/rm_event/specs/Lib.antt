@@ -1,0 +1,16 @@
+pub mod Columns
+pub mod EventType
+pub mod EventTable
+pub mod Firings
+pub mod Tables
+pub mod EventRows
+pub mod RowLaws
+pub mod Log
+pub mod Logs
+pub mod Held
+pub mod Standing
+pub mod Group
+pub mod Walk
+pub mod EntryNumbers
+pub mod Shown
+pub mod Finite

@@ -1,0 +1,89 @@
+-- What the rows and the logs that are kept show.
+use Rattle.std.specs.Prelude.{ℕ, pos, List, [], ◌∷◌, Bool, false, ◌&&◌, nat_le, Option, Some, None}
+use Rattle.std.specs.Option.{option_or, option_map_or}
+use Rattle.rm_val.specs.Val.{Val, int, octets, ticks, null}
+use Rattle.rm_model.specs.Cells.{Cells, Table, cells_of}
+use Rattle.rm_model.specs.ControlRows.{entry_status}
+use Rattle.rm_model.specs.declared.row.State.{State}
+use Rattle.rm_status.specs.declared.row.Row.{Row}
+use Rattle.rm_status.specs.Rows.{row_in, columns_in, row_number}
+use Rattle.rm_status.specs.Indexes.{is_index_in}
+use Rattle.rm_event.specs.declared.event_column.EventColumn.{EventColumn}
+use Rattle.rm_event.specs.declared.event_column.EventColumn.TheVariants as event
+use Rattle.rm_event.specs.declared.log_column.LogColumn.{LogColumn}
+use Rattle.rm_event.specs.declared.log_column.LogColumn.TheVariants as log
+use Rattle.rm_event.specs.declared.event_row.EventRow.{EventRow}
+use Rattle.rm_event.specs.declared.log.Log.{Log}
+use Rattle.rm_event.specs.Columns.{event_columns, event_column, log_columns, log_column}
+use Rattle.rm_event.specs.EventType.{number_of}
+use Rattle.rm_event.specs.EventTable.{event_entry}
+use Rattle.rm_event.specs.Tables.{log_entry, is_shown}
+use Rattle.rm_event.specs.Log.{kept_time}
+use Rattle.rm_event.specs.Logs.{log_in}
+
+-- when the event of a row fired last, 0 where it has no log
+abbrev pub sent_in : List Log → ℕ → ℕ
+sent_in logs row = option_map_or (λ log. log.sent) (log_in logs row) 0
+
+-- what a column of a row shows, by the row's index, its state, its columns, and when its event fired last
+abbrev pub row_value : ℕ → State → EventRow → ℕ → EventColumn → Val
+row_value index state row sent event.Index = int (pos index)
+row_value index state row sent event.Description = octets row.description.items
+row_value index state row sent event.Type = int (pos (number_of row.event_type))
+row_value index state row sent event.Community = octets row.community.items
+row_value index state row sent event.LastTimeSent = ticks sent
+row_value index state row sent event.Owner = octets row.owner.items
+row_value index state row sent event.Status = int (entry_status state)
+
+-- the same for a row that there may be
+abbrev pub value_in : ℕ → Option (Row EventRow) → ℕ → EventColumn → Val
+value_in index None sent column = null
+value_in index (Some row) sent column = row_value index row.state row.columns sent column
+
+-- eventTable with these rows and logs
+abbrev pub rows_table : List (Row EventRow) → List Log → Table
+rows_table rows logs = record {
+  entry = event_entry;
+  columns = event_columns;
+  is_row = is_index_in rows;
+  value = λ column index. value_in (row_number index) (row_in rows (row_number index)) (sent_in logs (row_number index)) (event_column column);
+}
+
+-- the description of an event, if there is a row of it
+abbrev pub description_in : List (Row EventRow) → ℕ → Val
+description_in rows event = option_map_or (λ columns. octets columns.description.items) (columns_in rows event) null
+
+-- whether these numbers are those of an event that has a log and of an entry that the log shows
+abbrev pub is_kept : List Log → List ℕ → Bool
+is_kept logs (event ∷ number ∷ []) = nat_le 1 event && option_map_or (λ log. is_shown log.added number) (log_in logs event) false
+is_kept logs index = false
+
+-- what a column of an entry shows, by its log and the event's description
+abbrev pub entry_value : ℕ → Log → Val → ℕ → LogColumn → Val
+entry_value event kept description number log.EventIndex = int (pos event)
+entry_value event kept description number log.Index = int (pos number)
+entry_value event kept description number log.Time = ticks (kept_time kept number)
+entry_value event kept description number log.Description = description
+
+-- the same for a log that there may be
+abbrev pub entry_in : ℕ → Option Log → Val → ℕ → LogColumn → Val
+entry_in event None description number column = null
+entry_in event (Some kept) description number column = entry_value event kept description number column
+
+-- the same by the numbers of an index
+abbrev pub entry_at : List (Row EventRow) → List Log → List ℕ → LogColumn → Val
+entry_at rows logs (event ∷ number ∷ []) column = entry_in event (log_in logs event) (description_in rows event) number column
+entry_at rows logs index column = null
+
+-- logTable with these rows and logs
+abbrev pub logs_table : List (Row EventRow) → List Log → Table
+logs_table rows logs = record {
+  entry = log_entry;
+  columns = log_columns;
+  is_row = is_kept logs;
+  value = λ column index. entry_at rows logs index (log_column column);
+}
+
+-- the cells of both
+abbrev pub cells_shown : List (Row EventRow) → List Log → Cells
+cells_shown rows logs asked = option_or (cells_of (rows_table rows logs) asked) (cells_of (logs_table rows logs) asked)

@@ -1,0 +1,78 @@
+-- What eventTable and logTable show after a journal (RFC 1757, section 5.9).
+use Rattle.std.specs.Prelude.{ℕ, pos, ◌+◌, ◌-◌, List, [], ◌∷◌, length, Bool, false, ◌&&◌, not, nat_le, nat_lt, slice_get}
+use Rattle.std.specs.Option.{option_map_or}
+use Rattle.rm_val.specs.Val.{Val, int, ticks, null}
+use Rattle.rm_model.specs.Settings.{Settings}
+use Rattle.rm_model.specs.Journal.{Journal}
+use Rattle.rm_model.specs.Cells.{Table}
+use Rattle.rm_model.specs.ControlRows.{is_absent, is_valid, index_value, entry_status}
+use Rattle.rm_status.specs.Rows.{row_number}
+use Rattle.rm_event.specs.declared.event_column.EventColumn.{EventColumn}
+use Rattle.rm_event.specs.declared.event_column.EventColumn.TheVariants as event
+use Rattle.rm_event.specs.declared.log_column.LogColumn.{LogColumn}
+use Rattle.rm_event.specs.declared.log_column.LogColumn.TheVariants as log
+use Rattle.rm_event.specs.Columns.{event_columns, event_column, log_columns, log_column}
+use Rattle.rm_event.specs.EventTable.{event_entry, event_state, event_set, type_of}
+use Rattle.rm_event.specs.Firings.{firings, last_sent, logged, tick_of, most_shown}
+
+-- what a column of a row shows
+abbrev pub event_value : Settings → Journal → List ℕ → EventColumn → Val
+event_value settings journal index event.Index = index_value index
+event_value settings journal index event.Description = event_set journal index 2
+event_value settings journal index event.Type = event_set journal index 3
+event_value settings journal index event.Community = event_set journal index 4
+event_value settings journal index event.LastTimeSent = ticks (last_sent (firings settings journal (row_number index)))
+event_value settings journal index event.Owner = event_set journal index 6
+event_value settings journal index event.Status = int (entry_status (event_state journal index))
+
+-- eventTable after a journal
+abbrev pub events_table : Settings → Journal → Table
+events_table settings journal = record {
+  entry = event_entry;
+  columns = event_columns;
+  is_row = λ index. not (is_absent (event_state journal index));
+  value = λ column index. event_value settings journal index (event_column column);
+}
+
+-- the identifier of logEntry
+abbrev pub log_entry : List ℕ
+log_entry = 1 ∷ 3 ∷ 6 ∷ 1 ∷ 2 ∷ 1 ∷ 16 ∷ 9 ∷ 2 ∷ 1 ∷ []
+
+-- the moments of the entries of an event's log, the newest first
+abbrev pub log_of : Settings → Journal → ℕ → List ℕ
+log_of settings journal event = logged (type_of journal event) (firings settings journal event)
+
+-- whether a number is that of one of the last entries of a log with so many
+abbrev pub is_shown : ℕ → ℕ → Bool
+is_shown entries number = nat_le 1 number && (nat_le number entries && nat_lt entries (number + most_shown))
+
+-- the tick of the entry with a number, in a log of these moments, the newest first
+abbrev pub time_at : List ℕ → ℕ → ℕ
+time_at moments number = option_map_or tick_of (slice_get moments (length moments - number)) 0
+
+-- whether these numbers are those of an event whose row is valid and of an entry of its log that is shown
+abbrev pub is_entry : Settings → Journal → List ℕ → Bool
+is_entry settings journal (event ∷ number ∷ []) =
+    is_valid (event_state journal (event ∷ [])) && is_shown (length (log_of settings journal event)) number
+is_entry settings journal index = false
+
+-- what a column of an entry shows
+abbrev pub log_value : Settings → Journal → ℕ → ℕ → LogColumn → Val
+log_value settings journal event number log.EventIndex = int (pos event)
+log_value settings journal event number log.Index = int (pos number)
+log_value settings journal event number log.Time = ticks (time_at (log_of settings journal event) number)
+log_value settings journal event number log.Description = event_set journal (event ∷ []) 2
+
+-- the same by the numbers of an index
+abbrev pub log_at : Settings → Journal → List ℕ → LogColumn → Val
+log_at settings journal (event ∷ number ∷ []) column = log_value settings journal event number column
+log_at settings journal index column = null
+
+-- logTable after a journal
+abbrev pub log_table : Settings → Journal → Table
+log_table settings journal = record {
+  entry = log_entry;
+  columns = log_columns;
+  is_row = is_entry settings journal;
+  value = λ column index. log_at settings journal index (log_column column);
+}

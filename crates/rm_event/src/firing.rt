@@ -1,0 +1,83 @@
+// Events that fire.
+ghost use Rattle.std.specs.Prelude.{◌≡◌, ℕ, ◌≤◌, List, [], ◌∷◌, ◌++◌, length, true, false, OnOk, IfSome, IfNone, Some};
+ghost use Rattle.std.specs.Option.{option_map};
+ghost use Rattle.rm_val.specs.Val.{octets};
+ghost use Rattle.rm_model.specs.Settings.{Settings};
+ghost use Rattle.rm_model.specs.Journal.{Act, Journal, moment_of};
+ghost use Rattle.rm_model.specs.ControlRows.{is_valid};
+ghost use Rattle.rm_status.specs.Rows.{state_in, columns_in};
+ghost use Rattle.rm_event.specs.declared.event_row.EventRow.{EventRow as Columns};
+ghost use Rattle.rm_event.specs.EventTable.{event_state, type_of};
+ghost use Rattle.rm_event.specs.Firings.{is_set};
+ghost use Rattle.rm_event.specs.Group.{IsStocked, IsReleased};
+ghost use Rattle.rm_event.specs.Standing.{HasRows, Stands, IsUnderWay, fired_of, community_of};
+
+use crate::event_type::EventType;
+use crate::events::Events;
+use crate::fired::Fired;
+use crate::logs::Logs;
+use rm_status::{Controls, State, StatusKind};
+use rm_val::NoMemory;
+use std::alloc::Global;
+
+impl Events {
+    /// No events, and no storage.
+    pub fn new() -> Events
+        ensures stands { (settings : Settings) → Stands result settings [] }
+        ensures released { IsReleased result }
+    {
+        Events {
+            rows: Controls::new(StatusKind::EntryStatus),
+            logs: Logs::new(),
+        }
+    }
+
+    /// Takes the storage of one row. No variable changes.
+    pub fn reserve(&mut self, alloc: Global) -> Result<(), NoMemory>
+        ensures stocked { OnOk result (IsStocked self.new) }
+        ensures stands { (settings : Settings) (journal : Journal) → Stands self.old settings journal → Stands self.new settings journal }
+        ensures released { IsReleased self.old → IsReleased self.new }
+    {
+        self.logs.grow(alloc, 1)
+    }
+
+    /// Fires the event with that index at a moment, in milliseconds, and tells what became of it. Only an event with a valid row
+    /// fires.
+    pub fn fire(&mut self, index: u32, moment: u32) -> Fired
+        ensures under_way { (settings : Settings) (act : Act) (earlier : Journal) (some : List ℕ) → is_set act ≡ false → moment_of act ≡ moment
+            → IsUnderWay self.old settings act earlier some → IsUnderWay self.new settings act earlier (some ++ index ∷ []) }
+        ensures result { (journal : Journal) → HasRows self.old journal → result ≡ fired_of (event_state journal (index ∷ [])) (type_of journal index) }
+        ensures stocked { IsStocked self.old → IsStocked self.new }
+        ensures released { IsReleased self.old → IsReleased self.new }
+    {
+        match self.valid_type(index) {
+            Some(event_type) => {
+                self.logs.fire(index, event_type, moment);
+                event_type.fired()
+            }
+            None => Fired::Absent,
+        }
+    }
+
+    // The type of an event, if its row is valid.
+    fn valid_type(&self, index: u32) -> Option<EventType>
+        ensures valid { IfSome result (λ kind. (is_valid (state_in self.now.rows index) ≡ true) × ((columns : Columns) → columns_in self.now.rows index ≡ Some columns → kind ≡ columns.event_type)) }
+        ensures idle { IfNone result (is_valid (state_in self.now.rows index) ≡ false) }
+    {
+        match self.rows.state(index) {
+            State::Valid => Some(self.rows.get(index)?.event_type),
+            _ => None,
+        }
+    }
+
+    /// The community of the event with that index (RFC 1757, eventCommunity). None where there is no such row.
+    pub fn community(&self, index: u32) -> Option<&[u8]>
+        ensures { (journal : Journal) → HasRows self.now journal → option_map (λ text. octets text.now) result ≡ community_of journal index }
+    {
+        prove!(self.rows.len() <= 16);
+        match self.rows.get(index) {
+            Some(row) => Some(row.community.as_slice()),
+            None => None,
+        }
+    }
+}

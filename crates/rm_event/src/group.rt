@@ -1,0 +1,99 @@
+// The group event, as a group of objects.
+ghost use Rattle.std.specs.Prelude.{◌≡◌, ℕ, List};
+
+use crate::cells::{cell_of, next_of};
+use crate::event_cell::event_entry;
+use crate::event_column::EVENT_COLUMNS;
+use crate::event_row::STATUS;
+use crate::events::Events;
+use crate::log_cell::log_entry;
+use crate::log_column::LOG_COLUMNS;
+use rm_status::{
+    Assigns, Denied, Group, Look, Objects, Verdict, is_of_column, judge_read_only, lower_verdict,
+};
+use rm_val::{Oid, Value};
+use std::alloc::Global;
+
+impl Group for Events {
+    ghost use Rattle.rm_model.specs.ControlRows.{no_rows};
+    ghost use Rattle.rm_model.specs.Judgement.{second_pass, rows_after};
+    ghost use Rattle.rm_model.specs.Reserves.{Reserves};
+    ghost use Rattle.rm_event.specs.EventTable.{event_table};
+    ghost use Rattle.rm_event.specs.Finite.{event_finite};
+    ghost use Rattle.rm_event.specs.Group.{event_cells, event_alone, AreFine, IsStocked, IsPrepared, IsReleased};
+    ghost use Rattle.rm_event.specs.Standing.{Stands};
+
+    ghost stands = { Stands };
+
+    ghost clock = { λ s. 0 };
+
+    ghost frames = { λ s. 0 };
+
+    ghost stocked = { IsStocked };
+
+    ghost cells = { λ settings journal now. event_cells settings journal };
+
+    ghost alone = { event_alone };
+
+    ghost together = { λ settings journal now readings bindings place. second_pass event_table (rows_after event_table no_rows journal) bindings place };
+
+    ghost reserves = { λ settings journal bindings index. Reserves event_table (rows_after event_table no_rows journal) bindings index };
+
+    ghost accepts = { λ s now readings bindings. AreFine s bindings };
+
+    ghost prepared = { λ s now bindings. IsPrepared s bindings };
+
+    ghost released = { IsReleased };
+
+    ghost finite = { λ settings journal now. event_finite settings journal };
+
+    fn cell(&self, name: &Oid, _now: u32) -> Option<Value<'_>> {
+        prove!(self.rows.len() <= 16);
+        cell_of(&self.rows, &self.logs, name)
+    }
+
+    fn after(&self, name: &Oid, now: u32, out: &mut Oid) -> Option<Value<'_>> {
+        prove!(self.rows.len() <= 16);
+        next_of(&self.rows, &self.logs, name, now, out)
+    }
+
+    fn judge_alone<A: Assigns>(&self, set: &A) -> Verdict {
+        let rows = self.rows.judge_alone(set, &event_entry(), STATUS);
+        let entries = judge_read_only(set, &log_entry(), &LOG_COLUMNS);
+        lower_verdict(rows, entries)
+    }
+
+    fn judge_rows<A: Assigns, L: Look>(&self, set: &A, _now: u32, _look: &L) -> Verdict {
+        self.rows.judge_rows(set, &event_entry(), STATUS)
+    }
+
+    fn prepare<A: Assigns, L: Look>(
+        &mut self,
+        alloc: Global,
+        set: &A,
+        _now: u32,
+        _look: &L,
+    ) -> Result<(), Denied> {
+        self.make_room(alloc, set)
+    }
+
+    fn commit<A: Assigns>(&mut self, set: &A, _now: u32) {
+        self.assign(set);
+        self.give_back();
+    }
+
+    fn discard(&mut self) {
+        self.give_back();
+    }
+}
+
+impl Objects for Events {
+    ghost use Rattle.rm_event.specs.Group.{event_objects};
+
+    ghost objects = { event_objects };
+
+    fn has_object(name: &Oid) -> bool {
+        is_of_column(name, &event_entry(), &EVENT_COLUMNS)
+            || is_of_column(name, &log_entry(), &LOG_COLUMNS)
+    }
+}

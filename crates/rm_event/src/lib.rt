@@ -1,0 +1,26 @@
+//! The group event: eventTable and logTable (RFC 1757, section 5.9).
+#![tactic(auto)]
+
+mod assigning;
+mod cells;
+mod entries;
+mod event_cell;
+mod event_column;
+mod event_row;
+mod event_type;
+mod events;
+mod fired;
+mod firing;
+mod group;
+mod laws;
+mod log;
+mod log_cell;
+mod log_column;
+mod logs;
+#[cfg(test)]
+mod tests;
+
+pub use event_type::EventType;
+pub use events::Events;
+pub use fired::Fired;
+pub use laws::{act_begins, act_ends, act_passes};

@@ -1,0 +1,107 @@
+// The log of an event.
+ghost use Rattle.std.specs.Prelude.{◌≡◌, ℕ, ◌≤◌, List, ◌∷◌, IfOk};
+ghost use Rattle.rm_event.specs.declared.log.TheConstants.{MOST_ENTRIES, MOST_SHOWN};
+
+use crate::event_type::EventType;
+use circular_buffer::HeapCircularBuffer;
+use rm_val::NoMemory;
+use std::alloc::Global;
+
+/// The greatest number of an entry.
+pub const MOST_ENTRIES: u32 = 2_147_483_647;
+
+/// How many entries are shown at most.
+pub const MOST_SHOWN: u32 = 32;
+
+/// What is kept of the firings of an event: the last entries of its log, which are numbered from 1. Times are ticks, in
+/// hundredths of a second.
+#[derive(Drop)]
+pub struct Log {
+    /// The index of the event's row, 0 where the storage is spare.
+    pub row: u32,
+    /// When the event fired last, 0 before it did.
+    pub sent: u32,
+    /// How many entries were added.
+    pub added: u32,
+    /// The times of the last entries, the newest first.
+    pub ring: HeapCircularBuffer<u32>,
+    ghost room: { ring.capacity ≡ MOST_SHOWN },
+    ghost fewer: { added ≤ MOST_ENTRIES },
+}
+
+impl Log {
+    ghost use Rattle.rm_event.specs.Log.{IsNew, HasFired, kept_time};
+    ghost use Rattle.rm_event.specs.Tables.{is_shown};
+    ghost use Rattle.rm_event.specs.Walk.{IsNumberAbove, shows_any};
+
+    /// Storage that is spare.
+    pub fn spare(alloc: Global) -> Result<Log, NoMemory>
+        ensures { IfOk result (λ log. log.row ≡ 0) }
+    {
+        let ring = HeapCircularBuffer::with_capacity(alloc, MOST_SHOWN as usize);
+        Ok(Log {
+            row: 0,
+            sent: 0,
+            added: 0,
+            ring: ring.map_err(|_| NoMemory)?,
+        })
+    }
+
+    /// Begins the log of a row.
+    pub fn begin(&mut self, row: u32)
+        ensures row { self.new.row ≡ row }
+        ensures empty { IsNew self.new }
+    {
+        self.ring.clear();
+        self.row = row;
+        self.sent = 0;
+        self.added = 0;
+    }
+
+    /// Notes that the event, which is of that type, fires at a moment in milliseconds.
+    pub fn fire(&mut self, event_type: EventType, moment: u32)
+        ensures { HasFired event_type moment self.old self.new }
+    {
+        let tick = moment / 10;
+        self.sent = tick;
+        if event_type.is_logged() && self.added < MOST_ENTRIES {
+            self.ring.push_front(tick);
+            self.added += 1;
+        }
+    }
+
+    /// Whether the entry with that number is shown.
+    pub fn shows(&self, number: u32) -> bool
+        ensures { result ≡ is_shown self.now.added number }
+    {
+        1 <= number && number <= self.added && self.added < number + MOST_SHOWN
+    }
+
+    /// Whether any entry is shown: the last one, then.
+    pub fn shows_any(&self) -> bool
+        ensures { result ≡ shows_any self.now.added }
+    {
+        self.shows(self.added)
+    }
+
+    /// The least number above one of an entry that is shown. None where none above is shown.
+    pub fn number_above(&self, number: u32) -> Option<u32>
+        ensures { IsNumberAbove (is_shown self.now.added) number result }
+    {
+        if number >= self.added {
+            return None;
+        }
+        Some(number.max(self.added.saturating_sub(MOST_SHOWN)) + 1)
+    }
+
+    /// The time of the entry with that number, 0 where it isn't kept.
+    pub fn time(&self, number: u32) -> u32
+        ensures { result ≡ kept_time self.now number }
+    {
+        let newer = self.added.saturating_sub(number);
+        match self.ring.nth_front(newer as usize) {
+            Some(tick) => *tick,
+            None => 0,
+        }
+    }
+}
