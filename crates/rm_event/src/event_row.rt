@@ -41,6 +41,8 @@ pub struct EventRow {
 }
 
 impl Default for EventRow {
+    ghost is_default = { λ row. row ≡ blank_row };
+
     fn default() -> Self {
         EventRow::blank()
     }
@@ -54,6 +56,8 @@ impl Columns for EventRow {
     ghost blank_row = { blank_row };
 
     ghost with_column = { with_column };
+
+    ghost default_is_blank = { λ row is. is };
 
     ghost blank_alike = { blank_alike };
 
