@@ -1,5 +1,5 @@
 // The entries of logs, as the search for the next cell sees them.
-ghost use Rattle.std.specs.Prelude.{◌≡◌, ℕ, [], ◌∷◌, ◌&&◌, nat_lt, filter, map, min, slice_index, refl};
+ghost use Rattle.std.specs.Prelude.{◌≡◌, [], ◌∷◌, ◌&&◌, nat_lt, filter, map, min, slice_index, refl};
 ghost use Rattle.std.specs.Option.{option_map};
 ghost use Rattle.std.specs.List.{reduce};
 ghost use Rattle.rm_model.specs.Names.{IsLeastAbove};

@@ -1,5 +1,5 @@
 // Events that fire.
-ghost use Rattle.std.specs.Prelude.{◌≡◌, ℕ, ◌≤◌, List, [], ◌∷◌, ◌++◌, length, true, false, OnOk, IfSome, IfNone, Some};
+ghost use Rattle.std.specs.Prelude.{◌≡◌, ℕ, List, [], ◌∷◌, ◌++◌, true, false, OnOk, IfSome, IfNone, Some};
 ghost use Rattle.std.specs.Option.{option_map};
 ghost use Rattle.rm_val.specs.Val.{octets};
 ghost use Rattle.rm_model.specs.Settings.{Settings};
@@ -32,7 +32,7 @@ impl Events {
         }
     }
 
-    /// Takes the storage of one row. No variable changes.
+    /// Takes the storage of one row. No variable changes. NoMemory where there is none for it.
     pub fn reserve(&mut self, alloc: Global) -> Result<(), NoMemory>
         ensures stocked { OnOk result (IsStocked self.new) }
         ensures stands { (settings : Settings) (journal : Journal) → Stands self.old settings journal → Stands self.new settings journal }

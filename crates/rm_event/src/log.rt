@@ -1,5 +1,5 @@
 // The log of an event.
-ghost use Rattle.std.specs.Prelude.{◌≡◌, ℕ, ◌≤◌, List, ◌∷◌, IfOk};
+ghost use Rattle.std.specs.Prelude.{◌≡◌, ◌≤◌, IfOk};
 ghost use Rattle.rm_event.specs.declared.log.TheConstants.{MOST_ENTRIES, MOST_SHOWN};
 
 use crate::event_type::EventType;

@@ -1,5 +1,5 @@
 // The logs that are kept.
-ghost use Rattle.std.specs.Prelude.{◌≡◌, ℕ, ◌+◌, ◌<◌, ◌≤◌, ◌⊎◌, [], ◌∷◌, ◌++◌, map, length, min, max, true, false, Some, None, is_some, position, nat_eq, OnOk, OnErr, IfSome, is_ok, if◌then◌else◌};
+ghost use Rattle.std.specs.Prelude.{◌≡◌, ℕ, ◌+◌, ◌<◌, ◌≤◌, ◌⊎◌, [], ◌∷◌, ◌++◌, map, length, min, max, true, false, Some, None, is_some, position, nat_eq, OnOk, OnErr, is_ok, if◌then◌else◌};
 ghost use Rattle.std.specs.Option.{option_copied};
 ghost use Rattle.rm_model.specs.Judgement.{count_below};
 ghost use Rattle.rm_event.specs.declared.log.Log.{Log as Kept};
