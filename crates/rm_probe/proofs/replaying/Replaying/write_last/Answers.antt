@@ -1,7 +1,11 @@
-use Rattle.std.proofs.Common.{◌∙◌, [], refl, arith, subst, Bool}
+use Rattle.std.proofs.Common.{◌≡◌, ◌∙◌, ◌+◌, ℕ, List, [], length, Result, refl, sym, arith, subst, Bool}
+use Rattle.rm_pcap.specs.View.{progress_of}
 use Rattle.rm_probe.specs.Notes.{HasNoted, nothing_noted}
+use Rattle.rm_probe.specs.Steps.{WritesLine, done}
+use Rattle.rm_probe.specs.Text.{last_line}
+use Rattle.rm_probe.specs.declared.status.Status.{Status}
 use Rattle.rm_probe.proofs.NoteLemmas.{adds_then}
-use Rattle.rm_probe.proofs.WritingLemmas.{not_noted, put_rose}
+use Rattle.rm_probe.proofs.WritingLemmas.{not_noted, put_rose, finish_writes, fault_is_error}
 use Rattle.rm_probe.proofs.replaying.Replaying.write_last.Goals as goal
 
 pub returns-in-Err-clause-same_reference : goal.returns-in-Err-clause-same_reference
@@ -53,3 +57,13 @@ returns-in-Err-put-clause-line g c = λ bytes frames stop journal is left stands
       c.in-Ok.ensures.last bytes is frames stop journal left stands,
       (n, adds_then (g.K.Sink.content c.args.out.now.sink.now) (g.K.Sink.content c.finish.new.notes.sink.now) (g.K.Sink.content c.put.new.self.sink.now) [] _ (not_noted (g.K.Sink.content c.args.out.now.sink.now) (g.K.Sink.content c.finish.new.notes.sink.now) (g.K.Sink.faults c.args.out.now.sink.now) (g.K.Sink.faults c.finish.new.notes.sink.now) c.args.out.now.failed c.finish.new.notes.failed noted.1) added),
     )
+
+pub returns-in-Err-clause-line : goal.returns-in-Err-clause-line
+returns-in-Err-clause-line g c = λ bytes frames stop journal is left stands.
+    let noted = c.in-Err.ensures.noted c.args.out.now [] (refl, nothing_noted (g.K.Sink.content c.args.out.now.sink.now) (g.K.Sink.faults c.args.out.now.sink.now) c.args.out.now.failed) in
+    let added = not_noted (g.K.Sink.content c.args.out.now.sink.now) (g.K.Sink.content c.finish.new.notes.sink.now) (g.K.Sink.faults c.args.out.now.sink.now) (g.K.Sink.faults c.finish.new.notes.sink.now) c.args.out.now.failed c.finish.new.notes.failed noted.1 in
+    let IsLast = λ (line : List ℕ). line ≡ last_line stop ((progress_of c.args.self.now.capture).reach.count + length frames) c.args.requests in
+    subst (λ (status : Status). WritesLine IsLast stop (g.K.Sink.content c.args.out.now.sink.now) (g.K.Sink.content c.finish.new.notes.sink.now) (done status)) (sym c.from.ensures)
+    (subst (λ (result : Result (Unit {0}) Status). WritesLine IsLast stop (g.K.Sink.content c.args.out.now.sink.now) (g.K.Sink.content c.finish.new.notes.sink.now) result) (sym (fault_is_error c.in-Err.fault))
+    (finish_writes (Unit {0}) (Unit {0}) IsLast bytes (progress_of c.args.self.now.capture) c.args.self.now.probe c.args.requests c.finish.new.line.items (g.K.Sink.content c.args.out.now.sink.now) (g.K.Sink.content c.finish.new.notes.sink.now) c.in-Err.fault
+    (c.in-Err.ensures.last bytes is) c.in-Err.ensures.kinds frames stop journal left stands added))
