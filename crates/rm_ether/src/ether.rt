@@ -170,5 +170,5 @@ impl Readable for Ether {
 impl Unsampled for Ether {
     ghost use Rattle.rm_ether.specs.Sampled.{ether_sampled};
 
-    ghost sampled = { λ s settings journal moment alarm reading stands. ether_sampled settings journal moment alarm reading s stands };
+    ghost sampled = { λ s settings journal moment alarm reading stands later. ether_sampled settings journal moment alarm reading s stands };
 }

@@ -1,4 +1,4 @@
--- What samples come to, worked out by hand from RFC 1757, section 5.4. The values stand newest first.
+-- What samples come to, worked out by hand from RFC 1757, section 5. The values stand newest first.
 use Rattle.std.proofs.Common.{◌≡◌, ℕ, [], ◌∷◌, refl}
 use Rattle.std.specs.Prelude.{pos, negsuc}
 use Rattle.rm_model.specs.Crossings.{Bounds, crossing}

@@ -1,4 +1,4 @@
--- The alarms of a probe after a journal (RFC 1757, section 5.4): what their samples are, what crossings these make, and when
+-- The alarms of a probe after a journal (RFC 1757, section 5): what their samples are, what crossings these make, and when
 -- the next one is due. An alarm is named by the number of its row.
 use Rattle.std.specs.Prelude.{◌≡◌, ◌⊎◌, ℕ, ◌+◌, ◌*◌, ◌<◌, ◌≤◌, ℤ, pos, negsuc, ◌-ℤ◌, int_le, nat_abs, List, [], ◌∷◌, length, Bool, true, false, nat_eq, if◌then◌else◌, Option, Some, None}
 use Rattle.std.specs.Int.{int_rem_euclid, int_min, int_max}

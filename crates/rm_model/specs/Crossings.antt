@@ -1,4 +1,4 @@
--- When the samples of an alarm cross its thresholds (RFC 1757, section 5.4). They are the list of their values, the newest
+-- When the samples of an alarm cross its thresholds (RFC 1757, section 5). They are the list of their values, the newest
 -- first.
 use Rattle.std.specs.Prelude.{◌≡◌, ℤ, pos, int_le, List, [], ◌∷◌, ◌++◌, Bool, true, false, ◌&&◌, ◌||◌, not, if◌then◌else◌}
 use Rattle.std.specs.List.{list_any}

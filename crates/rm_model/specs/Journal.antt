@@ -18,8 +18,7 @@ pub record Assignment : Type 0 where
   pub name : List ℕ
   pub value : Val
 
--- What a Set gives. It is to be appended in rising order of the names, each name once, so that the order of its bindings is not
--- there to matter.
+-- What a Set gives, in rising order of the names, each name once. So the order of its bindings isn't there to matter.
 abbrev pub Assignments : Type 0
 Assignments = List Assignment
 

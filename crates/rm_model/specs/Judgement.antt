@@ -1,5 +1,5 @@
 -- How a Set is judged on one control table (RFC 1905, section 4.2.5): first each binding alone, then the bindings of each
--- row together. Which tests there are, and their order, is this probe's profile.
+-- row together. Which tests there are, and their order, is said in docs/DECISIONS.md.
 use Rattle.std.specs.Prelude.{◌≡◌, ℕ, zero, suc, ℤ, pos, ◌+◌, ◌<◌, int_le, List, [], ◌∷◌, get_or, take, length, Bool, true, false, not, ◌&&◌, ◌||◌, nat_eq, nat_le, nat_lt, if◌then◌else◌, Option, Some, None, is_none, is_some}
 use Rattle.std.specs.List.{list_any, list_all}
 use Rattle.std.specs.Option.{option_map, option_map_or, option_or}

@@ -1,6 +1,6 @@
 // What a sample of an alarm comes to.
 
-/// What a sample of an alarm comes to (RFC 1757, section 5.4).
+/// What a sample of an alarm comes to (RFC 1757, section 5).
 #[derive(Clone, Copy, Debug, PartialEq, Eq)]
 pub enum Sampled {
     /// It crosses no threshold.

@@ -15,14 +15,14 @@ pub length-element : (tag : ℕ) (content : List ℕ) → length (element tag co
 unfolding element header_size
 length-element tag content = let e = length-append (length_octets (length content)) content in grind (arith, e)
 
-number_short : (n : ℕ) → number_size n ≤ 9
+pub number_short : (n : ℕ) → number_size n ≤ 9
 number_short n = grind (arith, nat_tests)
 
 size_short : (z : ℤ) → integer_size z ≤ 9
 size_short (pos n) = number_short n
 size_short (negsuc n) = number_short n
 
-length-bytes : (n x : ℕ) → length (bytes_high_first n x) ≡ n
+pub length-bytes : (n x : ℕ) → length (bytes_high_first n x) ≡ n
 length-bytes zero x = refl
 length-bytes (suc n) x = let before = length-bytes n x in grind (arith, before)
 
@@ -47,7 +47,7 @@ pub octets_short : (bytes : List ℕ) → length bytes ≤ 127 → length (value
 octets_short bytes few = let s = short_size (length bytes) few in rw (length-element 0x04 bytes) (omega arith)
 
 -- how much more an element takes than its content
-header_short : (n : ℕ) → element_size n ≤ n + 6
+pub header_short : (n : ℕ) → element_size n ≤ n + 6
 unfolding header_size
 header_short n = grind (arith, nat_tests)
 

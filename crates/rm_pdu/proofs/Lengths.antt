@@ -1,11 +1,11 @@
 -- More bindings make a message longer.
-use Rattle.std.proofs.Common.{◌≡◌, ◌≤◌, ℕ, ℤ, pos, List, [], ◌++◌, length, refl, sym, ap, ◌∙◌, arith}
+use Rattle.std.proofs.Common.{◌≡◌, ◌≤◌, ℕ, pos, List, [], ◌++◌, length, refl, sym, ap, ◌∙◌, arith}
 use Rattle.std.specs.Prelude.{flat_map}
 use Rattle.std.proofs.lemmas.List.{length-append}
 use Rattle.std.proofs.lemmas.Grind.{flat_map-append}
 use Rattle.std.proofs.lemmas.Bool.Decides.{nat_tests}
 use Rattle.rm_val.specs.Val.{int}
-use Rattle.rm_ber.specs.Element.{integer_size, integer_octets, value_element}
+use Rattle.rm_ber.specs.Element.{integer_size, value_element}
 use Rattle.rm_pdu.specs.Message.{Binding, Message, binding_octets, message_octets}
 use Rattle.rm_pdu.specs.Draft.{Drafted, drafted}
 use Rattle.rm_pdu.specs.DraftParts.{header_size, element_size, pdu_size, content_size, message_size}

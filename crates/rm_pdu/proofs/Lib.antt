@@ -9,3 +9,4 @@ pub mod ListLemmas
 pub mod DraftSizes
 pub mod DraftSpells
 pub mod Lengths
+pub mod Bounds

@@ -1,6 +1,9 @@
 // Laws of messages and of what octets are. The bodies cite the laws of elements, and do nothing else.
-ghost use Rattle.std.specs.Prelude.{◌≡◌, ◌≤◌, ◌<◌, ◌++◌, ℕ, pos, Bool, List, [], length, take};
-ghost use Rattle.rm_pdu.specs.Message.{Binding, Message, message_octets};
+ghost use Rattle.std.specs.Prelude.{◌≡◌, ◌≤◌, ◌<◌, ◌+◌, ◌*◌, ◌++◌, ℕ, ℤ, pos, Bool, List, [], length, take};
+ghost use Rattle.std.specs.List.{sum_by};
+ghost use Rattle.rm_val.specs.Val.{int, name, ticks};
+ghost use Rattle.rm_pdu.specs.Message.{Binding, Message, binding_octets, message_octets};
+ghost use Rattle.rm_pdu.specs.Draft.{binding_of};
 ghost use Rattle.rm_pdu.specs.Spells.{Spells};
 ghost use Rattle.rm_pdu.specs.Verdict.{Verdict, IsVerdict};
 
@@ -54,4 +57,16 @@ pub fn empty_messages_are_short()
 pub fn index_128_is_longest()
     ensures { (m : Message) (status index : ℕ) → status ≤ 127 → index ≤ 128
         → length (message_octets (record m { first = pos status; second = pos index })) ≤ length (message_octets (record m { first = pos 0; second = pos 128 })) }
+{}
+
+/// A law: a message with a community of at most 127 octets has at most 191 canonical octets beside those of its bindings.
+pub fn bindings_add_up()
+    ensures { (m : Message) → length m.community ≤ 127 → length (message_octets m) ≤ 191 + sum_by (λ binding. length (binding_octets binding)) m.bindings }
+{}
+
+/// A law: at most how many canonical octets a binding has whose value is an INTEGER, TimeTicks or a name.
+pub fn bindings_are_bounded()
+    ensures numbers { (numbers : List ℕ) (z : ℤ) → length (binding_octets (binding_of numbers (int z))) ≤ 5 * length numbers + 23 }
+    ensures ticks { (numbers : List ℕ) (n : ℕ) → length (binding_octets (binding_of numbers (ticks n))) ≤ 5 * length numbers + 27 }
+    ensures names { (numbers others : List ℕ) → length (binding_octets (binding_of numbers (name others))) ≤ 5 * length numbers + 5 * length others + 18 }
 {}
