@@ -1,4 +1,4 @@
--- The columns of eventTable and logTable (RFC 1757, section 5.9).
+-- The columns of eventTable and logTable (RFC 1757, section 5).
 use Rattle.std.specs.Prelude.{ℕ, List, [], ◌∷◌, ◌==◌, if◌then◌else◌}
 use Rattle.rm_event.specs.declared.event_column.EventColumn.{EventColumn}
 use Rattle.rm_event.specs.declared.event_column.EventColumn.TheVariants as event

@@ -1,4 +1,4 @@
--- The control table of events (RFC 1757, section 5.9), by the journal.
+-- The control table of events (RFC 1757, section 5), by the journal.
 use Rattle.std.specs.Prelude.{ℕ, pos, List, [], ◌∷◌, true, false}
 use Rattle.rm_val.specs.Val.{Val, int, octets}
 use Rattle.rm_model.specs.Journal.{Journal}

@@ -1,4 +1,4 @@
--- When events fire (RFC 1757, section 5.9). Moments are in milliseconds, ticks in hundredths of a second.
+-- When events fire (RFC 1757, section 5). Moments are in milliseconds, ticks in hundredths of a second.
 use Rattle.std.specs.Prelude.{ℕ, zero, suc, ◌/◌, ◌-◌, List, [], ◌∷◌, ◌++◌, map, filter, length, drop, nat_eq, if◌then◌else◌, Bool, true, false}
 use Rattle.rm_model.specs.Settings.{Settings}
 use Rattle.rm_model.specs.Journal.{Act, passes, assigns, samples, Journal, moment_of}

@@ -1,4 +1,4 @@
--- What eventTable and logTable show after a journal (RFC 1757, section 5.9).
+-- What eventTable and logTable show after a journal (RFC 1757, section 5).
 use Rattle.std.specs.Prelude.{ℕ, pos, ◌+◌, ◌-◌, List, [], ◌∷◌, length, Bool, false, ◌&&◌, not, nat_le, nat_lt, slice_get}
 use Rattle.std.specs.Option.{option_map_or}
 use Rattle.rm_val.specs.Val.{Val, int, ticks, null}

@@ -94,7 +94,8 @@ impl Events {
     pub(crate) fn assign<A: Assigns>(&mut self, set: &A)
         requires ready { IsPrepared self.old (A.bindings set.now) }
         ensures stands { (settings : Settings) (journal : Journal) (now : ℕ) (values : Assignments) → Stands self.old settings journal
-            → ((name : List ℕ) → value_given values name ≡ value_given (A.bindings set.now) name) → Stands self.new settings (assigns now values ∷ journal) }
+            → ((name : List ℕ) → value_given values name ≡ value_given (A.bindings set.now) name)
+            → Stands self.new settings (assigns now values ∷ journal) }
         ensures stocked { IsStocked self.old → IsStocked self.new }
     {
         prove!(self.rows.len() <= 16);

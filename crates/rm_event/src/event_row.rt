@@ -27,7 +27,7 @@ pub(crate) const STATUS: u32 = 7;
 /// How many octets a text has at most.
 const MOST_TEXT: usize = 127;
 
-/// The columns of a row of eventTable that can be set (RFC 1757, section 5.9).
+/// The columns of a row of eventTable that can be set (RFC 1757, section 5).
 #[derive(Drop)]
 pub struct EventRow {
     /// eventDescription

@@ -6,7 +6,8 @@ use crate::event_row::EventRow;
 use crate::logs::Logs;
 use rm_status::Controls;
 
-/// The events of the probe, and what they logged: eventTable and logTable (RFC 1757, section 5.9).
+/// The events of the probe, and what they logged: eventTable and logTable (RFC 1757, section 5). Each valid row
+/// has a log.
 #[derive(Drop)]
 pub struct Events {
     pub(crate) rows: Controls<EventRow>,

@@ -1,5 +1,5 @@
 // Events that fire.
-ghost use Rattle.std.specs.Prelude.{◌≡◌, ℕ, List, [], ◌∷◌, ◌++◌, true, false, OnOk, IfSome, IfNone, Some};
+ghost use Rattle.std.specs.Prelude.{◌≡◌, ℕ, List, [], ◌∷◌, ◌++◌, ◌≤◌, length, true, false, OnOk, IfSome, IfNone, Some};
 ghost use Rattle.std.specs.Option.{option_map};
 ghost use Rattle.rm_val.specs.Val.{octets};
 ghost use Rattle.rm_model.specs.Settings.{Settings};
@@ -44,9 +44,11 @@ impl Events {
     /// Fires the event with that index at a moment, in milliseconds, and tells what became of it. Only an event with a valid row
     /// fires.
     pub fn fire(&mut self, index: u32, moment: u32) -> Fired
-        ensures under_way { (settings : Settings) (act : Act) (earlier : Journal) (some : List ℕ) → is_set act ≡ false → moment_of act ≡ moment
+        ensures under_way { (settings : Settings) (act : Act) (earlier : Journal) (some : List ℕ) → is_set act ≡ false
+            → moment_of act ≡ moment
             → IsUnderWay self.old settings act earlier some → IsUnderWay self.new settings act earlier (some ++ index ∷ []) }
-        ensures result { (journal : Journal) → HasRows self.old journal → result ≡ fired_of (event_state journal (index ∷ [])) (type_of journal index) }
+        ensures result { (journal : Journal) → HasRows self.old journal
+            → result ≡ fired_of (event_state journal (index ∷ [])) (type_of journal index) }
         ensures stocked { IsStocked self.old → IsStocked self.new }
         ensures released { IsReleased self.old → IsReleased self.new }
     {
@@ -61,7 +63,8 @@ impl Events {
 
     // The type of an event, if its row is valid.
     fn valid_type(&self, index: u32) -> Option<EventType>
-        ensures valid { IfSome result (λ kind. (is_valid (state_in self.now.rows index) ≡ true) × ((columns : Columns) → columns_in self.now.rows index ≡ Some columns → kind ≡ columns.event_type)) }
+        ensures valid { IfSome result (λ kind. (is_valid (state_in self.now.rows index) ≡ true)
+            × ((columns : Columns) → columns_in self.now.rows index ≡ Some columns → kind ≡ columns.event_type)) }
         ensures idle { IfNone result (is_valid (state_in self.now.rows index) ≡ false) }
     {
         match self.rows.state(index) {
@@ -72,7 +75,9 @@ impl Events {
 
     /// The community of the event with that index (RFC 1757, eventCommunity). None where there is no such row.
     pub fn community(&self, index: u32) -> Option<&[u8]>
-        ensures { (journal : Journal) → HasRows self.now journal → option_map (λ text. octets text.now) result ≡ community_of journal index }
+        ensures value { (journal : Journal) → HasRows self.now journal
+            → option_map (λ text. octets text.now) result ≡ community_of journal index }
+        ensures short { IfSome result (λ text. length text.now ≤ 127) }
     {
         prove!(self.rows.len() <= 16);
         match self.rows.get(index) {

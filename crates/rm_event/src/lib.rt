@@ -1,4 +1,4 @@
-//! The group event: eventTable and logTable (RFC 1757, section 5.9).
+//! The group event: eventTable and logTable (RFC 1757, section 5).
 #![tactic(auto)]
 
 mod assigning;

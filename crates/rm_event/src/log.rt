@@ -34,7 +34,7 @@ impl Log {
     ghost use Rattle.rm_event.specs.Tables.{is_shown};
     ghost use Rattle.rm_event.specs.Walk.{IsNumberAbove, shows_any};
 
-    /// Storage that is spare.
+    /// Storage that is spare. NoMemory where there is none.
     pub fn spare(alloc: Global) -> Result<Log, NoMemory>
         ensures { IfOk result (λ log. log.row ≡ 0) }
     {

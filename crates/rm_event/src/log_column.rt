@@ -4,7 +4,7 @@ ghost use Rattle.std.specs.Prelude.{◌≡◌};
 /// The numbers of the columns.
 pub const LOG_COLUMNS: [u32; 4] = [1, 2, 3, 4];
 
-/// A column of logTable (RFC 1757, section 5.9), by the name of its object.
+/// A column of logTable (RFC 1757, section 5), by the name of its object.
 #[derive(Clone, Copy, Debug, PartialEq, Eq)]
 pub enum LogColumn {
     EventIndex,

@@ -39,7 +39,7 @@ impl Logs {
         }
     }
 
-    /// The log of a row, which isn't row 0.
+    /// The log of a row, or the first spare one for row 0. None where there is none.
     pub fn get(&self, row: u32) -> Option<&Log>
         ensures { option_copied result ≡ log_in (kept self.now) row }
     {
@@ -61,7 +61,8 @@ impl Logs {
 
     /// Notes in the log of a row that its event, which is of that type, fires at a moment in milliseconds.
     pub fn fire(&mut self, row: u32, event_type: EventType, moment: u32)
-        ensures itself { (log : Kept) → log_in (kept self.old) row ≡ Some log → (new : Kept) × (log_in (kept self.new) row ≡ Some new) × HasFired event_type moment log new }
+        ensures itself { (log : Kept) → log_in (kept self.old) row ≡ Some log → (new : Kept) × (log_in (kept self.new) row ≡ Some new)
+            × HasFired event_type moment log new }
         ensures others { (other : ℕ) → nat_eq row other ≡ false → log_in (kept self.new) other ≡ log_in (kept self.old) other }
         ensures same { (other : ℕ) → is_some (log_in (kept self.new) other) ≡ is_some (log_in (kept self.old) other) }
         ensures distinct { AreDistinct (kept self.old) → AreDistinct (kept self.new) }
@@ -117,8 +118,10 @@ impl Logs {
         ensures of_valid { AreOfValid (kept self.new) rows.now }
         ensures distinct { AreDistinct (kept self.new) }
         ensures count { length (kept self.new) ≡ length (kept self.old) }
-        ensures stays { (row : ℕ) (log : Kept) → 1 ≤ row → valid_in rows.now row ≡ true → log_in (kept self.old) row ≡ Some log → log_in (kept self.new) row ≡ Some log }
-        ensures begun { (row : ℕ) → 1 ≤ row → valid_in rows.now row ≡ true → log_in (kept self.old) row ≡ None → HasNew (kept self.new) row }
+        ensures stays { (row : ℕ) (log : Kept) → 1 ≤ row → valid_in rows.now row ≡ true → log_in (kept self.old) row ≡ Some log
+            → log_in (kept self.new) row ≡ Some log }
+        ensures begun { (row : ℕ) → 1 ≤ row → valid_in rows.now row ≡ true → log_in (kept self.old) row ≡ None
+            → HasNew (kept self.new) row }
     {
         prove!(rows.len() <= 16);
         self.release(rows);
@@ -193,7 +196,8 @@ impl Logs {
 
 // Notes in the log of a row that its event fires.
 fn fire_in(list: &mut Vec<Log>, row: u32, event_type: EventType, moment: u32)
-    ensures itself { (log : Kept) → log_in list.old.items row ≡ Some log → (new : Kept) × (log_in list.new.items row ≡ Some new) × HasFired event_type moment log new }
+    ensures itself { (log : Kept) → log_in list.old.items row ≡ Some log → (new : Kept) × (log_in list.new.items row ≡ Some new)
+        × HasFired event_type moment log new }
     ensures others { (other : ℕ) → nat_eq row other ≡ false → log_in list.new.items other ≡ log_in list.old.items other }
     ensures same { (other : ℕ) → is_some (log_in list.new.items other) ≡ is_some (log_in list.old.items other) }
     ensures distinct { AreDistinct list.old.items → AreDistinct list.new.items }

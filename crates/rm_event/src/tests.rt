@@ -1,4 +1,4 @@
-// What events show was worked out from the descriptions of the objects in RFC 1757, section 5.9. A status of 1 is valid, 2
+// What events show was worked out from the descriptions of the objects in RFC 1757, section 5. A status of 1 is valid, 2
 // createRequest, 3 underCreation, 4 invalid.
 mod given;
 

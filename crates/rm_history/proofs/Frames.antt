@@ -104,11 +104,6 @@ module _ (settings : Settings) (plan : Plan) (frames : List Frame) (frame : Fram
   abbrev adds : ℕ
   adds = counted each (frame_facts settings frame)
 
-  swapped : (s t : Bool) (n : ℕ) → cond s (cond t n 0) 0 ≡ cond t (cond s n 0) 0
-  swapped true t n = refl
-  swapped false true n = refl
-  swapped false false n = refl
-
   -- a bucket of the frames that pass a test, with one more frame
   pub bucket_more : (test : Frame → Bool) → bucket_sum settings plan (filter test (frame ∷ frames)) bucket each ≡ bucket_sum settings plan (filter test frames) bucket each + cond (nat_eq bucket (complete_at plan frame.moment + 1)) (cond (test frame) adds 0) 0
   bucket_more test =

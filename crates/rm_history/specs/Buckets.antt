@@ -1,4 +1,4 @@
--- The buckets of a history (RFC 1757, section 5.3): each has the frames of one interval. They are numbered from 1, and follow
+-- The buckets of a history (RFC 1757, section 5): each has the frames of one interval. They are numbered from 1, and follow
 -- each other from the moment on at which the history began. Moments and lengths are in milliseconds.
 use Rattle.std.specs.Prelude.{ℕ, ◌+◌, ◌-◌, ◌*◌, ◌/◌, min, List, Bool, ◌&&◌, nat_le, nat_lt, filter}
 use Rattle.std.specs.List.{sum_by}

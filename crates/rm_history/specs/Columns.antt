@@ -1,4 +1,4 @@
--- The columns of historyControl and etherHistory (RFC 1757, sections 5.2 and 5.3).
+-- The columns of historyControl and etherHistory (RFC 1757, section 5).
 use Rattle.std.specs.Prelude.{ℕ, List, [], ◌∷◌, ◌==◌, if◌then◌else◌}
 use Rattle.rm_ether.specs.declared.counter.Counter.TheVariants.{DropEvents, Octets, Pkts, BroadcastPkts, MulticastPkts, CRCAlignErrors, UndersizePkts, OversizePkts, Fragments, Jabbers, Collisions}
 use Rattle.rm_history.specs.declared.control_column.ControlColumn.{ControlColumn}

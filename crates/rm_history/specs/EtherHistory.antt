@@ -1,4 +1,4 @@
--- The table etherHistory (RFC 1757, section 5.3): the last complete buckets of each row of historyControl.
+-- The table etherHistory (RFC 1757, section 5): the last complete buckets of each row of historyControl.
 use Rattle.std.specs.Prelude.{ℕ, pos, ◌/◌, ◌%◌, ◌^◌, List, [], ◌∷◌, Bool, false, ◌&&◌}
 use Rattle.rm_val.specs.Val.{Val, int, counter, ticks}
 use Rattle.rm_model.specs.Settings.{Settings}

@@ -54,7 +54,7 @@ abbrev pub IsStocked : History → Type 0
 IsStocked history = 1 ≤ length (kept history.runs)
 
 -- nothing is wrong with a Set, and there is storage for each row that is valid after it
-pub record IsReady (history : History) (bindings : Bindings) : Type 0 where
+pub record IsPrepared (history : History) (bindings : Bindings) : Type 0 where
   pub fine : AreFine history bindings
   pub enough : count_valid_after history_control (rows_before set_to history.rows) bindings ≤ length (kept history.runs)
 

@@ -1,4 +1,4 @@
--- The table historyControl (RFC 1757, section 5.2), and what it shows after a journal.
+-- The table historyControl (RFC 1757, section 5), and what it shows after a journal.
 use Rattle.std.specs.Prelude.{ℕ, pos, min, List, [], ◌∷◌, true, false, not, if◌then◌else◌}
 use Rattle.rm_val.specs.Val.{Val, int, octets, name}
 use Rattle.rm_model.specs.Journal.{Frame, Journal, frames_in}

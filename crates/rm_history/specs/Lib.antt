@@ -14,3 +14,4 @@ pub mod Group
 pub mod Walk
 pub mod SampleNumbers
 pub mod Finite
+pub mod Sampled

@@ -2,7 +2,7 @@
 ghost use Rattle.std.specs.Prelude.{◌≡◌, ℕ, ◌≤◌, List, ◌∷◌};
 ghost use Rattle.rm_model.specs.Settings.{Settings};
 ghost use Rattle.rm_model.specs.Journal.{Assignments, Journal, assigns, last_moment, value_given};
-ghost use Rattle.rm_history.specs.Group.{Stands, IsReady, IsReleased, IsStocked, frames_given, last_given};
+ghost use Rattle.rm_history.specs.Group.{Stands, IsPrepared, IsReleased, IsStocked, frames_given, last_given};
 
 use crate::beginning::begin_all;
 use crate::control_cell::control_entry;
@@ -15,13 +15,15 @@ impl History {
     /// at that moment, and one that isn't valid any more loses its own. No memory is taken.
     pub fn assign<A: Assigns>(&mut self, set: &A, now: u32)
         requires later { last_given self.old ≤ now }
-        requires ready { IsReady self.old (A.bindings set.now) }
+        requires ready { IsPrepared self.old (A.bindings set.now) }
         requires stocked { IsStocked self.old }
         ensures last { last_given self.new ≡ now }
         ensures frames { frames_given self.new ≡ frames_given self.old }
         ensures stocked { IsStocked self.new }
-        ensures stands { (settings : Settings) (journal : Journal) (values : Assignments) → Stands self.old settings journal → last_moment journal ≤ now
-            → ((name : List ℕ) → value_given values name ≡ value_given (A.bindings set.now) name) → Stands self.new settings (assigns now values ∷ journal) }
+        ensures stands { (settings : Settings) (journal : Journal) (values : Assignments) → Stands self.old settings journal
+            → last_moment journal ≤ now
+            → ((name : List ℕ) → value_given values name ≡ value_given (A.bindings set.now) name)
+            → Stands self.new settings (assigns now values ∷ journal) }
         ensures released { IsReleased self.new }
     {
         prove!(self.rows.len() <= 16);

@@ -24,7 +24,8 @@ pub fn begin_all(runs: &mut Runs, rows: &Controls<ControlColumns>, now: u32)
     ensures begun { AllBegin now rows.now (kept runs.old) (kept runs.new) }
     ensures distinct { AreDistinct (kept runs.new) }
     ensures count { length (kept runs.new) ≡ length (kept runs.old) }
-    ensures fits { (last frames : ℕ) → now ≤ last → AllByRecursion (Fits last frames) (kept runs.old) → AllByRecursion (Fits last frames) (kept runs.new) }
+    ensures fits { (last frames : ℕ) → now ≤ last → AllByRecursion (Fits last frames) (kept runs.old)
+        → AllByRecursion (Fits last frames) (kept runs.new) }
 {
     prove!(rows.len() <= 16);
     let mut last = 0;
@@ -43,7 +44,8 @@ fn begin_of(runs: &mut Runs, rows: &Controls<ControlColumns>, row: u32, now: u32
     ensures others { (other : ℕ) → 1 ≤ other → nat_eq row other ≡ false → run_in (kept runs.new) other ≡ run_in (kept runs.old) other }
     ensures distinct { AreDistinct (kept runs.old) → AreDistinct (kept runs.new) }
     ensures count { length (kept runs.new) ≡ length (kept runs.old) }
-    ensures fits { (last frames : ℕ) → now ≤ last → AllByRecursion (Fits last frames) (kept runs.old) → AllByRecursion (Fits last frames) (kept runs.new) }
+    ensures fits { (last frames : ℕ) → now ≤ last → AllByRecursion (Fits last frames) (kept runs.old)
+        → AllByRecursion (Fits last frames) (kept runs.new) }
 {
     if runs.get(row).is_none() {
         if let Some(columns) = valid_columns(rows, row) {

@@ -4,7 +4,7 @@ ghost use Rattle.std.specs.Prelude.{◌≡◌};
 /// The numbers of the columns.
 pub const CONTROL_COLUMNS: [u32; 7] = [1, 2, 3, 4, 5, 6, 7];
 
-/// A column of historyControl (RFC 1757, section 5.2), by the name of its object.
+/// A column of historyControl (RFC 1757, section 5), by the name of its object.
 #[derive(Clone, Copy, Debug, PartialEq, Eq)]
 pub enum ControlColumn {
     Index,

@@ -16,7 +16,7 @@ pub const STATUS: u32 = 7;
 /// How many octets an owner has at most.
 const MOST_OWNER: usize = 127;
 
-/// The columns of a row of historyControl that can be set (RFC 1757, section 5.2).
+/// The columns of a row of historyControl that can be set (RFC 1757, section 5).
 #[derive(Drop)]
 pub struct ControlColumns {
     /// The number of the interface that historyControlDataSource names.

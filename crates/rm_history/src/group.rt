@@ -10,7 +10,8 @@ use crate::history::History;
 use crate::sample_cell::sample_entry;
 use crate::sample_column::SAMPLE_COLUMNS;
 use rm_status::{
-    Assigns, Denied, Group, Look, Objects, Verdict, is_of_column, judge_read_only, lower_verdict,
+    Assigns, Denied, Group, Look, Objects, Readable, Unsampled, Verdict, is_of_column,
+    judge_read_only, lower_verdict,
 };
 use rm_val::{Oid, Value};
 use std::alloc::Global;
@@ -23,7 +24,7 @@ impl Group for History {
     ghost use Rattle.rm_history.specs.HistoryControl.{history_control, control_table};
     ghost use Rattle.rm_history.specs.EtherHistory.{sample_table};
     ghost use Rattle.rm_history.specs.Finite.{history_finite};
-    ghost use Rattle.rm_history.specs.Group.{Stands, history_alone, AreFine, IsStocked, IsReady, IsReleased, frames_given, last_given};
+    ghost use Rattle.rm_history.specs.Group.{Stands, history_alone, AreFine, IsStocked, IsPrepared, IsReleased, frames_given, last_given};
 
     ghost stands = { Stands };
 
@@ -43,7 +44,7 @@ impl Group for History {
 
     ghost accepts = { λ s now readings bindings. AreFine s bindings };
 
-    ghost prepared = { λ s now bindings. IsReady s bindings };
+    ghost prepared = { λ s now bindings. IsPrepared s bindings };
 
     ghost released = { IsReleased };
 
@@ -97,4 +98,26 @@ impl Objects for History {
         is_of_column(name, &control_entry(), &CONTROL_COLUMNS)
             || is_of_column(name, &sample_entry(), &SAMPLE_COLUMNS)
     }
+}
+
+impl Readable for History {
+    ghost use Rattle.rm_history.specs.Runs.{kept};
+    ghost use Rattle.rm_history.specs.Shown.{cells_shown};
+
+    ghost shown = { λ s now. cells_shown s.rows (kept s.runs) now };
+
+    fn value(&self, name: &Oid, now: u32) -> Option<Value<'_>> {
+        prove!(self.rows.len() <= 16);
+        cell_of(&self.rows, &self.runs, name, now)
+    }
+
+    fn shows(&self, _now: u32) {
+        prove!(self.rows.len() <= 16);
+    }
+}
+
+impl Unsampled for History {
+    ghost use Rattle.rm_history.specs.Sampled.{history_sampled};
+
+    ghost sampled = { λ s settings journal moment alarm reading stands later. history_sampled settings journal moment alarm reading later s stands };
 }

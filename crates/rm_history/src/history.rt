@@ -14,7 +14,7 @@ use rm_status::{Controls, StatusKind};
 use rm_val::NoMemory;
 use std::alloc::Global;
 
-/// The history of Ethernet interfaces: historyControlTable and etherHistoryTable (RFC 1757, sections 5.2 and 5.3). A valid
+/// The history of Ethernet interfaces: historyControlTable and etherHistoryTable (RFC 1757, section 5). A valid
 /// row of historyControl has the storage of its buckets; other storage may be spare.
 #[derive(Drop)]
 pub struct History {
@@ -66,7 +66,8 @@ impl History {
         requires later { last_given self.old ≤ moment }
         requires room { frames_given self.old < MOST_FRAMES }
         requires length { facts.now.length ≤ MOST_OCTETS }
-        ensures stands { (settings : Settings) (journal : Journal) (frame : Frame) → Stands self.old settings journal → facts.now ≡ frame_facts settings frame
+        ensures stands { (settings : Settings) (journal : Journal) (frame : Frame) → Stands self.old settings journal
+            → facts.now ≡ frame_facts settings frame
             → frame.moment ≡ moment → Stands self.new settings (passes frame ∷ journal) }
         ensures frames { frames_given self.new ≡ frames_given self.old + 1 }
         ensures last { last_given self.new ≡ moment }

@@ -1,4 +1,4 @@
-//! The history of Ethernet interfaces: historyControlTable and etherHistoryTable (RFC 1757, sections 5.2 and 5.3).
+//! The history of Ethernet interfaces: historyControlTable and etherHistoryTable (RFC 1757, section 5).
 #![tactic(auto)]
 
 mod assigning;

@@ -8,7 +8,7 @@ ghost use Rattle.rm_model.specs.Reserves.{Reserves, count_valid_after};
 ghost use Rattle.rm_status.specs.Rows.{rows_before};
 ghost use Rattle.rm_history.specs.HistoryControl.{history_control};
 ghost use Rattle.rm_history.specs.ControlColumns.{set_to};
-ghost use Rattle.rm_history.specs.Group.{Stands, AreFine, IsStocked, IsReady, IsReleased, frames_given, last_given};
+ghost use Rattle.rm_history.specs.Group.{Stands, AreFine, IsStocked, IsPrepared, IsReleased, frames_given, last_given};
 
 use crate::control_cell::control_entry;
 use crate::control_columns::STATUS;
@@ -27,7 +27,7 @@ impl History {
         ensures frames { frames_given self.new ≡ frames_given self.old }
         ensures stocked { IsStocked self.new }
         ensures stands { (settings : Settings) (journal : Journal) → Stands self.old settings journal → Stands self.new settings journal }
-        ensures ready { OnOk result (IsReady self.new (A.bindings set.now)) }
+        ensures ready { OnOk result (IsPrepared self.new (A.bindings set.now)) }
         ensures released { OnErr result (IsReleased self.new) }
         ensures denied { IfErr result (λ denied. (settings : Settings) (journal : Journal) → Stands self.old settings journal
             → Reserves history_control (rows_after history_control no_rows journal) (A.bindings set.now) denied.index) }

@@ -77,7 +77,8 @@ impl Runs {
         ensures same { (row : ℕ) → 1 ≤ row → run_in (kept self.new) row ≡ run_in (kept self.old) row }
         ensures distinct { AreDistinct (kept self.old) → AreDistinct (kept self.new) }
         ensures more { length (kept self.old) ≤ length (kept self.new) }
-        ensures fits { (last frames : ℕ) → AllByRecursion (Fits last frames) (kept self.old) → AllByRecursion (Fits last frames) (kept self.new) }
+        ensures fits { (last frames : ℕ) → AllByRecursion (Fits last frames) (kept self.old)
+            → AllByRecursion (Fits last frames) (kept self.new) }
         ensures ok { OnOk result (count ≤ length (kept self.new)) }
         ensures err { OnErr result (length (kept self.old) < count) }
     {
@@ -102,7 +103,8 @@ impl Runs {
         ensures distinct { AreDistinct (kept self.old) → AreDistinct (kept self.new) }
         ensures enough { min count (length (kept self.old)) ≤ length (kept self.new) }
         ensures few { count < length (kept self.new) → run_in (kept self.new) 0 ≡ None }
-        ensures fits { (last frames : ℕ) → AllByRecursion (Fits last frames) (kept self.old) → AllByRecursion (Fits last frames) (kept self.new) }
+        ensures fits { (last frames : ℕ) → AllByRecursion (Fits last frames) (kept self.old)
+            → AllByRecursion (Fits last frames) (kept self.new) }
     {
         if let Some(list) = &mut self.list {
             trim_in(list, count);
@@ -122,7 +124,8 @@ impl Runs {
         ensures others { (other : ℕ) → 1 ≤ other → nat_eq row other ≡ false → run_in (kept self.new) other ≡ run_in (kept self.old) other }
         ensures distinct { AreDistinct (kept self.old) → AreDistinct (kept self.new) }
         ensures count { length (kept self.new) ≡ length (kept self.old) }
-        ensures fits { (last frames : ℕ) → plan.start ≤ last → AllByRecursion (Fits last frames) (kept self.old) → AllByRecursion (Fits last frames) (kept self.new) }
+        ensures fits { (last frames : ℕ) → plan.start ≤ last → AllByRecursion (Fits last frames) (kept self.old)
+            → AllByRecursion (Fits last frames) (kept self.new) }
     {
         if let Some(list) = &mut self.list {
             begin_in(list, row, source, plan);
@@ -169,7 +172,8 @@ fn begin_in(list: &mut Vec<Run>, row: u32, source: u32, plan: Plan)
     ensures others { (other : ℕ) → 1 ≤ other → nat_eq row other ≡ false → run_in list.new.items other ≡ run_in list.old.items other }
     ensures distinct { AreDistinct list.old.items → AreDistinct list.new.items }
     ensures count { length list.new.items ≡ length list.old.items }
-    ensures fits { (last frames : ℕ) → plan.start ≤ last → AllByRecursion (Fits last frames) list.old.items → AllByRecursion (Fits last frames) list.new.items }
+    ensures fits { (last frames : ℕ) → plan.start ≤ last → AllByRecursion (Fits last frames) list.old.items
+        → AllByRecursion (Fits last frames) list.new.items }
 {
     if let Some(place) = first_spare(list.as_slice()) {
         list[place].begin(row, source, plan);

@@ -6,7 +6,7 @@ use rm_ether::Counter;
 /// The numbers of the columns.
 pub const SAMPLE_COLUMNS: [u32; 15] = [1, 2, 3, 4, 5, 6, 7, 8, 9, 10, 11, 12, 13, 14, 15];
 
-/// A column of etherHistory (RFC 1757, section 5.3), by the name of its object.
+/// A column of etherHistory (RFC 1757, section 5), by the name of its object.
 #[derive(Clone, Copy, Debug, PartialEq, Eq)]
 pub enum SampleColumn {
     Index,

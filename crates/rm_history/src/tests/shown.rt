@@ -1,4 +1,4 @@
-// What is shown was worked out by hand from RFC 1757, sections 5.2 and 5.3.
+// What is shown was worked out by hand from RFC 1757, section 5.
 ghost use Rattle.std.specs.Prelude.{◌≡◌, ◌≤◌};
 ghost use Rattle.rm_history.specs.ControlColumns.{AreInRange, AreAllInRange};
 

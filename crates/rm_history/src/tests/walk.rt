@@ -1,4 +1,4 @@
-// A walk over the buckets of two rows. What they show was worked out by hand from RFC 1757, section 5.3.
+// A walk over the buckets of two rows. What they show was worked out by hand from RFC 1757, section 5.
 ghost use Rattle.std.specs.Prelude.{◌≡◌, ℕ, ◌≤◌, true, None, is_some, length, IfOk};
 ghost use Rattle.std.specs.List.{AllByRecursion};
 ghost use Rattle.rm_history.specs.Runs.{kept, run_in, AreDistinct, Fits};
