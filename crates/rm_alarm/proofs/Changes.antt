@@ -108,11 +108,6 @@ module _ (now : ℕ) (bs : Bindings) (alone : (k : ℕ) → k < length bs → fi
   settled_variable UnderCreation row = refl
   settled_variable Absent row = refl
 
-  settled_base : (s : State) (row : AlarmRow) → (settled now s row).base ≡ None
-  settled_base Valid row = refl
-  settled_base UnderCreation row = refl
-  settled_base Absent row = refl
-
   old_spelled : AreSpelled rows → (i : ℕ) (o : Option (Row AlarmRow)) → row_in rows i ≡ o → IsSpellable (variable_kept (unwrap_or (columns_seen o) blank_row))
   old_spelled spelled i None e = blank_spelled
   old_spelled spelled i (Some r) e = spelled i r e

@@ -15,6 +15,9 @@ use Rattle.rm_status.specs.declared.row.Row.{Row}
 use Rattle.rm_status.specs.Rows.{row_in, state_seen, columns_seen, AreControlRows, AllThere, with_columns}
 use Rattle.rm_status.specs.RowsAfter.{AreRowsAfter}
 use Rattle.rm_alarm.specs.declared.row.AlarmRow.{AlarmRow}
+use Rattle.rm_alarm.specs.declared.sample_type.SampleType.{SampleType}
+use Rattle.rm_alarm.specs.declared.sample_type.SampleType.TheVariants.{Absolute, Delta}
+use Rattle.rm_alarm.specs.SampleType.{type_number, is_difference}
 use Rattle.rm_alarm.specs.Kept.{bounds_in}
 use Rattle.rm_alarm.specs.Rows.{set_to, interval_kept, variable_kept, delta_kept}
 
@@ -84,8 +87,12 @@ module _ (rows : List (Row AlarmRow)) (journal : Journal) (is : AreRowsAfter ala
     pub variable_is : variable_kept row.columns ≡ variable_of journal i
     variable_is = sym (of_variable row.columns.variable) ∙ ap name_of columns.1.0.shown
 
+    of_type : (type : SampleType) → is_difference type ≡ int_eq (type_number type) (pos 2)
+    of_type Absolute = refl
+    of_type Delta = refl
+
     pub delta_is : delta_kept row.columns ≡ is_delta journal i
-    delta_is = ap (λ v. int_eq (number_of v) (pos 2)) columns.1.1.0.shown
+    delta_is = of_type row.columns.sample_type ∙ ap (λ v. int_eq (number_of v) (pos 2)) columns.1.1.0.shown
 
     pub bounds_is : bounds_in row.columns.thresholds ≡ bounds_of journal i
     bounds_is = λ d. record {

@@ -1,4 +1,4 @@
--- The table alarmTable (RFC 1757, section 5.4), and what it shows after a journal.
+-- The table alarmTable (RFC 1757, section 5), and what it shows after a journal.
 use Rattle.std.specs.Prelude.{ℕ, List, [], ◌∷◌, nat_eq, not, if◌then◌else◌}
 use Rattle.rm_val.specs.Val.{Val, int}
 use Rattle.rm_model.specs.Settings.{Settings}

@@ -6,10 +6,11 @@ use Rattle.rm_model.specs.Crossings.{Bounds, is_in_force, rising_of, falling_of}
 use Rattle.rm_alarm.specs.declared.course.Course.{Course}
 use Rattle.rm_alarm.specs.declared.hysteresis.Hysteresis.{Hysteresis}
 use Rattle.rm_alarm.specs.declared.thresholds.Thresholds.{Thresholds}
+use Rattle.rm_alarm.specs.StartupAlarm.{startup_number}
 
 -- the columns by which samples cross, as they are kept
 abbrev pub bounds_in : Thresholds → Bounds
-bounds_in thresholds = record { startup = thresholds.startup; rising = thresholds.rising; falling = thresholds.falling }
+bounds_in thresholds = record { startup = startup_number thresholds.startup; rising = thresholds.rising; falling = thresholds.falling }
 
 -- what is kept before the first sample
 abbrev pub nothing_crossed : Hysteresis

@@ -1,4 +1,4 @@
--- How many samples are left to take up to a moment.
+-- How many samples are left to take up to a moment, at most.
 use Rattle.std.specs.Prelude.{ℕ, zero, suc, ◌+◌, ◌-◌, Option, Some, None}
 use Rattle.rm_alarm.specs.declared.alarms.Alarms.{Alarms}
 use Rattle.rm_alarm.specs.Group.{due_in}
@@ -8,11 +8,12 @@ unfoldable pub sum_below : (ℕ → ℕ) → ℕ → ℕ
 sum_below each zero = 0
 sum_below each (suc alarm) = each alarm + sum_below each alarm
 
--- how many milliseconds there are from one in which a sample is due to a latest one, both counted
+-- how many milliseconds there are from the one in which a sample is due to the latest one, both counted
 abbrev pub span_to : ℕ → Option ℕ → ℕ
 span_to latest None = 0
 span_to latest (Some due) = latest + 1 - due
 
--- No more samples than this are due up to a moment, since each alarm has one at most in a millisecond.
+-- A bound of how many samples are left up to a moment: of each alarm the milliseconds from its next sample to that moment, in
+-- each of which it takes one sample at most. Each sample that is taken makes it less.
 abbrev pub samples_left : Alarms → ℕ → ℕ
 samples_left alarms latest = sum_below (λ alarm. span_to latest (due_in alarms alarm)) 65536

@@ -1,3 +1,5 @@
+pub mod SampleType
+pub mod StartupAlarm
 pub mod Kept
 pub mod Rows
 pub mod RowLaws

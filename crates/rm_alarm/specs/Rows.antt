@@ -1,12 +1,10 @@
 -- The columns of a row of alarmTable, as they are kept.
 use Rattle.std.specs.Prelude.{ℕ, ℤ, pos, List, [], ◌∷◌, Bool, nat_eq, unwrap_or, nat_abs, if◌then◌else◌, Option, Some, None}
 use Rattle.std.specs.Option.{option_map, option_or}
-use Rattle.std.specs.Ordering.{int_eq}
 use Rattle.arrayvec.specs.ArrayVec.{ArrayVec}
 use Rattle.rm_val.specs.Val.{Val, int, octets, name}
 use Rattle.rm_model.specs.Alarms.{number_of, name_of, alarm_entry}
 use Rattle.rm_status.specs.Values.{octets_in}
-use Rattle.rm_alarm.specs.declared.row.AlarmRow.{AlarmRow}
 use Rattle.rm_model.specs.Journal.{value_given}
 use Rattle.rm_model.specs.ControlRows.{cell_name}
 use Rattle.rm_model.specs.Judgement.{Bindings}
@@ -14,7 +12,14 @@ use Rattle.rm_model.specs.declared.row.State.{State}
 use Rattle.rm_model.specs.declared.row.State.TheVariants.{Absent, UnderCreation, Valid}
 use Rattle.rm_model.specs.Readings.{Readings}
 use Rattle.rm_alarm.specs.declared.course.Course.{Course}
+use Rattle.rm_alarm.specs.declared.row.AlarmRow.{AlarmRow}
+use Rattle.rm_alarm.specs.declared.sample_type.SampleType.{SampleType}
+use Rattle.rm_alarm.specs.declared.sample_type.SampleType.TheVariants.{Absolute}
+use Rattle.rm_alarm.specs.declared.startup_alarm.StartupAlarm.{StartupAlarm}
+use Rattle.rm_alarm.specs.declared.startup_alarm.StartupAlarm.TheVariants.{RisingOrFalling}
 use Rattle.rm_alarm.specs.Kept.{starting}
+use Rattle.rm_alarm.specs.SampleType.{type_number, type_in, is_difference}
+use Rattle.rm_alarm.specs.StartupAlarm.{startup_number, startup_in}
 
 -- what the columns of numbers show, those that a row needs where they were set
 abbrev pub number_shown : ℤ → Option Val
@@ -22,6 +27,13 @@ number_shown n = Some (int n)
 
 abbrev pub interval_shown : Option ℤ → Option Val
 interval_shown interval = option_map int interval
+
+-- what the sample type and the startup alarm show
+abbrev pub type_shown : SampleType → Option Val
+type_shown type = number_shown (type_number type)
+
+abbrev pub startup_shown : StartupAlarm → Option Val
+startup_shown startup = number_shown (startup_number startup)
 
 -- what the variable and the owner show
 abbrev pub variable_shown : Option (List ℕ) → Option Val
@@ -45,8 +57,8 @@ abbrev pub set_to : AlarmRow → ℕ → Option Val
 set_to row n =
     if nat_eq 2 n then interval_shown row.interval
     else if nat_eq 3 n then variable_shown row.variable
-    else if nat_eq 4 n then number_shown row.sample_type
-    else if nat_eq 6 n then number_shown row.thresholds.startup
+    else if nat_eq 4 n then type_shown row.sample_type
+    else if nat_eq 6 n then startup_shown row.thresholds.startup
     else if nat_eq 7 n then number_shown row.thresholds.rising
     else if nat_eq 8 n then number_shown row.thresholds.falling
     else if nat_eq 9 n then number_shown row.rising_event
@@ -59,9 +71,9 @@ abbrev pub with_column : AlarmRow → ℕ → Val → AlarmRow
 with_column row n value = record {
   interval = if nat_eq 2 n then interval_in value else row.interval;
   variable = if nat_eq 3 n then variable_in value else row.variable;
-  sample_type = if nat_eq 4 n then number_of value else row.sample_type;
+  sample_type = if nat_eq 4 n then type_in value else row.sample_type;
   thresholds = record {
-    startup = if nat_eq 6 n then number_of value else row.thresholds.startup;
+    startup = if nat_eq 6 n then startup_in value else row.thresholds.startup;
     rising = if nat_eq 7 n then number_of value else row.thresholds.rising;
     falling = if nat_eq 8 n then number_of value else row.thresholds.falling;
   };
@@ -77,8 +89,8 @@ abbrev pub blank_row : AlarmRow
 blank_row = record {
   interval = None;
   variable = None;
-  sample_type = pos 1;
-  thresholds = record { startup = pos 3; rising = pos 0; falling = pos 0 };
+  sample_type = Absolute;
+  thresholds = record { startup = RisingOrFalling; rising = pos 0; falling = pos 0 };
   rising_event = pos 0;
   falling_event = pos 0;
   owner = record { items = [] };
@@ -94,7 +106,7 @@ abbrev pub variable_kept : AlarmRow → List ℕ
 variable_kept row = unwrap_or row.variable (0 ∷ 0 ∷ [])
 
 abbrev pub delta_kept : AlarmRow → Bool
-delta_kept row = int_eq row.sample_type (pos 2)
+delta_kept row = is_difference row.sample_type
 
 -- the variable of a row with what a Set gives to it
 abbrev pub variable_with : Bindings → ℕ → AlarmRow → List ℕ

@@ -3,10 +3,9 @@ ghost use Rattle.rm_alarm.specs.Spelled.{AreSpelled, spelled_prop};
 ghost use Rattle.rm_alarm.specs.Paced.{ArePaced, paced_prop};
 
 use crate::row::AlarmRow;
-use rm_model::Sampled;
-use rm_status::{Controls, Look, StatusKind};
+use rm_status::Controls;
 
-/// The alarms of the probe: alarmTable (RFC 1757, section 5.4).
+/// The alarms of the probe: alarmTable (RFC 1757, section 5).
 #[derive(Drop)]
 pub struct Alarms {
     pub(crate) rows: Controls<AlarmRow>,

@@ -1,13 +1,14 @@
 // What a Set makes of alarms.
-ghost use Rattle.std.specs.Prelude.{◌≡◌, ℕ, ◌≤◌, List, ◌∷◌};
+ghost use Rattle.std.specs.Prelude.{◌≡◌, ℕ, List, ◌∷◌};
 ghost use Rattle.rm_model.specs.Settings.{Settings};
 ghost use Rattle.rm_model.specs.Journal.{Assignments, Journal, assigns, value_given};
 ghost use Rattle.rm_alarm.specs.Group.{AreFine, HasForgotten};
 ghost use Rattle.rm_alarm.specs.Standing.{Stands, AreBased, AreRead};
 
 use crate::alarms::Alarms;
-use crate::cell::{STATUS, entry};
+use crate::cell::entry;
 use crate::change::{Forgetting, ReadingBase, Settling};
+use crate::column::STATUS;
 use rm_status::{Assigns, Look};
 
 impl Alarms {
@@ -16,9 +17,12 @@ impl Alarms {
     pub fn remember<A: Assigns, L: Look>(&mut self, set: &A, now: u32, look: &L)
         requires { AreFine self.old (A.bindings set.now) }
         ensures fine { AreFine self.new (A.bindings set.now) }
-        ensures stands { (settings : Settings) (journal : Journal) → Stands self.old settings journal → Stands self.new settings journal }
-        ensures based { (settings : Settings) (journal : Journal) → AreBased self.old settings journal → AreBased self.new settings journal }
-        ensures read { (settings : Settings) (journal : Journal) → ((name : List ℕ) → L.readings look.now now name ≡ settings.readings journal now name)
+        ensures stands { (settings : Settings) (journal : Journal) → Stands self.old settings journal
+            → Stands self.new settings journal }
+        ensures based { (settings : Settings) (journal : Journal) → AreBased self.old settings journal
+            → AreBased self.new settings journal }
+        ensures read { (settings : Settings) (journal : Journal)
+            → ((name : List ℕ) → L.readings look.now now name ≡ settings.readings journal now name)
             → AreRead self.new settings journal now (A.bindings set.now) }
     {
         self.rows.change_each(&ReadingBase { set, look, now });
@@ -29,10 +33,12 @@ impl Alarms {
     pub fn assign<A: Assigns>(&mut self, set: &A, now: u32)
         requires { AreFine self.old (A.bindings set.now) }
         ensures stands { (settings : Settings) (journal : Journal) (values : Assignments) → Stands self.old settings journal
-            → ((name : List ℕ) → value_given values name ≡ value_given (A.bindings set.now) name) → Stands self.new settings (assigns now values ∷ journal) }
+            → ((name : List ℕ) → value_given values name ≡ value_given (A.bindings set.now) name)
+            → Stands self.new settings (assigns now values ∷ journal) }
         ensures based { (settings : Settings) (journal : Journal) (values : Assignments) → Stands self.old settings journal
             → AreBased self.old settings journal → AreRead self.old settings journal now (A.bindings set.now)
-            → ((name : List ℕ) → value_given values name ≡ value_given (A.bindings set.now) name) → AreBased self.new settings (assigns now values ∷ journal) }
+            → ((name : List ℕ) → value_given values name ≡ value_given (A.bindings set.now) name)
+            → AreBased self.new settings (assigns now values ∷ journal) }
         ensures forgotten { HasForgotten self.new }
     {
         prove!(self.rows.len() <= 16);
@@ -42,8 +48,10 @@ impl Alarms {
 
     /// Forgets what was remembered for a Set.
     pub fn forget(&mut self)
-        ensures stands { (settings : Settings) (journal : Journal) → Stands self.old settings journal → Stands self.new settings journal }
-        ensures based { (settings : Settings) (journal : Journal) → AreBased self.old settings journal → AreBased self.new settings journal }
+        ensures stands { (settings : Settings) (journal : Journal) → Stands self.old settings journal
+            → Stands self.new settings journal }
+        ensures based { (settings : Settings) (journal : Journal) → AreBased self.old settings journal
+            → AreBased self.new settings journal }
         ensures forgotten { HasForgotten self.new }
     {
         self.rows.change_each(&Forgetting);

@@ -1,34 +1,24 @@
 // The cells of alarmTable.
-ghost use Rattle.std.specs.Prelude.{◌≡◌, ◌≤◌, ℕ, [], ◌∷◌, Some, IfSome};
+ghost use Rattle.std.specs.Prelude.{◌≡◌, ◌≤◌, [], ◌∷◌, Some, IfSome};
 ghost use Rattle.std.specs.Option.{option_map};
 ghost use Rattle.rm_val.specs.Val.{val_of};
 ghost use Rattle.rm_val.specs.Spellable.{IsSpellable, HasSpelling};
 ghost use Rattle.rm_model.specs.Alarms.{alarm_entry, saturated};
-ghost use Rattle.rm_model.specs.Cells.{cells_of, cell_at, is_one_of};
+ghost use Rattle.rm_model.specs.Cells.{cells_of, cell_at};
 ghost use Rattle.rm_model.specs.ControlRows.{entry_status, cell_name};
-ghost use Rattle.rm_alarm.specs.AlarmTable.{alarm_columns};
 ghost use Rattle.rm_alarm.specs.Rows.{variable_kept};
 ghost use Rattle.rm_alarm.specs.Spelled.{AreSpelled};
 ghost use Rattle.rm_alarm.specs.Shown.{last_value, row_shown, rows_table};
 
-use crate::columns::{
-    FALLING_EVENT_INDEX, FALLING_THRESHOLD, INTERVAL, OWNER, RISING_EVENT_INDEX, RISING_THRESHOLD,
-    SAMPLE_TYPE, STARTUP_ALARM, VARIABLE,
+use crate::column::{
+    FALLING_EVENT_INDEX, FALLING_THRESHOLD, INDEX, INTERVAL, OWNER, RISING_EVENT_INDEX,
+    RISING_THRESHOLD, SAMPLE_TYPE, STARTUP_ALARM, STATUS, VALUE, VARIABLE,
 };
 use crate::course::Course;
 use crate::row::AlarmRow;
 use rm_model::Instance;
 use rm_status::{Controls, State, instance_of};
 use rm_val::{Oid, Value};
-
-/// The number of alarmIndex.
-const INDEX: u32 = 1;
-
-/// The number of alarmValue.
-const VALUE: u32 = 5;
-
-/// The number of alarmStatus.
-pub(crate) const STATUS: u32 = 12;
 
 /// The numbers of the columns.
 pub(crate) const COLUMNS: [u32; 12] = [
@@ -53,11 +43,18 @@ pub(crate) fn entry() -> Oid
     Oid::from_slice(&[1, 3, 6, 1, 2, 1, 16, 3, 1, 1]).unwrap()
 }
 
+/// The name of a column, by its number, in a row.
+pub fn column_name(column: u32, index: u32) -> Oid
+    ensures { result ≡ cell_name alarm_entry column (index ∷ []) }
+{
+    Oid::from_slice(&[1, 3, 6, 1, 2, 1, 16, 3, 1, 1, column, index]).unwrap()
+}
+
 /// The name of alarmVariable in a row.
 pub(crate) fn variable_name(index: u32) -> Oid
     ensures { result ≡ cell_name alarm_entry 3 (index ∷ []) }
 {
-    Oid::from_slice(&[1, 3, 6, 1, 2, 1, 16, 3, 1, 1, VARIABLE, index]).unwrap()
+    column_name(VARIABLE, index)
 }
 
 /// The value of the cell with that name, by the rows. None where the table has no such cell.
@@ -104,9 +101,9 @@ fn value_of(index: u32, state: State, row: &AlarmRow, column: u32) -> Value<'_>
     } else if column == VARIABLE {
         Value::Name(row.variable())
     } else if column == SAMPLE_TYPE {
-        Value::Int(row.sample_type)
+        Value::Int(row.sample_type.number())
     } else if column == STARTUP_ALARM {
-        Value::Int(row.thresholds.startup)
+        Value::Int(row.thresholds.startup.number())
     } else if column == RISING_THRESHOLD {
         Value::Int(row.thresholds.rising)
     } else if column == FALLING_THRESHOLD {

@@ -1,5 +1,5 @@
 // What a Set makes of what each row keeps.
-ghost use Rattle.std.specs.Prelude.{◌≡◌, ℕ};
+ghost use Rattle.std.specs.Prelude.{◌≡◌};
 ghost use Rattle.rm_alarm.specs.Rows.{variable_with, reading_base, without_base, course_or_start, settled};
 
 use crate::cell::variable_name;

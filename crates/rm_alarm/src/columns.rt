@@ -1,31 +1,18 @@
 // The columns of a row of alarmTable.
 ghost use Rattle.std.specs.Prelude.{◌≡◌, refl};
 
+use crate::column::{
+    FALLING_EVENT_INDEX, FALLING_THRESHOLD, INTERVAL, OWNER, RISING_EVENT_INDEX, RISING_THRESHOLD,
+    SAMPLE_TYPE, STARTUP_ALARM, VARIABLE,
+};
 use crate::row::{AlarmRow, MOST_OWNER};
+use crate::sample_type::SampleType;
+use crate::startup_alarm::StartupAlarm;
 use crate::thresholds::Thresholds;
 use crate::values::{name_fault, name_of, number_of};
 use arrayvec::ArrayVec;
 use rm_status::{Columns, number_fault, put_text, text_fault};
 use rm_val::{ErrorStatus, Oid, Value};
-
-// The numbers of the columns that can be set.
-pub(crate) const INTERVAL: u32 = 2;
-
-pub(crate) const VARIABLE: u32 = 3;
-
-pub(crate) const SAMPLE_TYPE: u32 = 4;
-
-pub(crate) const STARTUP_ALARM: u32 = 6;
-
-pub(crate) const RISING_THRESHOLD: u32 = 7;
-
-pub(crate) const FALLING_THRESHOLD: u32 = 8;
-
-pub(crate) const RISING_EVENT_INDEX: u32 = 9;
-
-pub(crate) const FALLING_EVENT_INDEX: u32 = 10;
-
-pub(crate) const OWNER: u32 = 11;
 
 impl Default for AlarmRow {
     ghost use Rattle.rm_alarm.specs.Rows.{blank_row};
@@ -62,9 +49,9 @@ impl Columns for AlarmRow {
         AlarmRow {
             interval: None,
             variable: None,
-            sample_type: 1,
+            sample_type: SampleType::Absolute,
             thresholds: Thresholds {
-                startup: 3,
+                startup: StartupAlarm::RisingOrFalling,
                 rising: 0,
                 falling: 0,
             },
@@ -110,9 +97,9 @@ impl Columns for AlarmRow {
         } else if column == VARIABLE {
             self.variable = Some(name_of(value));
         } else if column == SAMPLE_TYPE {
-            self.sample_type = number_of(value);
+            self.sample_type = SampleType::given(value);
         } else if column == STARTUP_ALARM {
-            self.thresholds.startup = number_of(value);
+            self.thresholds.startup = StartupAlarm::given(value);
         } else if column == RISING_THRESHOLD {
             self.thresholds.rising = number_of(value);
         } else if column == FALLING_THRESHOLD {

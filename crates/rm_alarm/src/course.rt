@@ -64,8 +64,10 @@ impl Course {
         ensures due { self.new.due ≡ moment + 1000 * seconds }
         ensures counter { self.new.counter ≡ self.old.counter }
         ensures reading { self.new.reading ≡ number }
-        ensures crossing { (earlier : List ℤ) → Keeps self.old.hysteresis thresholds.now earlier → result ≡ crossing (bounds_in thresholds.now) (value_read delta self.old number ∷ earlier) }
-        ensures keeps { (earlier : List ℤ) → Keeps self.old.hysteresis thresholds.now earlier → Keeps self.new.hysteresis thresholds.now (value_read delta self.old number ∷ earlier) }
+        ensures crossing { (earlier : List ℤ) → Keeps self.old.hysteresis thresholds.now earlier
+            → result ≡ crossing (bounds_in thresholds.now) (value_read delta self.old number ∷ earlier) }
+        ensures keeps { (earlier : List ℤ) → Keeps self.old.hysteresis thresholds.now earlier
+            → Keeps self.new.hysteresis thresholds.now (value_read delta self.old number ∷ earlier) }
     {
         let value = self.value_read(delta, number);
         self.due = due_after(moment, seconds);

@@ -16,7 +16,8 @@ impl Alarms {
     /// several at one moment the one of the lowest alarm. None where no alarm is valid.
     pub fn next_due(&self) -> Option<(u64, u32)>
         ensures next { IsNextDue (due_in self.now) result }
-        ensures journal { (settings : Settings) (journal : Journal) → Stands self.now settings journal → IsNextDue (due_of journal) result }
+        ensures journal { (settings : Settings) (journal : Journal) → Stands self.now settings journal
+            → IsNextDue (due_of journal) result }
     {
         prove!(self.rows.len() <= 16);
         let mut next = None;

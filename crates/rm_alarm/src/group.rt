@@ -1,8 +1,7 @@
 // The group alarm, as a group of objects.
-ghost use Rattle.std.specs.Prelude.{◌≡◌, ℕ, List};
-
 use crate::alarms::Alarms;
-use crate::cell::{COLUMNS, STATUS, cell_of, entry};
+use crate::cell::{COLUMNS, cell_of, entry};
+use crate::column::STATUS;
 use crate::judging::judge_variables;
 use rm_status::{
     Assigns, Denied, Group, Look, Objects, Verdict, is_of_column, lower_verdict, next_name,
@@ -31,7 +30,8 @@ impl Group for Alarms {
 
     ghost alone = { alarm_alone };
 
-    ghost together = { λ settings journal now readings bindings place. alarm_together readings (rows_after alarm_table no_rows journal) bindings place };
+    ghost together = { λ settings journal now readings bindings place.
+        alarm_together readings (rows_after alarm_table no_rows journal) bindings place };
 
     ghost reserves = { λ settings journal bindings index. ⊥ };
 

@@ -33,8 +33,10 @@ impl Hysteresis {
 
     /// Takes a sample of that value, and tells what it crosses.
     pub fn take(&mut self, thresholds: &Thresholds, value: i128) -> Sampled
-        ensures crossing { (earlier : List ℤ) → Keeps self.old thresholds.now earlier → result ≡ crossing (bounds_in thresholds.now) (value ∷ earlier) }
-        ensures keeps { (earlier : List ℤ) → Keeps self.old thresholds.now earlier → Keeps self.new thresholds.now (value ∷ earlier) }
+        ensures crossing { (earlier : List ℤ) → Keeps self.old thresholds.now earlier
+            → result ≡ crossing (bounds_in thresholds.now) (value ∷ earlier) }
+        ensures keeps { (earlier : List ℤ) → Keeps self.old thresholds.now earlier
+            → Keeps self.new thresholds.now (value ∷ earlier) }
     {
         let high = thresholds.is_high(value);
         let low = thresholds.is_low(value);
@@ -54,7 +56,8 @@ impl Hysteresis {
 
     // Whether the last sample was below the rising threshold, or the first one may cross it.
     fn comes_up(&self, thresholds: &Thresholds) -> bool
-        ensures { (value : ℤ) (earlier : List ℤ) → Keeps self.now thresholds.now earlier → result ≡ comes_to (rising_of (bounds_in thresholds.now)) value earlier }
+        ensures { (value : ℤ) (earlier : List ℤ) → Keeps self.now thresholds.now earlier
+            → result ≡ comes_to (rising_of (bounds_in thresholds.now)) value earlier }
     {
         match self.last {
             Some(last) => !thresholds.is_high(last),
@@ -65,7 +68,8 @@ impl Hysteresis {
     // Whether the last sample was above the falling threshold, or the first one may cross it. `high` says that the sample now
     // is at or above the rising threshold.
     fn comes_down(&self, thresholds: &Thresholds, high: bool) -> bool
-        ensures { (value : ℤ) (earlier : List ℤ) → Keeps self.now thresholds.now earlier → high ≡ is_high (bounds_in thresholds.now) value
+        ensures { (value : ℤ) (earlier : List ℤ) → Keeps self.now thresholds.now earlier
+            → high ≡ is_high (bounds_in thresholds.now) value
             → result ≡ comes_to (falling_of (bounds_in thresholds.now)) value earlier }
     {
         match self.last {

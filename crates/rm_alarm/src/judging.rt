@@ -1,5 +1,5 @@
 // Whether the variables can be read of the alarms that a Set makes valid.
-ghost use Rattle.std.specs.Prelude.{◌≡◌, ◌<◌, ℕ, [], ◌∷◌, length, ◌&&◌, is_none};
+ghost use Rattle.std.specs.Prelude.{◌≡◌, ◌<◌, length, ◌&&◌, is_none};
 ghost use Rattle.rm_val.specs.Val.{val_of};
 ghost use Rattle.rm_val.specs.Spellable.{HasSpelling};
 ghost use Rattle.rm_model.specs.Judgement.{IsFirstFault, value_at};
@@ -7,8 +7,9 @@ ghost use Rattle.rm_status.specs.Rows.{rows_before, state_in};
 ghost use Rattle.rm_alarm.specs.Group.{makes_valid, is_under_creation, variable_then, variable_fault, AreSpelledValues};
 ghost use Rattle.rm_alarm.specs.Rows.{set_to};
 
-use crate::cell::{STATUS, entry};
+use crate::cell::entry;
 use crate::change::variable_with;
+use crate::column::STATUS;
 use crate::row::AlarmRow;
 use rm_model::{Place, Verdict};
 use rm_status::{Assigns, Controls, Look, State, place_under};
@@ -21,7 +22,8 @@ pub(crate) fn judge_variables<A: Assigns, L: Look>(
     now: u32,
     look: &L,
 ) -> Verdict
-    ensures verdict { let bindings = A.bindings set.now in IsFirstFault (length bindings) (variable_fault (L.readings look.now now) (rows_before set_to rows.now) bindings) result }
+    ensures verdict { let bindings = A.bindings set.now in
+        IsFirstFault (length bindings) (variable_fault (L.readings look.now now) (rows_before set_to rows.now) bindings) result }
     ensures spelled { result ≡ Verdict.Fine → AreSpelledValues (A.bindings set.now) }
 {
     for place in 0..set.count() {
@@ -79,7 +81,8 @@ fn is_unread<A: Assigns, L: Look>(
     look: &L,
     index: u32,
 ) -> bool
-    ensures { result ≡ (is_under_creation (state_in rows.now index) && is_none (L.readings look.now now (variable_then (rows_before set_to rows.now) (A.bindings set.now) index))) }
+    ensures { result ≡ (is_under_creation (state_in rows.now index)
+        && is_none (L.readings look.now now (variable_then (rows_before set_to rows.now) (A.bindings set.now) index))) }
 {
     let Some(row) = rows.get(index) else {
         return false;

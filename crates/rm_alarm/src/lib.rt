@@ -1,10 +1,11 @@
-//! The group alarm: alarmTable (RFC 1757, section 5.4).
+//! The group alarm: alarmTable (RFC 1757, section 5).
 #![tactic(auto)]
 
 mod alarms;
 mod assigning;
 mod cell;
 mod change;
+pub mod column;
 mod columns;
 mod course;
 mod due;
@@ -14,7 +15,9 @@ mod hysteresis;
 mod judging;
 mod laws;
 mod row;
+mod sample_type;
 mod sampling;
+mod startup_alarm;
 mod taking;
 #[cfg(test)]
 mod tests;
@@ -23,10 +26,13 @@ mod values;
 mod watched;
 
 pub use alarms::Alarms;
+pub use cell::column_name;
 pub use course::Course;
 pub use hysteresis::Hysteresis;
 pub use laws::{crossing_conditions, frames_pass, one_crossing};
 pub use rm_model::Sampled;
 pub use row::AlarmRow;
+pub use sample_type::SampleType;
+pub use startup_alarm::StartupAlarm;
 pub use thresholds::Thresholds;
 pub use watched::Watched;

@@ -1,5 +1,6 @@
 // A row of alarmTable.
 use crate::course::Course;
+use crate::sample_type::SampleType;
 use crate::thresholds::Thresholds;
 use arrayvec::ArrayVec;
 use rm_model::Reading;
@@ -8,15 +9,15 @@ use rm_val::Oid;
 /// How many octets an owner has at most.
 pub(crate) const MOST_OWNER: usize = 127;
 
-/// The columns of a row of alarmTable (RFC 1757, section 5.4), with what it keeps of its samples while it is valid.
+/// The columns of a row of alarmTable (RFC 1757, section 5), with what it keeps of its samples while it is valid.
 #[derive(Drop)]
 pub struct AlarmRow {
     /// alarmInterval, in seconds, if it was set.
     pub interval: Option<i32>,
     /// alarmVariable, if it was set.
     pub variable: Option<Oid>,
-    /// alarmSampleType: 1 absoluteValue, 2 deltaValue
-    pub sample_type: i32,
+    /// alarmSampleType
+    pub sample_type: SampleType,
     /// alarmStartupAlarm, alarmRisingThreshold and alarmFallingThreshold
     pub thresholds: Thresholds,
     /// alarmRisingEventIndex

@@ -1,9 +1,9 @@
 // The samples of alarms.
-ghost use Rattle.std.specs.Prelude.{◌≡◌, ℕ, ◌<◌, ◌≤◌, List, [], ◌∷◌, Some};
+ghost use Rattle.std.specs.Prelude.{◌≡◌, ℕ, ◌<◌, ◌≤◌, [], ◌∷◌, Some};
 ghost use Rattle.std.specs.Option.{option_map};
 ghost use Rattle.rm_model.specs.Settings.{Settings};
 ghost use Rattle.rm_model.specs.Journal.{Journal, samples};
-ghost use Rattle.rm_model.specs.Alarms.{variable_of, sampled, due_of, IsNextDue};
+ghost use Rattle.rm_model.specs.Alarms.{variable_of, sampled};
 ghost use Rattle.rm_status.specs.declared.row.Row.{Row};
 ghost use Rattle.rm_status.specs.Rows.{row_in};
 ghost use Rattle.rm_alarm.specs.declared.row.AlarmRow.{AlarmRow as Columns};
@@ -33,12 +33,18 @@ impl Alarms {
     /// whose variable is gone is removed.
     pub fn sample<L: Look>(&mut self, index: u32, moment: u32, look: &L) -> Sampled
         requires { due_in self.old index ≡ Some moment }
-        ensures stands { (settings : Settings) (journal : Journal) → Stands self.old settings journal → AreBased self.old settings journal
-            → Stands self.new settings (samples moment index (option_map (λ reading. reading.value) (L.readings look.now moment (variable_of journal index))) ∷ journal) }
-        ensures based { (settings : Settings) (journal : Journal) → Stands self.old settings journal → AreBased self.old settings journal
-            → AreBased self.new settings (samples moment index (option_map (λ reading. reading.value) (L.readings look.now moment (variable_of journal index))) ∷ journal) }
-        ensures result { (settings : Settings) (journal : Journal) → Stands self.old settings journal → AreBased self.old settings journal
-            → result ≡ sampled settings journal moment index (option_map (λ reading. reading.value) (L.readings look.now moment (variable_of journal index))) }
+        ensures stands { (settings : Settings) (journal : Journal) → Stands self.old settings journal
+            → AreBased self.old settings journal
+            → let number = option_map (λ reading. reading.value) (L.readings look.now moment (variable_of journal index)) in
+            Stands self.new settings (samples moment index number ∷ journal) }
+        ensures based { (settings : Settings) (journal : Journal) → Stands self.old settings journal
+            → AreBased self.old settings journal
+            → let number = option_map (λ reading. reading.value) (L.readings look.now moment (variable_of journal index)) in
+            AreBased self.new settings (samples moment index number ∷ journal) }
+        ensures result { (settings : Settings) (journal : Journal) → Stands self.old settings journal
+            → AreBased self.old settings journal
+            → let number = option_map (λ reading. reading.value) (L.readings look.now moment (variable_of journal index)) in
+            result ≡ sampled settings journal moment index number }
         ensures fewer { (latest : ℕ) → moment ≤ latest → samples_left self.new latest < samples_left self.old latest }
     {
         prove!(self.rows.len() <= 16);
@@ -54,7 +60,8 @@ impl Alarms {
 
 // What the variable of a row reads at a moment, in milliseconds.
 fn read<L: Look>(rows: &Controls<AlarmRow>, index: u32, moment: u32, look: &L) -> Option<Reading>
-    ensures { (row : Row Columns) → row_in rows.now index ≡ Some row → result ≡ L.readings look.now moment (variable_kept row.columns) }
+    ensures { (row : Row Columns) → row_in rows.now index ≡ Some row
+        → result ≡ L.readings look.now moment (variable_kept row.columns) }
 {
     match rows.get(index) {
         Some(row) => look.reading(&row.variable(), moment),

@@ -5,11 +5,9 @@ ghost use Rattle.rm_alarm.specs.Rows.{interval_kept, variable_kept, delta_kept};
 ghost use Rattle.rm_alarm.specs.Taking.{Took};
 
 use crate::row::AlarmRow;
+use crate::sample_type::SampleType;
 use rm_model::Sampled;
 use rm_val::Oid;
-
-/// deltaValue, an alarmSampleType
-const DELTA: i32 = 2;
 
 impl AlarmRow {
     /// The variable, 0.0 where it wasn't set.
@@ -33,14 +31,18 @@ impl AlarmRow {
     fn is_delta(&self) -> bool
         ensures { result ≡ delta_kept self.now }
     {
-        self.sample_type == DELTA
+        match self.sample_type {
+            SampleType::Absolute => false,
+            SampleType::Delta => true,
+        }
     }
 
     /// Takes a sample that reads a number at a moment, in milliseconds, and tells what it crosses: nothing where the row keeps
     /// nothing of its samples.
     pub fn take(&mut self, moment: u32, number: i64) -> Sampled
         ensures columns { self.new ≡ record self.old { course = self.new.course } }
-        ensures course { (course : Kept) → self.old.course ≡ Some course → (after : Kept) × (self.new.course ≡ Some after) × Took self.old course moment number after result }
+        ensures course { (course : Kept) → self.old.course ≡ Some course
+            → (after : Kept) × (self.new.course ≡ Some after) × Took self.old course moment number after result }
     {
         let Some(mut course) = self.course else {
             return Sampled::Quiet;

@@ -1,31 +1,36 @@
-// What samples cross was worked out by hand from RFC 1757, section 5.4.
+// What samples cross was worked out by hand from RFC 1757, section 5.
 mod given;
 mod passed;
 mod samples;
 mod sets;
 
 use crate::Sampled::{Falling, Quiet, Rising};
-use crate::{Hysteresis, Sampled, Thresholds};
+use crate::{Hysteresis, Sampled, StartupAlarm, Thresholds};
 use std::process::Abort;
 use std::test::Fail;
 
 // A startup alarm, a rising and a falling threshold, and samples with what each comes to.
-const SAMPLES: [(i32, i32, i32, &[(i128, Sampled)]); 11] = [
+const SAMPLES: [(StartupAlarm, i32, i32, &[(i128, Sampled)]); 11] = [
     // a first sample counts by the startup alarm
-    (1, 10, 5, &[(12, Rising), (13, Quiet)]),
-    (2, 10, 5, &[(12, Quiet), (3, Falling)]),
-    (3, 10, 5, &[(10, Rising)]),
-    (1, 10, 5, &[(3, Quiet), (2, Quiet), (10, Rising)]),
-    (2, 10, 5, &[(5, Falling), (4, Quiet)]),
+    (StartupAlarm::Rising, 10, 5, &[(12, Rising), (13, Quiet)]),
+    (StartupAlarm::Falling, 10, 5, &[(12, Quiet), (3, Falling)]),
+    (StartupAlarm::RisingOrFalling, 10, 5, &[(10, Rising)]),
     (
-        3,
+        StartupAlarm::Rising,
+        10,
+        5,
+        &[(3, Quiet), (2, Quiet), (10, Rising)],
+    ),
+    (StartupAlarm::Falling, 10, 5, &[(5, Falling), (4, Quiet)]),
+    (
+        StartupAlarm::RisingOrFalling,
         10,
         5,
         &[(-1, Falling), (7, Quiet), (3, Quiet), (10, Rising)],
     ),
     // it rises again only after a sample reached the falling threshold, and so on
     (
-        2,
+        StartupAlarm::Falling,
         10,
         5,
         &[
@@ -37,7 +42,7 @@ const SAMPLES: [(i32, i32, i32, &[(i128, Sampled)]); 11] = [
         ],
     ),
     (
-        1,
+        StartupAlarm::Rising,
         10,
         5,
         &[
@@ -50,7 +55,7 @@ const SAMPLES: [(i32, i32, i32, &[(i128, Sampled)]); 11] = [
     ),
     // equal thresholds: a first sample that would cross both rises
     (
-        3,
+        StartupAlarm::RisingOrFalling,
         5,
         5,
         &[
@@ -62,14 +67,14 @@ const SAMPLES: [(i32, i32, i32, &[(i128, Sampled)]); 11] = [
         ],
     ),
     (
-        2,
+        StartupAlarm::Falling,
         5,
         5,
         &[(5, Falling), (5, Quiet), (6, Quiet), (4, Falling)],
     ),
     // a difference of a Counter32 past every threshold
     (
-        3,
+        StartupAlarm::RisingOrFalling,
         i32::MAX,
         i32::MIN,
         &[(4_294_967_295, Rising), (-2_147_483_648, Falling)],
@@ -87,7 +92,7 @@ fn samples_cross(rt: HostRuntime) -> Result<(), Fail> {
         let mut hysteresis = Hysteresis::new();
         for &(value, expected) in samples.iter() {
             let sampled = hysteresis.take(&thresholds, value);
-            assert_eq!(rt; sampled, expected, "{startup} {rising} {falling} {value}");
+            assert_eq!(rt; sampled, expected, "{startup:?} {rising} {falling} {value}");
         }
     }
     Ok(())

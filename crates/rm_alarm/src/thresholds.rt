@@ -3,11 +3,13 @@ ghost use Rattle.std.specs.Prelude.{◌≡◌};
 ghost use Rattle.rm_model.specs.Crossings.{is_high, is_low, may_rise_first, may_fall_first};
 ghost use Rattle.rm_alarm.specs.Kept.{bounds_in};
 
-/// The columns of an alarm by which its samples cross (RFC 1757, section 5.4).
+use crate::startup_alarm::StartupAlarm;
+
+/// The columns of an alarm by which its samples cross (RFC 1757, section 5).
 #[derive(Clone, Copy)]
 pub struct Thresholds {
-    /// alarmStartupAlarm: 1 risingAlarm, 2 fallingAlarm, 3 risingOrFallingAlarm
-    pub startup: i32,
+    /// alarmStartupAlarm
+    pub startup: StartupAlarm,
     /// alarmRisingThreshold
     pub rising: i32,
     /// alarmFallingThreshold
@@ -33,13 +35,19 @@ impl Thresholds {
     pub fn may_rise_first(&self) -> bool
         ensures { result ≡ may_rise_first (bounds_in self.now) }
     {
-        self.startup == 1 || self.startup == 3
+        match self.startup {
+            StartupAlarm::Rising | StartupAlarm::RisingOrFalling => true,
+            StartupAlarm::Falling => false,
+        }
     }
 
     /// Whether a first sample may cross the falling threshold.
     pub fn may_fall_first(&self) -> bool
         ensures { result ≡ may_fall_first (bounds_in self.now) }
     {
-        self.startup == 2 || self.startup == 3
+        match self.startup {
+            StartupAlarm::Falling | StartupAlarm::RisingOrFalling => true,
+            StartupAlarm::Rising => false,
+        }
     }
 }

@@ -1,6 +1,6 @@
 // A group, and the alarms that sample its variables.
-ghost use Rattle.std.specs.Prelude.{◌≡◌, ℕ, ◌<◌, ◌≤◌, List, ◌∷◌, ◌||◌, Some};
-ghost use Rattle.std.specs.Option.{option_map, option_or};
+ghost use Rattle.std.specs.Prelude.{◌≡◌, ℕ, ◌<◌, ◌≤◌, ◌∷◌, ◌||◌, Some};
+ghost use Rattle.std.specs.Option.{option_or};
 ghost use Rattle.rm_model.specs.Settings.{Settings};
 ghost use Rattle.rm_model.specs.Journal.{Journal, samples, last_moment};
 ghost use Rattle.rm_model.specs.Cells.{cells_of, is_of_column};
@@ -41,7 +41,8 @@ impl<G: Readable> Group for Watched<G> {
 
     ghost stocked = { λ s. G.stocked s.watched };
 
-    ghost cells = { λ settings journal now name. option_or (G.cells settings journal now name) (cells_of (alarms_table settings journal) name) };
+    ghost cells = { λ settings journal now name.
+        option_or (G.cells settings journal now name) (cells_of (alarms_table settings journal) name) };
 
     ghost alone = { λ name value. option_or (G.alone name value) (alarm_alone name value) };
 
@@ -53,12 +54,14 @@ impl<G: Readable> Group for Watched<G> {
 
     ghost accepts = { λ s now readings bindings. G.accepts s.watched now readings bindings × AreFine s.alarms bindings };
 
-    ghost prepared = { λ s now bindings. ArePrepared G.cells (G.stands s.watched) (G.prepared s.watched now bindings) s.alarms now bindings };
+    ghost prepared = { λ s now bindings.
+        ArePrepared G.cells (G.stands s.watched) (G.prepared s.watched now bindings) s.alarms now bindings };
 
     ghost released = { λ s. G.released s.watched × HasForgotten s.alarms };
 
     ghost finite = { λ settings journal now.
-        both_finite (G.cells settings journal now) (cells_of (alarms_table settings journal)) (G.finite settings journal now) (alarms_finite settings journal) };
+        both_finite (G.cells settings journal now) (cells_of (alarms_table settings journal))
+        (G.finite settings journal now) (alarms_finite settings journal) };
 
     fn cell(&self, name: &Oid, now: u32) -> Option<Value<'_>> {
         match self.watched.cell(name, now) {
@@ -128,7 +131,8 @@ impl<G: Readable + Unsampled> Watched<G> {
     /// several at one moment the one of the lowest alarm. None where no alarm is valid.
     pub fn next_due(&self) -> Option<(u64, u32)>
         ensures next { IsNextDue (due_in self.now.alarms) result }
-        ensures journal { (settings : Settings) (journal : Journal) → AreWatched G.cells (G.stands self.now.watched settings journal) self.now.alarms settings journal
+        ensures journal { (settings : Settings) (journal : Journal)
+            → AreWatched G.cells (G.stands self.now.watched settings journal) self.now.alarms settings journal
             → IsNextDue (due_of journal) result }
     {
         self.alarms.next_due()
@@ -139,13 +143,17 @@ impl<G: Readable + Unsampled> Watched<G> {
     pub fn sample(&mut self, index: u32, moment: u32) -> Sampled
         requires { due_in self.old.alarms index ≡ Some moment }
         ensures watched { self.new.watched ≡ self.old.watched }
-        ensures stands { (settings : Settings) (journal : Journal) → AreWatched G.cells (G.stands self.old.watched settings journal) self.old.alarms settings journal
+        ensures stands { (settings : Settings) (journal : Journal)
+            → AreWatched G.cells (G.stands self.old.watched settings journal) self.old.alarms settings journal
             → last_moment journal ≤ moment
             → let after = samples moment index (number_read settings journal moment index) ∷ journal in
             AreWatched G.cells (G.stands self.new.watched settings after) self.new.alarms settings after }
-        ensures result { (settings : Settings) (journal : Journal) → AreWatched G.cells (G.stands self.old.watched settings journal) self.old.alarms settings journal
-            → last_moment journal ≤ moment → result ≡ sampled settings journal moment index (number_read settings journal moment index) }
-        ensures fewer { (latest : ℕ) → moment ≤ latest → samples_left self.new.alarms latest < samples_left self.old.alarms latest }
+        ensures result { (settings : Settings) (journal : Journal)
+            → AreWatched G.cells (G.stands self.old.watched settings journal) self.old.alarms settings journal
+            → last_moment journal ≤ moment
+            → result ≡ sampled settings journal moment index (number_read settings journal moment index) }
+        ensures fewer { (latest : ℕ) → moment ≤ latest
+            → samples_left self.new.alarms latest < samples_left self.old.alarms latest }
     {
         self.watched.shows(moment);
         let sight = Sight {

@@ -1,5 +1,5 @@
 // Sets of alarmTable, and what becomes of them.
-ghost use Rattle.std.specs.Prelude.{◌≡◌, ◌≤◌, ℕ, List, [], ◌∷◌, map, length, None, unwrap_or};
+ghost use Rattle.std.specs.Prelude.{◌≡◌, ◌≤◌, [], ◌∷◌, map, None, unwrap_or};
 ghost use Rattle.std.specs.Option.{option_map, option_or};
 ghost use Rattle.rm_val.specs.Val.{int, octets, name, null};
 
@@ -77,7 +77,9 @@ impl Set {
 impl Assigns for Set {
     ghost bindings = { λ s. map (λ given. record {
       name = 1 ∷ 3 ∷ 6 ∷ 1 ∷ 2 ∷ 1 ∷ 16 ∷ 3 ∷ 1 ∷ 1 ∷ given.column ∷ given.row ∷ [];
-      value = unwrap_or (option_or (option_map int given.number) (option_or (option_map (λ text. octets text.now) given.text) (option_map (λ n. name (1 ∷ 3 ∷ 6 ∷ 1 ∷ 2 ∷ 1 ∷ 1 ∷ n ∷ 0 ∷ [])) given.scalar))) null;
+      value =
+          unwrap_or (option_or (option_map int given.number) (option_or (option_map (λ text. octets text.now) given.text)
+          (option_map (λ n. name (1 ∷ 3 ∷ 6 ∷ 1 ∷ 2 ∷ 1 ∷ 1 ∷ n ∷ 0 ∷ [])) given.scalar))) null;
     }) s.given.items };
 
     fn count(&self) -> usize {

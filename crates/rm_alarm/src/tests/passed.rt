@@ -1,12 +1,12 @@
-// A group with one variable, which counts frames.
-ghost use Rattle.std.specs.Prelude.{◌≡◌, ℕ, List, [], ◌∷◌, ◌&&◌, length, true, None, refl};
+// A group with one variable.
+ghost use Rattle.std.specs.Prelude.{◌≡◌, [], ◌∷◌, ◌&&◌, length, true, false, None, refl};
 ghost use Rattle.std.specs.Str.{bytes_eq};
 ghost use Rattle.std.proofs.lemmas.Bool.{and_parts};
 ghost use Rattle.rm_model.specs.Journal.{frames_in};
 ghost use Rattle.rm_model.specs.Cells.{cells_of, is_of_column};
 ghost use Rattle.rm_model.proofs.Finite.{one_row_finite};
 ghost use Rattle.rm_status.specs.Alone.{read_only};
-ghost use Rattle.rm_alarm.specs.MadeUp.{made_up_entry, counter_table};
+ghost use Rattle.rm_alarm.specs.MadeUp.{made_up_entry, made_up_table};
 
 use rm_status::{
     Assigns, Denied, Group, Look, OneRow, Readable, RowIndexes, Unsampled, Verdict, instance_of,
@@ -19,14 +19,33 @@ const COLUMNS: [u32; 1] = [2];
 
 const ROW: OneRow = OneRow { number: 0 };
 
-/// A group with one variable, if it is there: the number of frames that have passed.
+/// A group with one variable, if it is there: the number of frames that have passed, as a Counter32 or as a Gauge32.
 #[derive(Drop)]
 pub struct Passed {
     pub frames: u32,
     pub is_there: bool,
+    pub is_gauge: bool,
 }
 
 impl Passed {
+    /// A Counter32 that is there, after so many frames.
+    pub fn counter(frames: u32) -> Passed {
+        Passed {
+            frames,
+            is_there: true,
+            is_gauge: false,
+        }
+    }
+
+    /// A Gauge32 that is there, with that number.
+    pub fn gauge(number: u32) -> Passed {
+        Passed {
+            frames: number,
+            is_there: true,
+            is_gauge: true,
+        }
+    }
+
     /// So many frames pass.
     pub fn pass(&mut self, frames: u32) {
         self.frames = self.frames.wrapping_add(frames);
@@ -49,7 +68,7 @@ impl RowIndexes for Passed {
 }
 
 impl Group for Passed {
-    ghost stands = { λ s settings journal. (s.is_there ≡ true) × (s.frames ≡ length (frames_in journal)) };
+    ghost stands = { λ s settings journal. (s.is_there ≡ true) × (s.is_gauge ≡ false) × (s.frames ≡ length (frames_in journal)) };
 
     ghost clock = { λ s. 0 };
 
@@ -57,7 +76,7 @@ impl Group for Passed {
 
     ghost stocked = { λ s. Unit {0} };
 
-    ghost cells = { λ settings journal now. cells_of (counter_table true (length (frames_in journal))) };
+    ghost cells = { λ settings journal now. cells_of (made_up_table true false (length (frames_in journal))) };
 
     ghost alone = { read_only (is_of_column made_up_entry (2 ∷ [])) };
 
@@ -72,7 +91,8 @@ impl Group for Passed {
     ghost released = { λ s. Unit {0} };
 
     ghost finite = { λ settings journal now.
-        one_row_finite (counter_table true (length (frames_in journal))) (0 ∷ []) (λ index row. (and_parts (bytes_eq index (0 ∷ [])) true row).0) };
+        one_row_finite (made_up_table true false (length (frames_in journal))) (0 ∷ [])
+        (λ index row. (and_parts (bytes_eq index (0 ∷ [])) true row).0) };
 
     fn cell(&self, name: &Oid, now: u32) -> Option<Value<'_>> {
         self.value(name, now)
@@ -109,21 +129,25 @@ impl Group for Passed {
 }
 
 impl Readable for Passed {
-    ghost shown = { λ s now. cells_of (counter_table s.is_there s.frames) };
+    ghost shown = { λ s now. cells_of (made_up_table s.is_there s.is_gauge s.frames) };
 
     fn value(&self, name: &Oid, _now: u32) -> Option<Value<'_>> {
         let at = instance_of(name, &identifier(), &COLUMNS)?;
         if !ROW.has(&at.index) || !self.is_there {
             return None;
         }
-        Some(Value::Counter(self.frames))
+        Some(if self.is_gauge {
+            Value::Gauge(self.frames)
+        } else {
+            Value::Counter(self.frames)
+        })
     }
 
     fn shows(&self, _now: u32) {}
 }
 
 impl Unsampled for Passed {
-    ghost sampled = { λ s settings journal moment alarm reading is. is };
+    ghost sampled = { λ s settings journal moment alarm reading is later. is };
 }
 
 fn identifier() -> Oid

@@ -1,4 +1,4 @@
-// Alarms on made-up variables. What their samples come to was worked out by hand from RFC 1757, section 5.4.
+// Alarms on made-up variables. What their samples come to was worked out by hand from RFC 1757, section 5.
 use crate::Sampled::{Falling, Gone, Quiet, Rising};
 use crate::tests::given::{Given, answer, name_of, number, scalar};
 use crate::tests::passed::Passed;
@@ -14,30 +14,32 @@ const STATUS: u32 = 12;
 
 // Alarm 1 samples the number of frames each second, with the thresholds 10 and 5.
 fn columns(sample_type: i32, startup: i32) -> [Given; 7] {
+    columns_between(sample_type, startup, 10, 5)
+}
+
+// The same with other thresholds.
+fn columns_between(sample_type: i32, startup: i32, rising: i32, falling: i32) -> [Given; 7] {
     [
         number(2, 1, 1),
         scalar(3, 1, 2),
         number(4, 1, sample_type),
         number(6, 1, startup),
-        number(7, 1, 10),
-        number(8, 1, 5),
+        number(7, 1, rising),
+        number(8, 1, falling),
         number(STATUS, 1, 1),
     ]
 }
 
-// The group with alarm 1, valid since a moment, before which so many frames passed.
+// A group with alarm 1, valid since a moment.
 fn with_alarm(
     rt: &impl Abort,
     alloc: Global,
-    frames: u32,
+    watched: Passed,
     columns: &[Given],
     moment: u32,
 ) -> Watched<Passed> {
     let mut group = Watched {
-        watched: Passed {
-            frames,
-            is_there: true,
-        },
+        watched,
         alarms: Alarms::new(),
     };
     assert_eq!(rt;
@@ -92,7 +94,13 @@ fn check_samples(rt: &impl Abort, group: &mut Watched<Passed>, samples: &[Sample
 // deltaValue, fallingAlarm: the first sample alone can't rise
 #[test]
 fn differences_of_a_counter(rt: HostRuntime) -> Result<(), Fail> {
-    let mut group = with_alarm(&rt, rt.alloc(), u32::MAX - 5, &columns(2, 2), 500);
+    let mut group = with_alarm(
+        &rt,
+        rt.alloc(),
+        Passed::counter(u32::MAX - 5),
+        &columns(2, 2),
+        500,
+    );
     assert_eq!(rt; shown(&group, 5), Some(0));
     let samples = [
         (1500, 12, 12, Quiet),
@@ -109,7 +117,7 @@ fn differences_of_a_counter(rt: HostRuntime) -> Result<(), Fail> {
 // absoluteValue, risingOrFallingAlarm
 #[test]
 fn values_of_a_counter(rt: HostRuntime) -> Result<(), Fail> {
-    let mut group = with_alarm(&rt, rt.alloc(), 3, &columns(1, 3), 0);
+    let mut group = with_alarm(&rt, rt.alloc(), Passed::counter(3), &columns(1, 3), 0);
     let samples = [
         (1000, 1, 4, Falling),
         (2000, 5, 9, Quiet),
@@ -120,9 +128,30 @@ fn values_of_a_counter(rt: HostRuntime) -> Result<(), Fail> {
     Ok(())
 }
 
+// a value above every INTEGER is compared as it is, and shown as the greatest one
+#[test]
+fn a_value_is_shown_saturated(rt: HostRuntime) -> Result<(), Fail> {
+    let columns = columns_between(1, 1, i32::MAX, 5);
+    let mut group = with_alarm(&rt, rt.alloc(), Passed::gauge(3_000_000_000), &columns, 0);
+    assert_eq!(rt; take_next(&mut group), Some((1, 1000, Rising)));
+    assert_eq!(rt; shown(&group, 5), Some(2_147_483_647));
+    Ok(())
+}
+
+// the difference of a gauge that goes down is negative
+#[test]
+fn differences_of_a_gauge(rt: HostRuntime) -> Result<(), Fail> {
+    let columns = columns_between(2, 2, 10, -6);
+    let mut group = with_alarm(&rt, rt.alloc(), Passed::gauge(10), &columns, 0);
+    group.watched.frames = 4;
+    assert_eq!(rt; take_next(&mut group), Some((1, 1000, Falling)));
+    assert_eq!(rt; shown(&group, 5), Some(-6));
+    Ok(())
+}
+
 #[test]
 fn an_alarm_goes_with_its_variable(rt: HostRuntime) -> Result<(), Fail> {
-    let mut group = with_alarm(&rt, rt.alloc(), 0, &columns(1, 1), 0);
+    let mut group = with_alarm(&rt, rt.alloc(), Passed::counter(0), &columns(1, 1), 0);
     assert_eq!(rt; take_next(&mut group), Some((1, 1000, Quiet)));
     group.watched.is_there = false;
     assert_eq!(rt; shown(&group, STATUS), Some(1));
@@ -135,7 +164,7 @@ fn an_alarm_goes_with_its_variable(rt: HostRuntime) -> Result<(), Fail> {
 // an alarm that becomes valid again starts anew, from what its variable reads then
 #[test]
 fn an_alarm_starts_anew(rt: HostRuntime) -> Result<(), Fail> {
-    let mut group = with_alarm(&rt, rt.alloc(), 0, &columns(2, 1), 0);
+    let mut group = with_alarm(&rt, rt.alloc(), Passed::counter(0), &columns(2, 1), 0);
     let alloc = rt.alloc();
     group.watched.pass(20);
     assert_eq!(rt; take_next(&mut group), Some((1, 1000, Rising)));
@@ -160,7 +189,7 @@ fn an_alarm_starts_anew(rt: HostRuntime) -> Result<(), Fail> {
 #[test]
 fn samples_in_order(rt: HostRuntime) -> Result<(), Fail> {
     let alloc = rt.alloc();
-    let mut group = with_alarm(&rt, alloc, 0, &columns(1, 1), 0);
+    let mut group = with_alarm(&rt, alloc, Passed::counter(0), &columns(1, 1), 0);
     assert_eq!(rt;
         answer(
             alloc,

@@ -1,4 +1,4 @@
-// Sets of alarms: what each column takes, and when an alarm is ready (RFC 1757, section 5.4; RFC 1905, section 4.2.5).
+// Sets of alarms: what each column takes, and when an alarm is ready (RFC 1757, section 5; RFC 1905, section 4.2.5).
 use crate::tests::given::{Given, answer, nothing, number, scalar, text};
 use crate::{Alarms, Watched};
 use rm_status::System;

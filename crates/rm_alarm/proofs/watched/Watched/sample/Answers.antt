@@ -12,7 +12,7 @@ returns-clause-stands g c settings journal is later =
     let read = ap (option_map (λ reading. reading.value)) (reads g.G.Group.cells (g.G.Readable.shown c.args.self.now.watched c.args.moment) settings journal c.args.moment (c.shows.ensures settings journal is.watched later) is.readings (variable_of journal c.args.index)) in
     record {
       readings = is.readings;
-      watched = g.met.G.Unsampled.sampled c.args.self.now.watched settings journal c.args.moment c.args.index _ is.watched;
+      watched = g.met.G.Unsampled.sampled c.args.self.now.watched settings journal c.args.moment c.args.index _ is.watched later;
       stand = subst (λ (number : Option ℤ). Stands c.sample.new.self settings (samples c.args.moment c.args.index number ∷ journal)) read
           (c.sample.ensures.stands settings journal is.stand is.based);
       based = subst (λ (number : Option ℤ). AreBased c.sample.new.self settings (samples c.args.moment c.args.index number ∷ journal)) read
