@@ -7,3 +7,12 @@ mod SetLemmas
 mod Verdicts
 mod OneReply
 mod EveryReply
+mod Watching
+mod NoticeExamples
+mod DueLemmas
+mod SampleLemmas
+mod NoticeLemmas
+mod CountLemmas
+mod OrderlyLemmas
+mod AdvanceLemmas
+mod RepliesOrderly

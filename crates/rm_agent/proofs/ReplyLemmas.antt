@@ -1,11 +1,10 @@
 -- How drafts are replies.
-use Rattle.std.proofs.Common.{◌≡◌, ◌≤◌, ℕ, List, [], ◌∷◌, ◌++◌, length, take, drop, inl, inr, refl, ap, subst, ◌∙◌, append_assoc}
+use Rattle.std.proofs.Common.{◌≡◌, ◌≤◌, ℕ, List, [], ◌++◌, length, take, drop, refl, ap, subst, ◌∙◌, append_assoc}
 use Rattle.std.proofs.Math.Seq.{take-append_seam}
 use Rattle.rm_pdu.specs.Message.{Binding, Message}
 use Rattle.rm_pdu.specs.Draft.{Drafted, drafted}
 use Rattle.rm_agent.specs.declared.row.Row.{Row}
-use Rattle.rm_agent.specs.Answered.{AreFirst, AreAnswers}
-use Rattle.rm_agent.specs.Replies.{names_of, carrying, too_big, size_with, IsWholeReply, IsFront, AreRepetitions, counting, non_repeaters, IsLongest, IsBulkReply}
+use Rattle.rm_agent.specs.Replies.{names_of, carrying, size_with, IsFront, AreRepetitions, counting, non_repeaters, IsLongest, IsBulkReply}
 use Rattle.rm_agent.specs.Drafting.{IsDrafted, Puts, Stops, PutsLongest, DraftsOne}
 use Rattle.rm_agent.proofs.BulkLemmas.{HasOne, Lengthens, front_on, front_back, front_first, stops_longest}
 

@@ -2,14 +2,14 @@
 use Rattle.std.proofs.Common.{◌≡◌, ◌+◌, ◌≤◌, ◌<◌, ℕ, Bool, true, false, List, [], ◌∷◌, ◌++◌, length, Some, refl, sym, ap, subst, ◌∙◌, ⊎_elim, arith, append_assoc}
 use Rattle.std.specs.Prelude.{slice_get, Result, Ok, Err, IsErr, ◌&&◌, MatchResult}
 use Rattle.std.proofs.lemmas.Bool.Decides.{leb_tells}
-use Rattle.std.proofs.lemmas.List.{append-nil, length-append, map-append}
+use Rattle.std.proofs.lemmas.List.{length-append, map-append}
 use Rattle.std.proofs.lemmas.List.Folds.{list_all-append}
 use Rattle.rm_pdu.specs.Message.{Binding, Message, message_octets}
 use Rattle.rm_pdu.specs.Draft.{Drafted, drafted, and_binding}
 use Rattle.rm_agent.specs.declared.row.Row.{Row}
 use Rattle.rm_agent.specs.Answered.{AreFirst, is_end, are_end}
 use Rattle.rm_agent.specs.Replies.{names_of, carrying}
-use Rattle.rm_agent.specs.Drafting.{IsDrafted, Puts, Stops}
+use Rattle.rm_agent.specs.Drafting.{IsDrafted, Stops}
 
 -- the answers to the first names came into the draft
 pub record IsSoFar (IsOne : List ℕ → Binding → Type 0) (names : List (List ℕ)) (m : Message) (list : List Binding) (place : ℕ) (row : Row) (draft : Drafted) : Type 0 where

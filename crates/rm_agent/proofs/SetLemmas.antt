@@ -1,5 +1,5 @@
 -- How the bindings of a SetRequest are read and returned.
-use Rattle.std.proofs.Common.{◌≡◌, ◌+◌, ◌≤◌, ◌<◌, ℕ, suc, pos, Bool, true, false, List, [], ◌∷◌, ◌++◌, length, take, drop, map, Option, Some, refl, ⊎_elim, sym, ap, subst, ◌∙◌, lit≤, arith}
+use Rattle.std.proofs.Common.{◌≡◌, ◌+◌, ◌≤◌, ◌<◌, ℕ, suc, pos, Bool, true, false, List, [], ◌∷◌, ◌++◌, length, take, drop, Option, refl, ⊎_elim, sym, ap, ◌∙◌, lit≤, arith}
 use Rattle.std.specs.Prelude.{slice_get, IfSome, IsTrue, ◌↔◌, ◌||◌, ◌&&◌, not, nat_lt}
 use Rattle.std.proofs.lemmas.Bool.Decides.{nat_tests, leb_tells}
 use Rattle.std.proofs.lemmas.List.{take-append-drop, map-append, take_all, length-map}
@@ -15,7 +15,7 @@ use Rattle.rm_pdu.specs.declared.kind.Kind.{Kind}
 use Rattle.rm_pdu.specs.declared.kind.Kind.TheVariants.{Get, Next, Response, Set, Bulk, Inform, Trap, Report}
 use Rattle.rm_pdu.specs.Verdict.{is_request}
 use Rattle.rm_pdu.specs.Message.{Binding, Message, message_octets}
-use Rattle.rm_pdu.specs.Draft.{Drafted, drafted, and_binding}
+use Rattle.rm_pdu.specs.Draft.{and_binding}
 use Rattle.rm_agent.specs.Replies.{response_to, is_built}
 use Rattle.rm_agent.specs.Given.{giving}
 use Rattle.rm_agent.specs.Sets.{given_by_one, given_by, returning, is_too_much, is_barred, telling, Judges, IsSetReply}

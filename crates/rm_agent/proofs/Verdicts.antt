@@ -1,5 +1,5 @@
 -- A Set comes to one thing, and to something.
-use Rattle.std.proofs.Common.{◌≡◌, ◌+◌, ◌≤◌, ◌<◌, ℕ, zero, suc, Bool, true, false, List, ◌∷◌, length, Option, Some, None, ◌⊎◌, inl, inr, refl, sym, ap, subst, ◌∙◌, arith}
+use Rattle.std.proofs.Common.{◌≡◌, ◌+◌, ◌≤◌, ℕ, zero, suc, Bool, true, false, List, ◌∷◌, length, Option, Some, None, inl, inr, refl, sym, ap, subst, ◌∙◌, arith}
 use Rattle.std.specs.Prelude.{MatchBool}
 use Rattle.std.proofs.lemmas.Bool.{cases_lt}
 use Rattle.rm_val.specs.Val.{Val}
@@ -10,7 +10,7 @@ use Rattle.rm_model.specs.declared.verdict.Verdict.TheVariants.{Fine, Wrong}
 use Rattle.rm_model.specs.Journal.{Journal, last_moment, assigns}
 use Rattle.rm_model.specs.Judgement.{Bindings, IsFirstFault}
 use Rattle.rm_model.specs.Accepted.{assignments_of}
-use Rattle.rm_status.specs.Alone.{alone_at, AreFineAlone}
+use Rattle.rm_status.specs.Alone.{alone_at}
 use Rattle.rm_pdu.specs.Message.{Message}
 use Rattle.rm_agent.specs.Replies.{too_big}
 use Rattle.rm_agent.specs.Sets.{given_by, returning, telling, is_too_much, is_barred, Judges, wrong_alone, wrong_together, lacking, accepted, IsSetReply}

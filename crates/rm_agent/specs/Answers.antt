@@ -55,7 +55,7 @@ IsReplyBy cells objects alone together reserves may_write moment journal kind re
 -- the reply to a request at a moment in milliseconds after a journal, and the journal after it
 abbrev pub IsReplyAfter : Settings → Journal → ℕ → Message → Message → Journal → Type 0
 IsReplyAfter settings journal now request reply after =
-    IsReplyBy (cells settings journal now) objects alone (together journal) (Reserves journal) (may_write settings request.community) now journal request.kind request reply after
+    IsReplyBy (cells settings journal now) objects alone (together settings journal now) (Reserves journal) (may_write settings request.community) now journal request.kind request reply after
 
 -- The octets that are answered to a datagram are those of the reply to its request, at the front of `out`. Where there is
 -- no reply, the journal stays.

@@ -1,9 +1,10 @@
 -- What the probe is set to.
 use Rattle.std.specs.Prelude.{ℕ, Bool, ◌||◌, List}
 use Rattle.std.specs.Str.{bytes_eq}
-use Rattle.rm_model.specs.Readings.{nothing_read}
 use Rattle.rm_model.specs.Settings.{Settings as Counting}
+use Rattle.rm_status.specs.Readable.{reading_of}
 use Rattle.rm_agent.specs.declared.settings.Settings.{Settings}
+use Rattle.rm_agent.specs.Watched.{watched_cells, without_readings}
 
 -- whether a community is answered: it is the read or the write community
 abbrev pub is_known : Settings → List ℕ → Bool
@@ -13,6 +14,9 @@ is_known settings community = bytes_eq community settings.read.items || bytes_eq
 abbrev pub may_write : Settings → List ℕ → Bool
 may_write settings community = bytes_eq community settings.write.items
 
--- what the counters depend on; no alarm samples a variable yet
+-- what the counters and the alarms depend on: alarms read the variables of etherStats and of the history
 abbrev pub counting_by : Settings → Counting
-counting_by settings = record { keep_short = settings.keep_short; readings = λ journal now. nothing_read }
+counting_by settings = record {
+  keep_short = settings.keep_short;
+  readings = λ journal now name. reading_of (watched_cells (without_readings settings.keep_short) journal now name);
+}

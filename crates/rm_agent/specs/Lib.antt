@@ -3,7 +3,12 @@ pub mod Replies
 pub mod Given
 pub mod Sets
 pub mod Drafting
+pub mod Watched
 pub mod Known
 pub mod Groups
 pub mod Answers
+pub mod Orderly
 pub mod Agent
+pub mod Notices
+pub mod Advance
+pub mod Told

@@ -1,5 +1,5 @@
--- How a SetRequest is answered (RFC 1905, section 4.2.5). Which refusals there are, and their order, is this probe's profile.
-use Rattle.std.specs.Prelude.{◌≡◌, ℕ, Bool, ◌&&◌, ◌||◌, not, nat_lt, MatchBool, List, [], ◌∷◌, map, length, Option}
+-- How a SetRequest is answered (RFC 1905, section 4.2.5). Which refusals there are, and their order, is said in docs/DECISIONS.md.
+use Rattle.std.specs.Prelude.{◌≡◌, ℕ, Bool, ◌&&◌, ◌||◌, not, nat_lt, MatchBool, List, ◌∷◌, map, length, Option}
 use Rattle.std.specs.Option.{option_or}
 use Rattle.rm_val.specs.Val.{Val}
 use Rattle.rm_val.specs.declared.error.ErrorStatus.{ErrorStatus}

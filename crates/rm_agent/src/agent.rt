@@ -1,12 +1,17 @@
 // The agent.
-ghost use Rattle.std.specs.Prelude.{◌≡◌, ◌+◌, ◌≤◌, ◌<◌, [], ◌∷◌, true, length, IfOk};
+ghost use Rattle.std.specs.Prelude.{◌≡◌, ℕ, ◌+◌, ◌≤◌, ◌<◌, ◌^◌, [], ◌∷◌, true, length, max, Some, IfOk, IfSome};
+ghost use Rattle.std.specs.Option.{option_map};
 ghost use Rattle.rm_agent.specs.Groups.{AreStocked, clock_of, frames_of};
 
 use crate::answer::{Answer, Reason};
+use crate::notice::notice;
 use crate::request::Request;
 use crate::respond::respond;
+use crate::sampling::take;
 use crate::settings::Settings;
+use rm_alarm::{Alarms, Watched, frames_pass};
 use rm_ether::{Ether, MOST_FRAMES};
+use rm_event::{Events, act_passes};
 use rm_history::History;
 use rm_pcap::Frame;
 use rm_pdu::{Bindings, read_message};
@@ -18,26 +23,37 @@ use std::alloc::Global;
 /// The most octets of a reply.
 pub const MOST_REPLY: usize = 1472;
 
+// How many request-ids notifications have: they are numbers of 31 bits.
+const REQUEST_IDS: u32 = 0x8000_0000;
+
+/// The groups of objects that the agent answers for, one behind the other.
+pub(crate) type Groups = Both<System, Both<Events, Watched<Both<Ether, History>>>>;
+
 /// The agent: what it was set to, and the groups of objects that it answers for.
 #[derive(Drop)]
 pub struct Agent {
     settings: Settings,
-    groups: Both<System, Both<Ether, History>>,
+    groups: Groups,
     // The last moment that it was given, in milliseconds.
     last: u32,
     // How many frames it was given.
     frames: u32,
+    // How many notifications there were, modulo 2^31.
+    notices: u32,
     ghost later: { clock_of groups ≤ last },
     ghost few: { frames_of groups ≤ frames },
     ghost stocked: { AreStocked groups },
+    ghost notices_fit: { notices < 2 ^ 31 },
 }
 
 impl Agent {
+    ghost use Rattle.rm_model.specs.Alarms.{due_of, IsNextDue};
     ghost use Rattle.rm_model.specs.Journal.{Journal, passes};
     ghost use Rattle.rm_pcap.specs.Progress.{frame_of};
     ghost use Rattle.rm_pdu.specs.Verdict.{Verdict, IsVerdict};
     ghost use Rattle.rm_agent.specs.Answers.{reason_for, reason_in, IsReplied, IsShort};
-    ghost use Rattle.rm_agent.specs.Agent.{settings_of, last_given, frames_given, Stands};
+    ghost use Rattle.rm_agent.specs.Orderly.{NoneIsDue};
+    ghost use Rattle.rm_agent.specs.Agent.{settings_of, last_given, frames_given, due_of_agent, samples_left_of, IsNextMoment, HasSampled, Stands};
 
     /// The agent before the first frame. It takes the storage of one row of each table whose rows take storage while they are
     /// valid. NoMemory where there is none.
@@ -47,6 +63,8 @@ impl Agent {
         ensures last { IfOk result (λ agent. last_given agent ≡ 0) }
         ensures frames { IfOk result (λ agent. frames_given agent ≡ 0) }
     {
+        let mut events = Events::new();
+        events.reserve(alloc)?;
         let mut history = History::new();
         history.reserve(alloc)?;
         Ok(Agent {
@@ -54,37 +72,51 @@ impl Agent {
             groups: Both {
                 first: System,
                 second: Both {
-                    first: Ether::new(),
-                    second: history,
+                    first: events,
+                    second: Watched {
+                        watched: Both {
+                            first: Ether::new(),
+                            second: history,
+                        },
+                        alarms: Alarms::new(),
+                    },
                 },
             },
             last: 0,
             frames: 0,
+            notices: 0,
         })
     }
 
     /// Counts a frame. Its moment isn't below the last one given, it had at most 262,144 octets and was captured with no more
-    /// than it had, and fewer than `MOST_FRAMES` frames were given before.
+    /// than it had, and fewer than `MOST_FRAMES` frames were given before. The samples that are due up to its moment come first
+    /// (`due`): of what a frame does before them nothing is said.
     pub fn frame(&mut self, frame: &Frame<'_>)
         requires later { last_given self.old ≤ frame.now.moment }
         requires captured { length frame.now.bytes.now ≤ frame.now.original }
         requires original { frame.now.original ≤ 262144 }
         requires room { frames_given self.old < MOST_FRAMES }
-        ensures stands { (journal : Journal) → Stands self.old journal → Stands self.new (passes (frame_of frame.now) ∷ journal) }
+        ensures stands { (journal : Journal) → Stands self.old journal → NoneIsDue frame.now.moment journal
+            → Stands self.new (passes (frame_of frame.now) ∷ journal) }
         ensures settings { settings_of self.new ≡ settings_of self.old }
         ensures last { last_given self.new ≡ frame.now.moment }
         ensures frames { frames_given self.new ≡ frames_given self.old + 1 }
     {
         let facts = facts(frame.bytes, frame.original, self.settings.keep_short);
-        self.groups.second.first.frame(&facts, frame.moment);
-        self.groups.second.second.frame(&facts, frame.moment);
+        // A frame fires no event, and makes no difference to alarms.
+        act_passes();
+        frames_pass();
+        let watched = &mut self.groups.second.second.watched;
+        watched.first.frame(&facts, frame.moment);
+        watched.second.frame(&facts, frame.moment);
         self.last = frame.moment;
         self.frames += 1;
     }
 
-    /// Answers a datagram at a moment in milliseconds, which isn't below the last one given, and is kept. A reply comes to
+    /// Answers a datagram at a moment in milliseconds, which isn't below the last one given, and becomes it. A reply comes to
     /// the front of `out`. Drop says why there is none. Memory is asked for only by a SetRequest with which nothing is wrong and
-    /// which makes a row valid that takes storage.
+    /// which makes a row valid that takes storage. The samples that are due up to the moment come first (`due`): of what the agent
+    /// stands for after an answer before them nothing is said.
     pub fn answer(
         &mut self,
         alloc: Global,
@@ -94,7 +126,7 @@ impl Agent {
     ) -> Answer
         requires { last_given self.old ≤ now }
         ensures reason { (v : Verdict) × IsVerdict true datagram.now v × (reason_in result ≡ reason_for (settings_of self.old) v) }
-        ensures reply { (journal : Journal) → Stands self.old journal → (after : Journal) × Stands self.new after
+        ensures reply { (journal : Journal) → Stands self.old journal → (after : Journal) × (NoneIsDue now journal → Stands self.new after)
             × IsReplied (settings_of self.old) journal now datagram.now result out.new after }
         ensures short { IsShort result }
         ensures settings { settings_of self.new ≡ settings_of self.old }
@@ -118,5 +150,57 @@ impl Agent {
         };
         let draft = respond(&mut self.groups, alloc, &request, may_write, now);
         Answer::Reply(draft.finish(out))
+    }
+
+    /// The moment of the next sample of an alarm, in milliseconds. None where no alarm is valid.
+    pub fn next_due(&self) -> Option<u64>
+        ensures next { IsNextMoment (due_of_agent self.now) result }
+        ensures journal { (journal : Journal) → Stands self.now journal → IsNextMoment (due_of journal) result }
+        ensures none { (journal : Journal) (to : ℕ) → Stands self.now journal → IfSome result (λ moment. to < moment)
+            → NoneIsDue to journal }
+    {
+        moment_of(self.groups.second.second.next_due())
+    }
+
+    /// Takes the sample of an alarm that comes next, which is due at this moment, in milliseconds, and fires its event. Of several
+    /// alarms that are due then it is the lowest. Where the event sends a trap (RFC 1757, section 5), the notification comes
+    /// to the front of `note`, and the result is how many octets it has. None where no notification is sent. It takes no memory.
+    pub fn due(&mut self, moment: u32, note: &mut [u8; MOST_REPLY]) -> Option<usize>
+        requires { IsNextMoment (due_of_agent self.old) (Some moment) }
+        ensures sampled { (journal : Journal) → Stands self.old journal
+            → HasSampled (settings_of self.old) journal moment self.new result note.new }
+        ensures short { IfSome result (λ count. count ≤ MOST_REPLY) }
+        ensures settings { settings_of self.new ≡ settings_of self.old }
+        ensures last { last_given self.new ≡ max (last_given self.old) moment }
+        ensures frames { frames_given self.new ≡ frames_given self.old }
+        ensures fewer { (latest : ℕ) → moment ≤ latest → samples_left_of self.new latest < samples_left_of self.old latest }
+    {
+        let alarm = self.due_alarm(moment);
+        let taken = take(&mut self.groups, alarm, moment);
+        self.last = self.last.max(moment);
+        let id = (self.notices + 1) % REQUEST_IDS;
+        let draft = notice(&self.groups, &taken, alarm, moment, id)?;
+        self.notices = id;
+        Some(draft.finish(note))
+    }
+
+    // The alarm whose sample comes next, which is due at this moment.
+    fn due_alarm(&self, moment: u32) -> u32
+        requires { IsNextMoment (due_of_agent self.now) (Some moment) }
+        ensures next { IsNextDue (due_of_agent self.now) (Some (moment, result)) }
+        ensures journal { (journal : Journal) → Stands self.now journal → IsNextDue (due_of journal) (Some (moment, result)) }
+    {
+        let (_moment, alarm) = self.groups.second.second.next_due().unwrap();
+        alarm
+    }
+}
+
+// The moment of a sample that is taken next, if there is one.
+fn moment_of(next: Option<(u64, u32)>) -> Option<u64>
+    ensures { result ≡ option_map (λ sample. sample.0) next }
+{
+    match next {
+        Some((moment, _index)) => Some(moment),
+        None => None,
     }
 }

@@ -27,7 +27,8 @@ pub(crate) fn respond<G: Group + Objects>(
     requires asked { (m : Message) × IsAsked request.now m × (is_read true m.kind ≡ true) }
     requires later { G.clock groups.old ≤ now }
     requires stocked { G.stocked groups.old }
-    ensures reply { (settings : Settings) (journal : Journal) (m : Message) → G.stands groups.old settings journal → last_moment journal ≤ now → IsAsked request.now m
+    ensures reply { (settings : Settings) (journal : Journal) (m : Message) → G.stands groups.old settings journal
+        → last_moment journal ≤ now → IsAsked request.now m
         → (after : Journal) × G.stands groups.new settings after × (last_moment after ≤ now)
         × DraftsOne (λ reply. IsReplyBy (G.cells settings journal now) G.objects G.alone (G.together settings journal now nothing_read) (G.reserves settings journal) may_write now journal m.kind m reply after) result }
     ensures clock { G.clock groups.new ≤ now }

@@ -31,7 +31,8 @@ impl Row {
         draft: &mut Draft,
     ) -> Result<Row, Room>
         requires { All IsSpellable names.now }
-        ensures put { OfCells (G.stands groups.now) G.cells now (λ cells. (m : Message) (list : List Binding) → IsDrafted m list draft.old → MatchResult result
+        ensures put { OfCells (G.stands groups.now) G.cells now (λ cells. (m : Message) (list : List Binding) → IsDrafted m list draft.old
+            → MatchResult result
             (λ row. Puts (IsFound cells G.objects lookup) names.now m list row draft.new)
             (λ room. Stops (IsFound cells G.objects lookup) names.now m list draft.new)) }
         ensures spelling { IfOk result (λ row. All IsSpellable row.names) }

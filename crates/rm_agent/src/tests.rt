@@ -9,8 +9,10 @@ use std::alloc::Global;
 use std::process::Abort;
 use std::test::Fail;
 
+mod alarms;
 mod bulk;
 mod dropped;
+mod notices;
 mod sets;
 mod short;
 mod sizes;

@@ -4,7 +4,7 @@ ghost use Rattle.rm_model.specs.Readings.{nothing_read};
 use rm_status::{Look, Reading};
 use rm_val::Oid;
 
-/// No variable can be read. No group that a Set is judged by asks for a reading yet.
+/// No variable can be read. The group of alarms looks at the group that they watch, and no other asks for a reading.
 pub(crate) struct Unread;
 
 impl Look for Unread {

@@ -318,7 +318,7 @@ fn making_rows(alloc: Global, last: u8) -> Result<String, Fail> {
 }
 
 // Compares the reply to a Set of these bindings with the one of this error-status and this error-index.
-fn check_set(
+pub(super) fn check_set(
     rt: &impl Abort,
     agent: &mut Agent,
     alloc: Global,

@@ -1,10 +1,9 @@
-use Rattle.std.proofs.Common.{◌≡◌, ℕ, List, ◌∷◌, sym, refl, length, subst}
-use Rattle.rm_model.specs.declared.verdict.Verdict.{Verdict}
-use Rattle.rm_model.specs.declared.verdict.Verdict.TheVariants.{Fine, Wrong}
+use Rattle.std.proofs.Common.{◌∷◌, length}
+use Rattle.rm_model.specs.declared.verdict.Verdict.TheVariants.{Fine}
 use Rattle.rm_model.specs.Judgement.{IsFirstFault}
 use Rattle.rm_model.specs.Accepted.{assignments_of}
 use Rattle.rm_model.specs.Journal.{assigns}
-use Rattle.rm_status.specs.Alone.{alone_at, AreFineAlone}
+use Rattle.rm_status.specs.Alone.{AreFineAlone}
 use Rattle.rm_agent.specs.Sets.{alone_among, wrong_alone, wrong_together, lacking, accepted}
 use Rattle.rm_model.specs.Readings.{nothing_read}
 use Rattle.rm_agent.proofs.SetLemmas.{if_not_wrong, wrong_within}

@@ -1,4 +1,4 @@
-use Rattle.std.proofs.Common.{◌≡◌, false, true, refl, sym, ◌∙◌, subst}
+use Rattle.std.proofs.Common.{◌≡◌, false, true, sym, ◌∙◌, subst}
 use Rattle.rm_model.specs.declared.verdict.Verdict.{Verdict}
 use Rattle.rm_model.specs.declared.verdict.Verdict.TheVariants.{Fine, Wrong}
 use Rattle.rm_model.specs.Judgement.{Bindings}

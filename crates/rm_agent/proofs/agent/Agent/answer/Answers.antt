@@ -1,4 +1,4 @@
-use Rattle.std.proofs.Common.{◌≡◌, ◌≤◌, Bool, true, if◌then◌else◌, Option, Some, None, length, sym, ap, subst, ◌∙◌, arith}
+use Rattle.std.proofs.Common.{◌≡◌, ℕ, ◌≤◌, ◌%◌, ◌^◌, Bool, true, if◌then◌else◌, Option, Some, None, length, sym, ap, subst, ◌∙◌, arith}
 use Rattle.rm_pdu.specs.Message.{message_octets}
 use Rattle.rm_pdu.specs.Verdict.{message}
 use Rattle.rm_agent.specs.declared.answer.Reason.{Reason}
@@ -7,7 +7,9 @@ use Rattle.rm_agent.specs.Known.{counting_by, is_known, may_write}
 use Rattle.rm_agent.specs.Groups.{cells, objects, alone, together, Reserves}
 use Rattle.rm_agent.specs.Answers.{reason_for, IsReplyBy}
 use Rattle.rm_agent.proofs.ReplyLemmas.{written}
+use Rattle.rm_agent.proofs.CountLemmas.{same_count}
 use Rattle.rm_agent.proofs.ReadLemmas.{read_one}
+use Rattle.rm_agent.proofs.RepliesOrderly.{reply_orderly}
 use Rattle.rm_agent.proofs.agent.Agent.answer.Goals as goal
 
 pub returns-clause-reply : goal.returns-clause-reply
@@ -22,8 +24,14 @@ returns-clause-reply c journal stands =
     let short : length m.community ≤ 127 = omega (arith, known, ap length read.is_told.community) in
     let (after, stood, moment, (reply, by, drafted_so)) = c.respond-draft.ensures.reply (counting_by settings) journal m stands.groups (omega (arith, stands.last, c.requires)) (record { told = read.is_told; short = short }) in
     let may : c.may_write-may_write.result ≡ may_write settings m.community = c.may_write-may_write.ensures ∙ ap (may_write settings) read.is_told.community in
-    let is = subst (λ (b : Bool). IsReplyBy (cells settings journal c.args.now) objects alone (together journal) (Reserves journal) b c.args.now journal m.kind m reply after) may by in (
+    let is = subst (λ (b : Bool). IsReplyBy (cells settings journal c.args.now) objects alone (together settings journal c.args.now) (Reserves journal) b c.args.now journal m.kind m reply after) may by in
+    let counted = same_count (counting_by settings) (cells settings journal c.args.now) objects alone (together settings journal c.args.now) (Reserves journal) (may_write settings m.community) c.args.now journal m.kind m reply after is in (
       after,
-      record { groups = stood; last = moment },
+      λ none. record {
+        groups = stood;
+        last = moment;
+        orderly = reply_orderly settings journal c.args.now stands.orderly none m.kind (may_write settings m.community) m reply after is;
+        notices = stands.notices ∙ ap (λ (n : ℕ). n % 2 ^ 31) (sym counted);
+      },
       (m, reply, read.verdict, why, is, c.finish.ensures.count reply drafted_so, written c.finish.result (message_octets reply) _ _ (c.finish.ensures.count reply drafted_so) (c.finish.ensures.written reply drafted_so)),
     )

@@ -1,9 +1,8 @@
-use Rattle.std.proofs.Common.{◌≡◌, ◌+◌, ◌∙◌, refl, ap, length, take, arith}
+use Rattle.std.proofs.Common.{◌+◌, ◌∙◌, refl, ap, length, take, arith}
 use Rattle.rm_pdu.specs.Message.{message_octets}
-use Rattle.rm_pdu.specs.Draft.{drafted, and_binding}
+use Rattle.rm_pdu.specs.Draft.{drafted}
 use Rattle.rm_val.specs.Val.{val_of}
 use Rattle.rm_agent.specs.Replies.{response_to}
-use Rattle.rm_agent.specs.Drafting.{IsAsked}
 use Rattle.rm_agent.proofs.RowLemmas.{of_error, too_long}
 use Rattle.rm_agent.proofs.SetLemmas.{IsAt, and_next, all_too_much, all_returned}
 use Rattle.rm_agent.proofs.request.Request.returning.Goals as goal

@@ -1,5 +1,5 @@
 use Rattle.std.proofs.Common.{arith}
-use Rattle.rm_agent.proofs.SetLemmas.{all_fit, fits_where, few_where}
+use Rattle.rm_agent.proofs.SetLemmas.{all_fit, fits_where}
 use Rattle.rm_agent.proofs.request.Request.telling.Goals as goal
 
 pub returns-in-Err : goal.returns-in-Err

@@ -1,0 +1,136 @@
+-- Lemmas on the number of notifications, and on their octets.
+use Rattle.std.proofs.Common.{◌≡◌, ℕ, ◌+◌, ◌%◌, ◌^◌, List, [], ◌∷◌, ◌++◌, length, take, drop, Bool, true, false, cond, Option, Some, None, refl, sym, ap, ◌∙◌, arith}
+use Rattle.std.specs.Prelude.{MatchBool}
+use Rattle.std.specs.Option.{option_map}
+use Rattle.rm_val.specs.Val.{Val}
+use Rattle.rm_val.specs.declared.error.ErrorStatus.{ErrorStatus}
+use Rattle.rm_val.specs.declared.error.ErrorStatus.TheVariants.{NoAccess}
+use Rattle.rm_model.specs.Settings.{Settings as Counting}
+use Rattle.rm_model.specs.Journal.{Act, Frame, passes, assigns, samples, Journal}
+use Rattle.rm_model.specs.Alarms.{IsNextDue, sampled}
+use Rattle.rm_model.specs.Cells.{Cells}
+use Rattle.rm_model.specs.Judgement.{Bindings}
+use Rattle.rm_model.specs.declared.verdict.Verdict.{Verdict}
+use Rattle.rm_pdu.specs.declared.kind.Kind.{Kind}
+use Rattle.rm_pdu.specs.declared.kind.Kind.TheVariants.{Get, Next, Response, Set, Bulk, Inform, Trap, Report}
+use Rattle.rm_pdu.specs.Message.{Message, message_octets}
+use Rattle.rm_pdu.specs.Draft.{Drafted, drafted}
+use Rattle.rm_event.specs.Firings.{crossing_event}
+use Rattle.rm_agent.specs.declared.trap.AlarmTrap.{AlarmTrap}
+use Rattle.rm_agent.specs.Replies.{too_big}
+use Rattle.rm_agent.specs.Sets.{alone_among, is_too_much, is_barred, given_by, returning, telling, Judges, wrong_alone, wrong_together, lacking, accepted}
+use Rattle.rm_agent.specs.Notices.{trap_of, sends, sent_by, notice_numbered, count_one, count_notices}
+use Rattle.rm_agent.specs.Answers.{IsReplyBy}
+use Rattle.rm_agent.specs.Agent.{IsNextMoment, IsWritten}
+use Rattle.rm_agent.proofs.ReplyLemmas.{written}
+
+-- No frame has a notification, and no reply.
+
+pub same_passing : (settings : Counting) (frame : Frame) (journal : Journal) (count : ℕ) → count ≡ count_notices settings journal % 2 ^ 31
+    → count ≡ count_notices settings (passes frame ∷ journal) % 2 ^ 31
+same_passing settings frame journal count is = omega (arith, is)
+
+module _ (counting : Counting) (alone : List ℕ → Val → Option ErrorStatus) (together : Bindings → ℕ → Option ErrorStatus) (reserves : Bindings → ℕ → Type 0) (moment : ℕ) where
+  same_judged : (journal after : Journal) (bindings : Bindings) (verdict : Verdict) → Judges alone together reserves moment journal bindings verdict after → count_notices counting after ≡ count_notices counting journal
+  same_judged journal _ bindings _ (wrong_alone status index first) = refl
+  same_judged journal _ bindings _ (wrong_together fine status index first) = refl
+  same_judged journal _ bindings _ (lacking fine first index reserved) = refl
+  same_judged journal _ bindings _ (accepted fine first) = omega arith
+
+  same_set : (journal after : Journal) (much barred : Bool) (A B : Type 0) (C : Verdict → Type 0) (bindings : Bindings)
+      → MatchBool much (A × (after ≡ journal)) (MatchBool barred (B × (after ≡ journal)) ((verdict : Verdict) × Judges alone together reserves moment journal bindings verdict after × C verdict))
+      → count_notices counting after ≡ count_notices counting journal
+  same_set journal after true barred A B C bindings is = ap (count_notices counting) is.1
+  same_set journal after false true A B C bindings is = ap (count_notices counting) is.1
+  same_set journal after false false A B C bindings is = same_judged journal after bindings is.0 is.1
+
+pub same_count : (counting : Counting) (cells : Cells) (objects : List ℕ → Bool) (alone : List ℕ → Val → Option ErrorStatus) (together : Bindings → ℕ → Option ErrorStatus) (reserves : Bindings → ℕ → Type 0)
+    (may_write : Bool) (moment : ℕ) (journal : Journal) (kind : Kind) (request reply : Message) (after : Journal)
+    → IsReplyBy cells objects alone together reserves may_write moment journal kind request reply after → count_notices counting after ≡ count_notices counting journal
+same_count counting cells objects alone together reserves may_write moment journal Set request reply after is =
+    same_set counting (alone_among objects alone) together reserves moment journal after (is_too_much request) (is_barred may_write request)
+    (reply ≡ too_big request) (reply ≡ returning request NoAccess 1) (λ verdict. reply ≡ telling request verdict) (given_by request.bindings) is
+same_count counting cells objects alone together reserves may_write moment journal Get request reply after is = ap (count_notices counting) is.1
+same_count counting cells objects alone together reserves may_write moment journal Next request reply after is = ap (count_notices counting) is.1
+same_count counting cells objects alone together reserves may_write moment journal Response request reply after is = ap (count_notices counting) is.1
+same_count counting cells objects alone together reserves may_write moment journal Bulk request reply after is = ap (count_notices counting) is.1
+same_count counting cells objects alone together reserves may_write moment journal Inform request reply after is = ap (count_notices counting) is.1
+same_count counting cells objects alone together reserves may_write moment journal Trap request reply after is = ap (count_notices counting) is.1
+same_count counting cells objects alone together reserves may_write moment journal Report request reply after is = ap (count_notices counting) is.1
+
+-- Whether an act has a notification doesn't depend on its number.
+
+either_one : (sent : Bool) (a b : Message) → count_one (cond sent (Some a) None) ≡ count_one (cond sent (Some b) None)
+either_one true a b = refl
+either_one false a b = refl
+
+module _ (settings : Counting) (act : Act) (earlier : Journal) (moment alarm number other : ℕ) where
+  by_events : (events : List ℕ) (trap : Option AlarmTrap) → count_one (sent_by settings act earlier moment alarm number events trap) ≡ count_one (sent_by settings act earlier moment alarm other events trap)
+  by_events [] trap = refl
+  by_events (event ∷ more) None = refl
+  by_events (event ∷ more) (Some trap) = either_one (sends earlier event) _ _
+
+pub any_number : (settings : Counting) (number other : ℕ) (act : Act) (earlier : Journal) → count_one (notice_numbered settings number act earlier) ≡ count_one (notice_numbered settings other act earlier)
+any_number settings number other (passes frame) earlier = refl
+any_number settings number other (assigns moment values) earlier = refl
+any_number settings number other (samples moment alarm reading) earlier =
+    let comes = sampled settings earlier moment alarm reading in
+    by_events settings (samples moment alarm reading) earlier moment alarm number other (crossing_event earlier alarm comes) (trap_of comes)
+
+-- The number of notifications after an act, modulo a number, by whether it has one.
+
+one_there : (notice : Option Message) (draft : Drafted) → ◌≡◌ {A = Option Drafted} (Some draft) (option_map drafted notice) → count_one notice ≡ 1
+one_there None draft is = absurd (cc)
+one_there (Some message) draft is = refl
+
+none_there : (notice : Option Message) → ◌≡◌ {A = Option Drafted} None (option_map drafted notice) → count_one notice ≡ 0
+none_there None is = refl
+none_there (Some message) is = absurd (cc)
+
+pub counts_one : (settings : Counting) (act : Act) (earlier : Journal) (number count next : ℕ) (draft : Drafted) → ◌≡◌ {A = Option Drafted} (Some draft) (option_map drafted (notice_numbered settings number act earlier))
+    → count ≡ count_notices settings earlier % 2 ^ 31 → next ≡ (count + 1) % 2 ^ 31 → next ≡ count_notices settings (act ∷ earlier) % 2 ^ 31
+counts_one settings act earlier number count next draft made is then =
+    let one = any_number settings 0 number act earlier ∙ one_there (notice_numbered settings number act earlier) draft made in omega (arith, is, then, one)
+
+pub counts_none : (settings : Counting) (act : Act) (earlier : Journal) (number count : ℕ) → ◌≡◌ {A = Option Drafted} None (option_map drafted (notice_numbered settings number act earlier))
+    → count ≡ count_notices settings earlier % 2 ^ 31 → count ≡ count_notices settings (act ∷ earlier) % 2 ^ 31
+counts_none settings act earlier number count made is =
+    let none = any_number settings 0 number act earlier ∙ none_there (notice_numbered settings number act earlier) made in omega (arith, is, none)
+
+-- The octets of a notification are those of its draft.
+
+pub finished : (notice : Option Message) (draft : Drafted) (count : ℕ) (old new : List ℕ) → ◌≡◌ {A = Option Drafted} (Some draft) (option_map drafted notice)
+    → ((m : Message) → draft ≡ drafted m → count ≡ length (message_octets m)) → ((m : Message) → draft ≡ drafted m → new ≡ message_octets m ++ drop count old) → IsWritten notice (Some count) new
+finished None draft count old new made counts writes = absurd (cc)
+finished (Some message) draft count old new made counts writes =
+    let is : draft ≡ drafted message = cc in
+    (ap Some (counts message is), ap (λ (n : ℕ). take n new) (sym (counts message is)) ∙ written count (message_octets message) (drop count old) new (counts message is) (writes message is))
+
+pub unsent : (notice : Option Message) (note : List ℕ) → ◌≡◌ {A = Option Drafted} None (option_map drafted notice) → IsWritten notice None note
+unsent None note made = refl
+unsent (Some message) note made = absurd (cc)
+
+-- One sample comes next at most.
+
+none_some : (o : Option ℕ) (n : ℕ) → o ≡ None → o ≡ Some n → ⊥
+none_some o n none some = let never = sym none ∙ some in cc
+
+pub same_next : (due : ℕ → Option ℕ) (a b : Option (ℕ × ℕ)) → IsNextDue due a → IsNextDue due b → a ≡ b
+same_next due None None is other = refl
+same_next due None (Some b) is other = absurd (none_some (due b.1) b.0 (is b.1) other.0)
+same_next due (Some a) None is other = absurd (none_some (due a.1) a.0 (other a.1) is.0)
+same_next due (Some a) (Some b) is other =
+    let left = is.1 b.1 b.0 other.0 in
+    let right = other.1 a.1 a.0 is.0 in
+    let moment : a.0 ≡ b.0 = omega (arith, left, right) in
+    let alarm : a.1 ≡ b.1 = omega (arith, left, right) in
+    λ d. Some (moment d, alarm d)
+
+pub next_at : (due : ℕ → Option ℕ) (next : Option (ℕ × ℕ)) (moment : ℕ) → IsNextMoment due (Some moment) → IsNextDue due next → option_map (λ sample. sample.0) next ≡ Some moment
+next_at due next moment is other = ap (option_map (λ sample. sample.0)) (same_next due next is.0 other is.1) ∙ sym is.2
+
+pub next_is : (due : ℕ → Option ℕ) (next : Option (ℕ × ℕ)) (sample : ℕ × ℕ) (moment : ℕ) → IsNextMoment due (Some moment) → IsNextDue due next → next ≡ Some sample → next ≡ Some (moment, sample.1)
+next_is due next sample moment is other some =
+    let at : Some sample.0 ≡ Some moment = ap (option_map (λ sample. sample.0)) (sym some) ∙ next_at due next moment is other in
+    let same : sample.0 ≡ moment = cc in
+    some ∙ (λ d. Some (same d, sample.1))

@@ -1,0 +1,211 @@
+-- Lemmas on the notifications of alarms.
+use Rattle.std.proofs.Common.{◌≡◌, ℕ, ◌≤◌, ◌+◌, ◌*◌, ◌%◌, ◌/◌, ◌^◌, List, [], ◌∷◌, length, Bool, true, false, cond, ◌&&◌, Option, Some, None, refl, sym, ap, subst, ◌∙◌, arith}
+use Rattle.std.specs.Prelude.{ℤ, pos, ◌↔◌, Result, Ok, Err, IsOk, OnOk, unwrap_or, is_some}
+use Rattle.std.specs.List.{sum_by}
+use Rattle.std.specs.Option.{option_map, option_and_then}
+use Rattle.rm_val.specs.Val.{Val, int, name, ticks, octets}
+use Rattle.rm_model.specs.Settings.{Settings as Counting}
+use Rattle.rm_model.specs.Journal.{Journal, samples}
+use Rattle.rm_model.specs.Alarms.{alarm_entry, alarm_table, alarm_state, number_of, name_of, sampled}
+use Rattle.rm_model.specs.Alike.{HasSameColumns}
+use Rattle.rm_model.specs.ControlRows.{cell_name, no_rows, is_absent, is_valid, set_value}
+use Rattle.rm_model.specs.declared.row.State.{State}
+use Rattle.rm_model.specs.declared.row.State.TheVariants.{Absent, UnderCreation, Valid}
+use Rattle.rm_model.specs.declared.sampled.Sampled.{Sampled}
+use Rattle.rm_model.specs.declared.sampled.Sampled.TheVariants.{Quiet, Rising, Falling, Gone}
+use Rattle.rm_status.specs.declared.row.Row.{Row}
+use Rattle.rm_status.specs.Values.{octets_in}
+use Rattle.rm_status.specs.Rows.{row_in, state_seen, columns_seen}
+use Rattle.rm_status.proofs.RowsAfterLemmas.{state_sampled}
+use Rattle.rm_alarm.specs.declared.alarms.Alarms.{Alarms}
+use Rattle.rm_alarm.specs.declared.row.AlarmRow.{AlarmRow}
+use Rattle.rm_alarm.specs.AlarmTable.{alarm_shown}
+use Rattle.rm_alarm.specs.Rows.{set_to}
+use Rattle.rm_alarm.specs.SampleType.{type_number}
+use Rattle.rm_alarm.specs.Standing.{Stands as AlarmsStand}
+use Rattle.rm_alarm.specs.Watched.{number_read}
+use Rattle.rm_event.specs.EventTable.{event_table, event_state, event_set, type_of}
+use Rattle.rm_event.specs.Firings.{crossing_event}
+use Rattle.rm_event.specs.Standing.{community_of}
+use Rattle.rm_pdu.specs.Message.{Binding, Message, binding_octets, message_octets}
+use Rattle.rm_pdu.specs.Draft.{Drafted, drafted, binding_of, and_binding}
+use Rattle.rm_pdu.specs.declared.kind.Kind.TheVariants.{Trap}
+use Rattle.rm_agent.specs.declared.sampling.Taken.{Taken}
+use Rattle.rm_agent.specs.declared.told.Told.{Told}
+use Rattle.rm_agent.specs.declared.trap.AlarmTrap.{AlarmTrap}
+use Rattle.rm_agent.specs.Groups.{Groups}
+use Rattle.rm_agent.specs.Notices.{up_time_name, trap_name, rising_alarm, falling_alarm, trap_of, sends, is_sent, is_trap, community_text, trap_bindings, told_bindings, numbered_trap, sent_by, notice_numbered}
+use Rattle.rm_agent.specs.Told.{told_of, stated_bindings, stated_trap, events_in, sends_any, IsTaken}
+use Rattle.rm_agent.proofs.DueLemmas.{valid_if_due}
+use Rattle.rm_agent.proofs.SampleLemmas.{valid_after}
+
+-- A binding that has room comes behind the others of a draft.
+
+put_one : {T E : Type 0} (m : Message) (numbers : List ℕ) (v : Val) (old new : Drafted) (result : Result T E)
+    → ((n : Message) → old ≡ drafted n → IsOk result ↔ (length (message_octets (and_binding n numbers v)) ≤ 1472))
+    → ((n : Message) → old ≡ drafted n → OnOk result (new ≡ drafted (and_binding n numbers v)))
+    → old ≡ drafted m → length (message_octets (and_binding m numbers v)) ≤ 1472 → new ≡ drafted (and_binding m numbers v)
+put_one m numbers v old new (Ok x) room ok is short = ok m is
+put_one m numbers v old new (Err e) room ok is short = let no = (room m is).1 short in absurd (cc)
+
+pub put : {T E : Type 0} (m : Message) (numbers other : List ℕ) (v w : Val) (old new : Drafted) (result : Result T E) → numbers ≡ other → v ≡ w
+    → ((n : Message) → old ≡ drafted n → IsOk result ↔ (length (message_octets (and_binding n numbers v)) ≤ 1472))
+    → ((n : Message) → old ≡ drafted n → OnOk result (new ≡ drafted (and_binding n numbers v)))
+    → old ≡ drafted m → length (message_octets (and_binding m other w)) ≤ 1472 → new ≡ drafted (and_binding m other w)
+put m numbers other v w old new result name_is value_is room ok is short =
+    let same : and_binding m numbers v ≡ and_binding m other w = λ d. and_binding m (name_is d) (value_is d) in
+    put_one m numbers v old new result room ok is (subst (λ (x : Message). length (message_octets x) ≤ 1472) (sym same) short) ∙ ap drafted same
+
+-- A notification has room for all that it tells.
+
+size_of : Binding → ℕ
+size_of binding = length (binding_octets binding)
+
+pub stated_short : ((m : Message) → length m.community ≤ 127 → length (message_octets m) ≤ 191 + sum_by (λ binding. length (binding_octets binding)) m.bindings)
+    → ((numbers : List ℕ) (z : ℤ) → length (binding_octets (binding_of numbers (int z))) ≤ 5 * length numbers + 23)
+    → ((numbers : List ℕ) (n : ℕ) → length (binding_octets (binding_of numbers (ticks n))) ≤ 5 * length numbers + 27)
+    → ((numbers others : List ℕ) → length (binding_octets (binding_of numbers (name others))) ≤ 5 * length numbers + 5 * length others + 18)
+    → (community : List ℕ) (id moment alarm : ℕ) (trap : AlarmTrap) (told : Told) → length community ≤ 127 → length trap.kind ≤ 9 → length told.variable ≤ 128
+    → length (message_octets (stated_trap community id moment alarm trap told)) ≤ 1472
+stated_short adds numbers ticked names community id moment alarm trap told short kind variable =
+    let cell : ℕ → List ℕ = λ column. cell_name alarm_entry column (alarm ∷ []) in
+    omega (
+      arith,
+      adds (stated_trap community id moment alarm trap told) short,
+      ticked up_time_name (moment / 10),
+      names trap_name trap.kind,
+      numbers (cell 1) told.index,
+      names (cell 3) told.variable,
+      numbers (cell 4) told.sample_type,
+      numbers (cell 5) told.value,
+      numbers (cell trap.threshold_column) told.threshold,
+      kind,
+      variable,
+    )
+
+-- What the columns of a valid alarm show.
+
+int_again : (z : ℤ) (v : Val) → int z ≡ v → v ≡ int (number_of v)
+int_again z v is = subst (λ (w : Val). w ≡ int (number_of w)) is refl
+
+name_again : (numbers : List ℕ) (v : Val) → name numbers ≡ v → v ≡ name (name_of v)
+name_again numbers v is = subst (λ (w : Val). w ≡ name (name_of w)) is refl
+
+variable_name : (variable : Option (List ℕ)) → name (unwrap_or variable (0 ∷ 0 ∷ [])) ≡ unwrap_or (option_map name variable) (name (0 ∷ 0 ∷ []))
+variable_name None = refl
+variable_name (Some numbers) = refl
+
+module _ (alarms : Alarms) (settings : Counting) (journal : Journal) (alarm : ℕ) (stands : AlarmsStand alarms settings journal) (valid : is_valid (alarm_state journal alarm) ≡ true) where
+  abbrev Shows : AlarmRow → Type 0
+  Shows columns = HasSameColumns alarm_table (set_to columns) (set_value alarm_table no_rows journal (alarm ∷ []))
+
+  the_row : (o : Option (Row AlarmRow)) → row_in alarms.rows alarm ≡ o → (columns : AlarmRow) × Shows columns
+  the_row None here = let absent = sym (ap state_seen here) ∙ stands.rows.alike.states alarm in let never = ap is_valid absent ∙ valid in absurd (cc)
+  the_row (Some row) here =
+      let is = sym (ap state_seen here) ∙ stands.rows.alike.states alarm in (
+        row.columns,
+        subst (λ (o : Option (Row AlarmRow)). HasSameColumns alarm_table (λ n. option_and_then (λ c. set_to c n) (columns_seen o)) (set_value alarm_table no_rows journal (alarm ∷ []))) here
+            (stands.rows.alike.columns alarm (ap is_absent (stands.rows.alike.states alarm) ∙ there (alarm_state journal alarm) valid)),
+      )
+    where
+      there : (state : State) → is_valid state ≡ true → is_absent state ≡ false
+      there Valid h = refl
+      there UnderCreation h = refl
+      there Absent h = absurd (cc)
+
+  its : (columns : AlarmRow) × Shows columns
+  its = the_row (row_in alarms.rows alarm) refl
+
+  abbrev IsNumber : ℕ → Type 0
+  IsNumber column = alarm_shown settings journal column (alarm ∷ []) ≡ int (number_of (alarm_shown settings journal column (alarm ∷ [])))
+
+  its_type : IsNumber 4
+  its_type = int_again (type_number its.0.sample_type) _ its.1.1.1.0.shown
+
+  rising_number : IsNumber 7
+  rising_number = int_again its.0.thresholds.rising _ its.1.1.1.1.1.0.shown
+
+  falling_number : IsNumber 8
+  falling_number = int_again its.0.thresholds.falling _ its.1.1.1.1.1.1.0.shown
+
+  pub shows_name : alarm_shown settings journal 3 (alarm ∷ []) ≡ name (name_of (alarm_shown settings journal 3 (alarm ∷ [])))
+  shows_name = name_again _ _ (variable_name its.0.variable ∙ its.1.1.0.shown)
+
+  threshold_number : (comes : Sampled) (trap : AlarmTrap) → trap_of comes ≡ Some trap → IsNumber trap.threshold_column
+  threshold_number Rising trap is = let same : rising_alarm ≡ trap = cc in subst (λ (t : AlarmTrap). IsNumber t.threshold_column) same rising_number
+  threshold_number Falling trap is = let same : falling_alarm ≡ trap = cc in subst (λ (t : AlarmTrap). IsNumber t.threshold_column) same falling_number
+  threshold_number Quiet trap is = absurd (cc)
+  threshold_number Gone trap is = absurd (cc)
+
+  -- what a trap tells is what is stated of the alarm
+  pub tells : (moment : ℕ) (comes : Sampled) (trap : AlarmTrap) → trap_of comes ≡ Some trap
+      → stated_bindings moment alarm trap (told_of settings journal alarm trap.threshold_column) ≡ told_bindings settings journal moment alarm trap
+  tells moment comes trap is =
+      let crossed = threshold_number comes trap is in
+      λ d. trap_bindings moment alarm trap (int (pos alarm)) (sym shows_name d) (sym its_type d) (alarm_shown settings journal 5 (alarm ∷ [])) (sym crossed d)
+
+-- The notification that is made of what was taken.
+
+both_true : (a b : Bool) → (a && b) ≡ true → a ≡ true
+both_true true b is = refl
+both_true false b is = absurd (cc)
+
+never_absent : (state : State) → is_valid state ≡ true → is_absent state ≡ false
+never_absent Valid is = refl
+never_absent UnderCreation is = refl
+never_absent Absent is = absurd (cc)
+
+-- an event is fired where a trap is to be sent
+pub some_event : (settings : Counting) (journal : Journal) (moment alarm : ℕ) (groups : Groups) (taken : Taken) → IsTaken settings journal moment alarm groups taken → is_trap taken.fired ≡ true → taken.event ≡ None → ⊥
+some_event settings journal moment alarm groups taken is trapped none = let never = sym trapped ∙ is.sends ∙ ap (sends_any journal) none in cc
+
+module _ (settings : Counting) (journal : Journal) (moment alarm : ℕ) (groups : Groups) (taken : Taken) (is : IsTaken settings journal moment alarm groups taken) (trapped : is_trap taken.fired ≡ true)
+    (event : ℕ) (fires : taken.event ≡ Some event) where
+  abbrev reading : Option ℤ
+  reading = number_read settings journal moment alarm
+
+  abbrev after : Journal
+  after = samples moment alarm reading ∷ journal
+
+  sends_one : sends journal event ≡ true
+  sends_one = ap (sends_any journal) (sym fires) ∙ sym is.sends ∙ trapped
+
+  its_event : crossing_event journal alarm (sampled settings journal moment alarm reading) ≡ event ∷ []
+  its_event = ap (crossing_event journal alarm) (sym is.comes) ∙ sym is.event ∙ ap events_in fires
+
+  there : is_absent (event_state after (event ∷ [])) ≡ false
+  there =
+      ap is_absent (state_sampled event_table no_rows refl journal moment alarm reading (event ∷ []))
+      ∙ never_absent (event_state journal (event ∷ [])) (both_true (is_valid (event_state journal (event ∷ []))) (is_sent (type_of journal event)) sends_one)
+
+  its_community : community_of after event ≡ Some (event_set journal (event ∷ []) 4)
+  its_community = ap (λ (b : Bool). cond b None (Some (event_set after (event ∷ []) 4))) there
+
+  pub some_community : ◌≡◌ {A = Option Val} None (community_of after event) → ⊥
+  some_community none = let never = none ∙ its_community in cc
+
+  pub community_is : (text : List ℕ) → ◌≡◌ {A = Option Val} (Some (octets text)) (community_of after event) → text ≡ community_text journal event
+  community_is text e = ap (λ value. octets_in (unwrap_or value (octets []))) (e ∙ its_community)
+
+  module _ (number : ℕ) (trap : AlarmTrap) (crossed : trap_of taken.comes ≡ Some trap) where
+    abbrev message : Message
+    message = numbered_trap number (community_text journal event) (told_bindings settings after moment alarm trap)
+
+    the_notice : notice_numbered settings number (samples moment alarm reading) journal ≡ Some message
+    the_notice =
+        let comes = sampled settings journal moment alarm reading in
+        ap (sent_by settings (samples moment alarm reading) journal moment alarm number (crossing_event journal alarm comes)) (ap trap_of (sym is.comes) ∙ crossed)
+        ∙ ap (λ (events : List ℕ). sent_by settings (samples moment alarm reading) journal moment alarm number events (Some trap)) its_event
+        ∙ ap (λ (b : Bool). cond b (Some message) None) sends_one
+
+    pub valid : is_valid (alarm_state after alarm) ≡ true
+    valid = valid_after settings journal moment alarm reading (valid_if_due journal alarm moment is.due) (ap (λ (comes : Sampled). is_some (trap_of comes)) (sym is.comes) ∙ ap is_some crossed)
+
+    pub made : (community : List ℕ) (id : ℕ) (told : Told) (draft : Drafted) → community ≡ community_text journal event → number % 2 ^ 31 ≡ id
+        → told ≡ told_of settings after alarm trap.threshold_column → draft ≡ drafted (stated_trap community id moment alarm trap told)
+        → ◌≡◌ {A = Option Drafted} (Some draft) (option_map drafted (notice_numbered settings number (samples moment alarm reading) journal))
+    made community id told draft text numbered tells_this drafted_so =
+        let bindings = ap (stated_bindings moment alarm trap) tells_this ∙ tells groups.second.second.alarms settings after alarm is.stands.1.1.stand valid moment taken.comes trap crossed in
+        let same : stated_trap community id moment alarm trap told ≡ message =
+        λ d. record { community = text d; kind = Trap; id = pos (sym numbered d); first = pos 0; second = pos 0; bindings = bindings d } in
+        ap Some (drafted_so ∙ ap drafted same) ∙ sym (ap (option_map drafted) the_notice)

@@ -1,0 +1,58 @@
+-- Lemmas on the samples of alarms, and on the events that they fire.
+use Rattle.std.proofs.Common.{◌≡◌, ℕ, suc, zero, ◌≤◌, [], ◌∷◌, Bool, true, cond, ◌&&◌, not, Option, Some, None, refl, ap, ◌∙◌, arith}
+use Rattle.std.specs.Prelude.{ℤ, is_some}
+use Rattle.rm_model.specs.Settings.{Settings as Counting}
+use Rattle.rm_model.specs.Journal.{Journal, samples}
+use Rattle.rm_model.specs.Alarms.{alarm_entry, alarm_state, sampled}
+use Rattle.rm_model.specs.Cells.{cells_of, cell_at, is_one_of}
+use Rattle.rm_model.specs.ControlRows.{cell_name, is_absent, is_valid}
+use Rattle.rm_model.specs.declared.row.State.{State}
+use Rattle.rm_model.specs.declared.row.State.TheVariants.{Absent, UnderCreation, Valid}
+use Rattle.rm_model.specs.declared.sampled.Sampled.{Sampled}
+use Rattle.rm_model.specs.declared.sampled.Sampled.TheVariants.{Quiet, Rising, Falling, Gone}
+use Rattle.rm_alarm.specs.AlarmTable.{alarm_columns, alarm_shown, alarms_table}
+use Rattle.rm_event.specs.declared.event_type.EventType.{EventType}
+use Rattle.rm_event.specs.declared.event_type.EventType.TheVariants as type
+use Rattle.rm_event.specs.Firings.{event_named, crossing_event}
+use Rattle.rm_event.specs.Standing.{fired_of}
+use Rattle.rm_agent.specs.Notices.{trap_of, is_sent, is_trap}
+
+there : (state : State) → is_valid state ≡ true → not (is_absent state) ≡ true
+there Valid valid = refl
+there UnderCreation valid = absurd (cc)
+there Absent valid = absurd (cc)
+
+-- the cell of a column of a valid alarm
+pub shown_cell : (settings : Counting) (journal : Journal) (column alarm : ℕ) → is_one_of alarm_columns column ≡ true → is_valid (alarm_state journal alarm) ≡ true
+    → cells_of (alarms_table settings journal) (cell_name alarm_entry column (alarm ∷ [])) ≡ Some (alarm_shown settings journal column (alarm ∷ []))
+shown_cell settings journal column alarm one valid =
+    ap (λ (b : Bool). cell_at (alarms_table settings journal) (cond b (Some (record { column = column; index = alarm ∷ [] })) None)) one
+    ∙ ap (λ (b : Bool). cond b (Some (alarm_shown settings journal column (alarm ∷ []))) None) (there (alarm_state journal alarm) valid)
+
+-- a trap is sent by an event whose type sends it and whose row is valid
+pub is_sending : (state : State) (kind : EventType) → is_trap (fired_of state kind) ≡ (is_valid state && is_sent kind)
+is_sending Valid type.None = refl
+is_sending Valid type.Log = refl
+is_sending Valid type.SnmpTrap = refl
+is_sending Valid type.LogAndTrap = refl
+is_sending UnderCreation kind = refl
+is_sending Absent kind = refl
+
+-- an event that there can be is named
+pub named : (index : ℕ) → 1 ≤ index → event_named index ≡ index ∷ []
+named zero some = absurd (omega arith)
+named (suc index) some = refl
+
+-- a valid alarm stays so after a sample that crosses
+pub valid_after : (settings : Counting) (journal : Journal) (moment alarm : ℕ) (reading : Option ℤ) → is_valid (alarm_state journal alarm) ≡ true
+    → is_some (trap_of (sampled settings journal moment alarm reading)) ≡ true → is_valid (alarm_state (samples moment alarm reading ∷ journal) alarm) ≡ true
+valid_after settings journal moment alarm None valid crossing = absurd (cc)
+valid_after settings journal moment alarm (Some number) valid crossing = valid
+
+-- a sample fires by the columns that the alarm had before
+pub same_event : (journal : Journal) (moment alarm : ℕ) (reading : Option ℤ) (comes : Sampled)
+    → crossing_event (samples moment alarm reading ∷ journal) alarm comes ≡ crossing_event journal alarm comes
+same_event journal moment alarm reading Rising = refl
+same_event journal moment alarm reading Falling = refl
+same_event journal moment alarm reading Quiet = refl
+same_event journal moment alarm reading Gone = refl
