@@ -2,8 +2,7 @@
 use Rattle.std.proofs.Common.{◌≡◌, ℕ, true, List, refl, sym, ap, codes, ◌++◌}
 use Rattle.hex.specs.Hex.{encode_lower}
 use Rattle.rm_model.specs.Journal.{Journal}
-use Rattle.rm_pdu.specs.Message.{Message}
-use Rattle.rm_pdu.specs.Verdict.{Verdict, message, IsVerdict}
+use Rattle.rm_pdu.specs.Verdict.{Verdict, IsVerdict}
 use Rattle.rm_agent.specs.declared.settings.Settings.{Settings}
 use Rattle.rm_agent.specs.declared.answer.Answer.{Answer}
 use Rattle.rm_agent.specs.declared.answer.Answer.TheVariants.{Reply, Drop}

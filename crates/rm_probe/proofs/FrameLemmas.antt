@@ -1,47 +1,53 @@
 -- Frames that pass up to a moment.
-use Rattle.std.proofs.Common.{◌≡◌, ℕ, suc, ◌+◌, ◌<◌, ◌≤◌, true, false, List, [], ◌∷◌, ◌++◌, length, take, drop, Option, Some, None, Err, inl, inr, refl, sym, ap, subst, ◌∙◌, arith, take_while, append_assoc}
+use Rattle.std.proofs.Common.{◌≡◌, ℕ, suc, ◌+◌, ◌<◌, ◌≤◌, true, false, List, [], ◌∷◌, ◌++◌, length, take, drop, Option, Some, None, Ok, Err, inl, inr, refl, sym, ap, subst, ◌∙◌, arith, take_while, append_assoc}
 use Rattle.std.specs.Prelude.{⊤}
 use Rattle.std.specs.List.{prefix_len}
 use Rattle.std.proofs.lemmas.List.{append-nil}
 use Rattle.std.proofs.lemmas.Bool.Decides.{nat_tests}
 use Rattle.rm_edge.specs.Outside.{Held, File}
-use Rattle.rm_model.specs.Journal.{Frame, Journal, passes, after_frames}
+use Rattle.rm_model.specs.Journal.{Frame, Journal, passes}
 use Rattle.rm_pcap.specs.Records.{Stop, Broken, Found, Whole, Stops as StopsAt}
 use Rattle.rm_pcap.specs.Progress.{Progress, next_in, moment_found, passing, Shows, frame_of, IsLawfulFind}
 use Rattle.rm_pcap.specs.Calls.{Looks, Passes, Fails, IsBroken}
 use Rattle.rm_pcap.specs.declared.frame.Frame.{Frame as Lent}
 use Rattle.rm_pcap.specs.declared.frame.Step.{Step}
-use Rattle.rm_pcap.specs.declared.frame.Step.TheVariants.{Next, End, Cut}
+use Rattle.rm_pcap.specs.declared.frame.Step.TheVariants.{Next}
 use Rattle.rm_pcap.specs.declared.fault.PcapFault.{PcapFault}
 use Rattle.rm_pcap.specs.declared.fault.PcapFault.TheVariants.{Magic, Version, LinkType, Included, Original, Late, TooMany, Read, NoMemory}
 use Rattle.rm_pcap.specs.declared.reach.Reach.{Reach}
-use Rattle.rm_probe.specs.Events.{is_by, frames_after}
+use Rattle.rm_agent.specs.declared.settings.Settings.{Settings}
+use Rattle.rm_probe.specs.Advance.{IsAdvanced}
+use Rattle.rm_probe.specs.Events.{Event, comings, is_by, frames_after}
 use Rattle.rm_probe.specs.Probe.{settings_of, last_given, frames_given, Stands}
-use Rattle.rm_probe.specs.Steps.{Advanced, Advances, Finishes, IsNotBefore, Keeps, Leaves}
-use Rattle.rm_probe.specs.Notes.{Note}
-use Rattle.rm_probe.specs.Text.{last_line}
+use Rattle.rm_probe.specs.Steps.{ArePassing, HasBegun, Advanced, Advances, Finishes, IsNotBefore, Keeps, Leaves}
+use Rattle.rm_probe.specs.Notes.{Note, Sent, trap_lines}
+use Rattle.rm_probe.specs.Text.{AreLines, last_line}
 use Rattle.rm_probe.specs.declared.probe.Probe.{Probe}
+use Rattle.rm_probe.proofs.PassingLemmas.{all_frames, passing_more, lines_after}
 use Rattle.rm_probe.proofs.RecordLemmas.{leaves_looking, leaves_passing, leaves_first, leaves_none}
 
--- frames that pass, and then others
-pub after_frames-append : (some others : List Frame) (journal : Journal) → after_frames (some ++ others) journal ≡ after_frames others (after_frames some journal)
-after_frames-append [] others journal = refl
-after_frames-append (frame ∷ more) others journal = after_frames-append more others (passes frame ∷ journal)
-
--- of the frames left, so many have passed
-pub record Passed (moment : ℕ) (bytes : List ℕ) (progress : Progress) (probe : Probe) (before : ℕ) (frames : List Frame) (stop : Stop) (journal : Journal) : Type 0 where
+-- of the frames left, so many have passed, with these notifications
+pub record Passed (settings : Settings) (moment : ℕ) (bytes : List ℕ) (progress : Progress) (probe : Probe) (before : ℕ) (frames : List Frame) (stop : Stop) (journal : Journal) (notes : List Note) : Type 0 where
   pub passed : List Frame
   pub left : List Frame
+  pub reached : Journal
+  pub passing : ArePassing settings journal passed notes reached
   pub leaves : Leaves progress bytes left stop
-  pub stands : Stands probe (after_frames passed journal)
+  pub stands : Stands probe reached
   pub taken : take_while (is_by moment) frames ≡ passed ++ take_while (is_by moment) left
   pub after : frames_after moment frames ≡ frames_after moment left
   pub count : progress.reach.count + length left ≡ before + length frames
 
-pub passed_none : (moment : ℕ) (bytes : List ℕ) (progress : Progress) (probe : Probe) (frames : List Frame) (stop : Stop) (journal : Journal)
-    → Leaves progress bytes frames stop → Stands probe journal → Passed moment bytes progress probe progress.reach.count frames stop journal
-passed_none moment bytes progress probe frames stop journal left stands =
-    record { passed = []; left = frames; leaves = left; stands = stands; taken = refl; after = refl; count = refl }
+pub passed_none : (settings : Settings) (moment : ℕ) (bytes : List ℕ) (progress : Progress) (probe : Probe) (frames : List Frame) (stop : Stop) (journal : Journal)
+    → Leaves progress bytes frames stop → Stands probe journal → Passed settings moment bytes progress probe progress.reach.count frames stop journal []
+passed_none settings moment bytes progress probe frames stop journal left stands =
+    record { passed = []; left = frames; reached = journal; passing = (refl, refl); leaves = left; stands = stands; taken = refl; after = refl; count = refl }
+
+-- so far some have passed
+has_begun : (settings : Settings) (moment : ℕ) (bytes : List ℕ) (progress : Progress) (probe : Probe) (before : ℕ) (frames : List Frame) (stop : Stop) (journal : Journal) (notes : List Note)
+    → Passed settings moment bytes progress probe before frames stop journal notes → HasBegun settings moment frames journal notes
+has_begun settings moment bytes progress probe before frames stop journal notes p =
+    record { passed = p.passed; left = p.left; reached = p.reached; passing = p.passing; taken = p.taken; orderly = p.stands.orderly }
 
 one_longer : (m : ℕ) (f : Frame) (fs : List Frame) → is_by m f ≡ true → prefix_len (is_by m) (f ∷ fs) ≡ suc (prefix_len (is_by m) fs)
 one_longer m f fs early = rw early (omega arith)
@@ -59,12 +65,14 @@ after_no : (m : ℕ) (f : Frame) (fs : List Frame) → is_by m f ≡ false → f
 after_no m f fs late = rw late refl
 
 -- the next one was looked at
-pub passed_looking : (m : ℕ) (held : Held) (bytes : List ℕ) (old new : Progress) (probe : Probe) (before : ℕ) (frames : List Frame) (stop : Stop) (journal : Journal) (found : Found)
+pub passed_looking : (settings : Settings) (m : ℕ) (held : Held) (bytes : List ℕ) (old new : Progress) (probe : Probe) (before : ℕ) (frames : List Frame) (stop : Stop) (journal : Journal) (notes : List Note) (found : Found)
     → held ≡ File bytes → Looks held old new found
-    → Passed m bytes old probe before frames stop journal → Passed m bytes new probe before frames stop journal
-passed_looking m held bytes old new probe before frames stop journal found is looks p = record {
+    → Passed settings m bytes old probe before frames stop journal notes → Passed settings m bytes new probe before frames stop journal notes
+passed_looking settings m held bytes old new probe before frames stop journal notes found is looks p = record {
   passed = p.passed;
   left = p.left;
+  reached = p.reached;
+  passing = p.passing;
   leaves = leaves_looking held old new bytes p.left stop found is looks p.leaves;
   stands = p.stands;
   taken = p.taken;
@@ -72,20 +80,26 @@ passed_looking m held bytes old new probe before frames stop journal found is lo
   count = ap (λ (q : Progress). q.reach.count + length p.left) looks.place ∙ p.count;
 }
 
+-- after the samples that are due, a frame passes from each journal for which a probe stood
+abbrev pub LetsPass : Settings → Probe → Probe → Frame → List Note → Type 0
+LetsPass settings probe next frame more = (j : Journal) → Stands probe j → (ready : Journal) × IsAdvanced settings frame.moment j more ready × Stands next (passes frame ∷ ready)
+
 -- one more frame passes
-passed_one : (m : ℕ) (held : Held) (bytes : List ℕ) (old new : Progress) (probe next : Probe) (before : ℕ) (frames : List Frame) (stop : Stop) (journal : Journal) (frame : Frame) (after : Reach)
-    → held ≡ File bytes → Passes held old new (Whole frame after) → frame.moment ≤ m
-    → ((j : Journal) → Stands probe j → Stands next (passes frame ∷ j))
-    → Passed m bytes old probe before frames stop journal → Passed m bytes new next before frames stop journal
-passed_one m held bytes old new probe next before frames stop journal frame after is found le counted p =
+passed_one : (settings : Settings) (m : ℕ) (held : Held) (bytes : List ℕ) (old new : Progress) (probe next : Probe) (before : ℕ) (frames : List Frame) (stop : Stop) (journal : Journal) (notes more : List Note) (frame : Frame) (after : Reach)
+    → held ≡ File bytes → Passes held old new (Whole frame after) → frame.moment ≤ m → LetsPass settings probe next frame more
+    → Passed settings m bytes old probe before frames stop journal notes → Passed settings m bytes new next before frames stop journal (notes ++ more)
+passed_one settings m held bytes old new probe next before frames stop journal notes more frame after is found le counted p =
     let o = leaves_passing held old new bytes p.left stop frame after is found p.leaves in
+    let (ready, advanced, stood) = counted p.reached p.stands in
     let early : is_by m frame ≡ true = grind (arith, nat_tests) in
     let one : new.reach.count ≡ old.reach.count + 1 = ap (λ (q : Progress). q.reach.count) found.place ∙ found.finds.lawful.count ∙ found.finds.lawful.number in
     record {
       passed = p.passed ++ frame ∷ [];
       left = o.more;
+      reached = passes frame ∷ ready;
+      passing = passing_more settings journal p.passed notes p.reached frame more ready p.passing advanced;
       leaves = o.left;
-      stands = subst (λ (j : Journal). Stands next j) (sym (after_frames-append p.passed (frame ∷ []) journal)) (counted (after_frames p.passed journal) p.stands);
+      stands = stood;
       taken = p.taken ∙ ap (λ (xs : List Frame). p.passed ++ take_while (is_by m) xs) o.is ∙ ap (λ (xs : List Frame). p.passed ++ xs) (take_one m frame o.more early) ∙ sym (append_assoc p.passed (frame ∷ []) (take_while (is_by m) o.more));
       after = p.after ∙ ap (frames_after m) o.is ∙ after_one m frame o.more early;
       count = omega (arith, p.count, one, ap length o.is);
@@ -117,17 +131,18 @@ halts_found m bytes progress left stop (StopsAt at) is later leaves =
     halts_none m left (leaves_none progress bytes left stop at is leaves).none
 
 -- the frames up to the moment have passed
-pub halt : (m : ℕ) (held : Held) (bytes : List ℕ) (old new : Progress) (probe : Probe) (before : ℕ) (frames : List Frame) (stop : Stop) (journal : Journal) (found : Found)
+pub halt : (settings : Settings) (m : ℕ) (held : Held) (bytes : List ℕ) (old new : Progress) (probe : Probe) (before : ℕ) (frames : List Frame) (stop : Stop) (journal : Journal) (notes : List Note) (found : Found)
     → held ≡ File bytes → Looks held old new found → IsLater m found
-    → Passed m bytes old probe before frames stop journal → Advanced m bytes new probe before frames stop journal
-halt m held bytes old new probe before frames stop journal found is looks later p =
+    → Passed settings m bytes old probe before frames stop journal notes → Advanced settings m bytes new probe before frames stop journal notes
+halt settings m held bytes old new probe before frames stop journal notes found is looks later p =
     let s = halts_found m bytes old p.left stop found (looks.finds.stands bytes is p.leaves.agrees) later p.leaves in
-    let q = passed_looking m held bytes old new probe before frames stop journal found is looks p in
     let after : frames_after m frames ≡ p.left = p.after ∙ s.after in
     let taken : take_while (is_by m) frames ≡ p.passed = p.taken ∙ ap (λ (xs : List Frame). p.passed ++ xs) s.taken ∙ append-nil p.passed in
     record {
       left = rw after (leaves_looking held old new bytes p.left stop found is looks p.leaves);
-      stands = rw taken p.stands;
+      reached = p.reached;
+      passing = subst (λ (fs : List Frame). ArePassing settings journal fs notes p.reached) (sym taken) p.passing;
+      stands = p.stands;
       count = rw after (ap (λ (q : Progress). q.reach.count + length p.left) looks.place ∙ p.count);
     }
 
@@ -142,19 +157,19 @@ no_moment m (Whole frame after) is = absurd cc
 no_moment m (StopsAt at) is = (tt, at, refl)
 
 -- a frame is looked at, and passes
-pub passed_found : (m : ℕ) (held held' : Held) (bytes : List ℕ) (old looked new : Progress) (probe probe' : Probe) (before : ℕ) (frames : List Frame) (stop : Stop) (journal : Journal)
+pub passed_found : (settings : Settings) (m : ℕ) (held held' : Held) (bytes : List ℕ) (old looked new : Progress) (probe probe' : Probe) (before : ℕ) (frames : List Frame) (stop : Stop) (journal : Journal) (notes more : List Note)
     (found found' : Found) (next : ℕ) (frame : Lent)
     → held ≡ File bytes → held' ≡ held → Looks held old looked found → Some next ≡ moment_found found → next ≤ m
-    → Passes held' looked new found' → Shows (Next frame) found' → ((j : Journal) → Stands probe j → Stands probe' (passes (frame_of frame) ∷ j))
-    → Passed m bytes old probe before frames stop journal → Passed m bytes new probe' before frames stop journal
-passed_found m held held' bytes old looked new probe probe' before frames stop journal found (StopsAt at) next frame is same looks next_is early found_so shows counted p =
+    → Passes held' looked new found' → Shows (Next frame) found' → LetsPass settings probe probe' (frame_of frame) more
+    → Passed settings m bytes old probe before frames stop journal notes → Passed settings m bytes new probe' before frames stop journal (notes ++ more)
+passed_found settings m held held' bytes old looked new probe probe' before frames stop journal notes more found (StopsAt at) next frame is same looks next_is early found_so shows counted p =
     absurd shows
-passed_found m held held' bytes old looked new probe probe' before frames stop journal found (Whole passed after) next frame is same looks next_is early found_so shows counted p =
+passed_found settings m held held' bytes old looked new probe probe' before frames stop journal notes more found (Whole passed after) next frame is same looks next_is early found_so shows counted p =
     let again : Whole passed after ≡ found = found_so.finds.again found (ap (λ (q : Progress). q.ahead) looks.place) in
     let moment : next ≡ passed.moment = let e : Some next ≡ Some passed.moment = next_is ∙ ap moment_found (sym again) in cc in
-    let q = passed_looking m held bytes old looked probe before frames stop journal found is looks p in
-    passed_one m held' bytes looked new probe probe' before frames stop journal passed after (same ∙ is) found_so (omega (arith, moment, early))
-    (subst (λ (f : Frame). (j : Journal) → Stands probe j → Stands probe' (passes f ∷ j)) (sym shows) counted) q
+    let q = passed_looking settings m held bytes old looked probe before frames stop journal notes found is looks p in
+    passed_one settings m held' bytes looked new probe probe' before frames stop journal notes more passed after (same ∙ is) found_so (omega (arith, moment, early))
+    (subst (λ (f : Frame). LetsPass settings probe probe' f more) (sym shows) counted) q
 
 -- a fault other than of a read is how the records stop
 pub broken : (held : Held) (bytes : List ℕ) (progress : Progress) (left : List Frame) (stop : Stop) (fault : PcapFault) → (fault ≡ Read → ⊥) → held ≡ File bytes
@@ -164,18 +179,29 @@ broken held bytes progress left stop fault other is (inr breaks) leaves =
     (leaves_none progress bytes left stop (Broken fault) (sym (breaks.stands bytes is)) leaves).stop_is
 
 -- the capture has a fault where it is now
-pub advances_fault : (m : ℕ) (held : Held) (bytes : List ℕ) (old now new : Progress) (probe probe' probe'' : Probe) (fault : PcapFault) → held ≡ File bytes → Fails held now fault
-    → ((frames : List Frame) (stop : Stop) (journal : Journal) → Leaves old bytes frames stop → Stands probe journal → Passed m bytes now probe' old.reach.count frames stop journal)
-    → Advances {T = Unit {0}} m bytes old new probe probe'' (Err fault)
-advances_fault m held bytes old now new probe probe' probe'' Read is fails p = tt
-advances_fault m held bytes old now new probe probe' probe'' Magic is fails p = λ frames stop journal left stands. let q = p frames stop journal left stands in broken held bytes now q.left stop Magic (λ e. cc) is fails.cause q.leaves
-advances_fault m held bytes old now new probe probe' probe'' Version is fails p = λ frames stop journal left stands. let q = p frames stop journal left stands in broken held bytes now q.left stop Version (λ e. cc) is fails.cause q.leaves
-advances_fault m held bytes old now new probe probe' probe'' LinkType is fails p = λ frames stop journal left stands. let q = p frames stop journal left stands in broken held bytes now q.left stop LinkType (λ e. cc) is fails.cause q.leaves
-advances_fault m held bytes old now new probe probe' probe'' (Included at) is fails p = λ frames stop journal left stands. let q = p frames stop journal left stands in broken held bytes now q.left stop (Included at) (λ e. cc) is fails.cause q.leaves
-advances_fault m held bytes old now new probe probe' probe'' (Original at) is fails p = λ frames stop journal left stands. let q = p frames stop journal left stands in broken held bytes now q.left stop (Original at) (λ e. cc) is fails.cause q.leaves
-advances_fault m held bytes old now new probe probe' probe'' (Late at) is fails p = λ frames stop journal left stands. let q = p frames stop journal left stands in broken held bytes now q.left stop (Late at) (λ e. cc) is fails.cause q.leaves
-advances_fault m held bytes old now new probe probe' probe'' TooMany is fails p = λ frames stop journal left stands. let q = p frames stop journal left stands in broken held bytes now q.left stop TooMany (λ e. cc) is fails.cause q.leaves
-advances_fault m held bytes old now new probe probe' probe'' NoMemory is fails p = λ frames stop journal left stands. let q = p frames stop journal left stands in broken held bytes now q.left stop NoMemory (λ e. cc) is fails.cause q.leaves
+pub advances_fault : (m : ℕ) (held : Held) (bytes : List ℕ) (old now new : Progress) (probe probe' probe'' : Probe) (notes : List Note) (fault : PcapFault) → held ≡ File bytes → Fails held now fault
+    → ((frames : List Frame) (stop : Stop) (journal : Journal) → Leaves old bytes frames stop → Stands probe journal → Passed (settings_of probe) m bytes now probe' old.reach.count frames stop journal notes)
+    → Advances {T = Unit {0}} m bytes old new probe probe'' notes (Err fault)
+advances_fault m held bytes old now new probe probe' probe'' notes Read is fails p = λ frames stop journal left stands.
+    has_begun (settings_of probe) m bytes now probe' old.reach.count frames stop journal notes (p frames stop journal left stands)
+advances_fault m held bytes old now new probe probe' probe'' notes Magic is fails p = λ frames stop journal left stands. let q = p frames stop journal left stands in broken held bytes now q.left stop Magic (λ e. cc) is fails.cause q.leaves
+advances_fault m held bytes old now new probe probe' probe'' notes Version is fails p = λ frames stop journal left stands. let q = p frames stop journal left stands in broken held bytes now q.left stop Version (λ e. cc) is fails.cause q.leaves
+advances_fault m held bytes old now new probe probe' probe'' notes LinkType is fails p = λ frames stop journal left stands. let q = p frames stop journal left stands in broken held bytes now q.left stop LinkType (λ e. cc) is fails.cause q.leaves
+advances_fault m held bytes old now new probe probe' probe'' notes (Included at) is fails p = λ frames stop journal left stands. let q = p frames stop journal left stands in broken held bytes now q.left stop (Included at) (λ e. cc) is fails.cause q.leaves
+advances_fault m held bytes old now new probe probe' probe'' notes (Original at) is fails p = λ frames stop journal left stands. let q = p frames stop journal left stands in broken held bytes now q.left stop (Original at) (λ e. cc) is fails.cause q.leaves
+advances_fault m held bytes old now new probe probe' probe'' notes (Late at) is fails p = λ frames stop journal left stands. let q = p frames stop journal left stands in broken held bytes now q.left stop (Late at) (λ e. cc) is fails.cause q.leaves
+advances_fault m held bytes old now new probe probe' probe'' notes TooMany is fails p = λ frames stop journal left stands. let q = p frames stop journal left stands in broken held bytes now q.left stop TooMany (λ e. cc) is fails.cause q.leaves
+advances_fault m held bytes old now new probe probe' probe'' notes NoMemory is fails p = λ frames stop journal left stands. let q = p frames stop journal left stands in broken held bytes now q.left stop NoMemory (λ e. cc) is fails.cause q.leaves
+
+-- the lines of all frames
+lines_of_all : (settings : Settings) (frames : List Frame) (journal : Journal) (notes : List Note) (reached : Journal) → frames_after 4294967295 frames ≡ [] → ArePassing settings journal (take_while (is_by 4294967295) frames) notes reached
+    → AreLines settings journal (comings frames) (trap_lines notes)
+unfolding AreLines
+lines_of_all settings frames journal notes reached none passing =
+    let taken : List Frame = take_while (is_by 4294967295) frames in
+    let whole : comings taken ++ [] ≡ comings frames = append-nil (comings taken) ∙ ap comings (sym (append-nil taken) ∙ ap (λ (fs : List Frame). taken ++ fs) (sym none) ∙ all_frames 4294967295 frames) in
+    subst (λ (es : List Event). AreLines settings journal es (trap_lines notes)) whole
+    (subst (λ (t : List ℕ). AreLines settings journal (comings taken ++ []) t) (append-nil (trap_lines notes)) (lines_after settings journal taken notes reached [] [] passing refl))
 
 -- what stands next isn't before the last moment given, where a look found it
 pub keeps_looking : (held : Held) (moment : ℕ) (probe : Probe) (old new : Progress) (found : Found) → Looks held old new found → Keeps moment probe old → Keeps moment probe new
@@ -227,21 +253,32 @@ pub record Advancing {F N : Type 0} (held : F → List ℕ → Held) (faults : F
   pub same : (each : List ℕ) → held now each ≡ held first each
   pub later : (each : List ℕ) → faults first each ≤ faults now each
   pub settings : settings_of probe' ≡ settings_of probe
-  pub noted : (start : N) (sent : List Note) → since start notes sent → since start notes' sent
+  pub more : List Note
+  pub sent : Sent since notes notes' more
   pub early : last_given probe' ≤ moment
   pub keeps : Keeps (last_given probe') probe' progress
   pub passed : (bytes : List ℕ) → held first name ≡ File bytes → (frames : List Frame) (stop : Stop) (journal : Journal) → Leaves old bytes frames stop → Stands probe journal
-      → Passed moment bytes progress probe' old.reach.count frames stop journal
+      → Passed (settings_of probe) moment bytes progress probe' old.reach.count frames stop journal more
+
+-- notifications, and then others
+pub sent_more : {N : Type 0} (since : N → N → List Note → Type 0) (old mid new : N) (notes more : List Note) → Sent since old mid notes → Sent since mid new more → Sent since old new (notes ++ more)
+sent_more since old mid new notes more first second = λ start sent is.
+    subst (λ (all : List Note). since start new all) (append_assoc sent notes more) (second start (sent ++ notes) (first start sent is))
+
+pub sent_none : {N : Type 0} (since : N → N → List Note → Type 0) (state : N) → Sent since state state []
+sent_none since state = λ start sent is. subst (λ (all : List Note). since start state all) (sym (append-nil sent)) is
 
 -- all frames have passed, and the step says how the records stop
-pub finish_last : (held' : Held) (bytes : List ℕ) (old looked new : Progress) (probe probe' : Probe) (requests taken : ℕ) (line : List ℕ) (step : Step) (found : Found) (at : Stop)
-    → ((frames : List Frame) (stop : Stop) (journal : Journal) → Leaves old bytes frames stop → Stands probe journal → Advanced 4294967295 bytes looked probe' old.reach.count frames stop journal)
+pub finish_last : (held' : Held) (bytes : List ℕ) (old looked new : Progress) (probe probe' : Probe) (notes : List Note) (requests taken : ℕ) (line : List ℕ) (step : Step) (found : Found) (at : Stop)
+    → ((frames : List Frame) (stop : Stop) (journal : Journal) → Leaves old bytes frames stop → Stands probe journal → Advanced (settings_of probe) 4294967295 bytes looked probe' old.reach.count frames stop journal notes)
     → looked.ahead ≡ Some (StopsAt at) → Passes held' looked new found → Shows step found → taken ≡ looked.reach.count
     → ((stop : Stop) → Shows step (StopsAt stop) → line ≡ last_line stop taken requests)
-    → (frames : List Frame) (stop : Stop) (journal : Journal) → Leaves old bytes frames stop → Stands probe journal → line ≡ last_line stop (old.reach.count + length frames) requests
-finish_last held' bytes old looked new probe probe' requests taken line step found at advances ahead found_so shows count last frames stop journal left stands =
+    → Finishes {T = Unit {0}} bytes old probe requests notes line (Ok tt)
+finish_last held' bytes old looked new probe probe' notes requests taken line step found at advances ahead found_so shows count last frames stop journal left stands =
     let a = advances frames stop journal left stands in
     let same : StopsAt at ≡ found = sym (found_so.finds.again (StopsAt at) ahead) in
     let none = leaves_none looked bytes (frames_after 4294967295 frames) stop at (a.left.agrees (StopsAt at) ahead) a.left in
-    let all : taken ≡ old.reach.count + length frames = omega (arith, count, a.count, ap length none.none) in
-    last at (subst (λ (f : Found). Shows step f) (sym same) shows) ∙ ap (λ (k : ℕ). last_line at k requests) all ∙ ap (λ (s : Stop). last_line s (old.reach.count + length frames) requests) (sym none.stop_is)
+    let all : taken ≡ old.reach.count + length frames = omega (arith, count, a.count, ap length none.none) in (
+      lines_of_all (settings_of probe) frames journal notes a.reached none.none a.passing,
+      last at (subst (λ (f : Found). Shows step f) (sym same) shows) ∙ ap (λ (k : ℕ). last_line at k requests) all ∙ ap (λ (s : Stop). last_line s (old.reach.count + length frames) requests) (sym none.stop_is),
+    )

@@ -1,4 +1,6 @@
 pub mod RecordLemmas
+pub mod PassingLemmas
+pub mod SampleLemmas
 pub mod LineLemmas
 pub mod JudgeLemmas
 pub mod FrameLemmas

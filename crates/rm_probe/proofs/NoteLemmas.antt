@@ -27,7 +27,7 @@ front_of k xs ys zs =
     ]
 
 -- a front of the lines of some notifications is one of those of more
-front_more : (old new : Option (List ℕ)) (lines more : List ℕ) → AddsFront old new lines → AddsFront old new (lines ++ more)
+pub front_more : (old new : Option (List ℕ)) (lines more : List ℕ) → AddsFront old new lines → AddsFront old new (lines ++ more)
 front_more old new lines more (n, added) =
     (min n (length lines), subst (λ (t : List ℕ). Adds old new t) (sym (take-append-le (min n (length lines)) lines more (omega arith) ∙ take_least n lines)) added)
   where

@@ -1,5 +1,5 @@
 -- One text of the same frames and datagrams.
-use Rattle.std.proofs.Common.{◌≡◌, ℕ, Bool, true, List, [], ◌∷◌, ◌++◌, length, Some, None, sym, ap, subst, ◌∙◌, codes}
+use Rattle.std.proofs.Common.{◌≡◌, ℕ, Bool, true, List, [], ◌∷◌, ◌++◌, length, map, Some, None, sym, ap, subst, ◌∙◌, codes}
 use Rattle.hex.specs.Hex.{encode_lower}
 use Rattle.rm_model.specs.Journal.{Frame, Journal, passes}
 use Rattle.rm_pcap.specs.Records.{Stop}
@@ -12,16 +12,27 @@ use Rattle.rm_agent.specs.Answers.{reason_for, IsReplyAfter}
 use Rattle.rm_agent.specs.Sets.{given_by}
 use Rattle.rm_agent.specs.Groups.{Reserves}
 use Rattle.rm_probe.specs.Lines.{TimedDatagram}
+use Rattle.rm_agent.specs.Advance.{Notification, IsAdvanced as AgentIsAdvanced}
+use Rattle.rm_probe.specs.Advance.{note_of, IsAdvanced}
+use Rattle.rm_probe.specs.Notes.{Note, trap_lines}
 use Rattle.rm_probe.specs.Events.{Event, Comes, Asks, events}
 use Rattle.rm_probe.specs.Text.{reason_text, IsAnswered, dropped, replied, answer_line, IsAnswer, AreLines, ReservesNothing, AreWithoutChoice, IsText, last_line}
 
--- octets are one thing, and a request that is no SetRequest that reserves storage has one reply
+-- octets are one thing, a request that is no SetRequest that reserves storage has one reply, and samples come in one way
 pub record OneOfEach (settings : Settings) : Type 0 where
   pub verdict : (requests : Bool) (bytes : List ℕ) (v w : Verdict) → IsVerdict requests bytes v → IsVerdict requests bytes w → v ≡ w
   pub reply : (journal : Journal) (now : ℕ) (request a b : Message) (after later : Journal) → (request.kind ≡ Set → (index : ℕ) → Reserves journal (given_by request.bindings) index → ⊥)
       → IsReplyAfter settings journal now request a after → IsReplyAfter settings journal now request b later → (a ≡ b) × (after ≡ later)
+  pub advance : (to : ℕ) (journal : Journal) (sent others : List Notification) (after later : Journal) → AgentIsAdvanced settings to journal sent after → AgentIsAdvanced settings to journal others later
+      → (sent ≡ others) × (after ≡ later)
 
 module _ (settings : Settings) (one : OneOfEach settings) where
+  -- samples have one list of notes, and leave one journal
+  advanced_once : (to : ℕ) (journal : Journal) (notes others : List Note) (after later : Journal) → IsAdvanced settings to journal notes after → IsAdvanced settings to journal others later → (notes ≡ others) × (after ≡ later)
+  advanced_once to journal notes others after later is is' =
+      let (same, stays) = one.advance to journal is.sent is'.sent after later is.advanced is'.advanced in
+      (is.noted ∙ ap (map note_of) same ∙ sym is'.noted, stays)
+
   -- a datagram that is dropped isn't answered
   not_both : (v : Verdict) (reason : Reason) (request : Message) → v ≡ message request → reason_for settings v ≡ Some reason → reason_for settings (message request) ≡ None → ⊥
   not_both v reason request same some none = let e : Some reason ≡ None = sym some ∙ ap (reason_for settings) same ∙ none in cc
@@ -56,11 +67,16 @@ module _ (settings : Settings) (one : OneOfEach settings) where
   lines_once : (journal : Journal) (es : List Event) (text other : List ℕ) → AreWithoutChoice settings journal es → AreLines settings journal es text → AreLines settings journal es other → text ≡ other
   unfolding AreLines AreWithoutChoice
   lines_once journal [] text other without is is' = is ∙ sym is'
-  lines_once journal (Comes frame ∷ es) text other without are are' = lines_once (passes frame ∷ journal) es text other without are are'
-  lines_once journal (Asks number request ∷ es) text other (nothing, others) (line, rest, after, answer, is, are) (line', rest', after', answer', is', are') =
-      let (same, stays) = line_once journal number request line line' after after' nothing answer answer' in
+  lines_once journal (Comes frame ∷ es) text other without (notes, rest, ready, advanced, is, are) (notes', rest', ready', advanced', is', are') =
+      let (same, stays) = advanced_once frame.moment journal notes notes' ready ready' advanced advanced' in
+      let more : rest ≡ rest' = lines_once (passes frame ∷ ready) es rest rest' (without notes ready advanced) are (subst (λ (j : Journal). AreLines settings (passes frame ∷ j) es rest') (sym stays) are') in
+      is ∙ ap (λ (n : List Note). trap_lines n ++ rest) same ∙ ap (λ (r : List ℕ). trap_lines notes' ++ r) more ∙ sym is'
+  lines_once journal (Asks number request ∷ es) text other without (notes, line, rest, ready, after, advanced, answer, is, are) (notes', line', rest', ready', after', advanced', answer', is', are') =
+      let (told, readies) = advanced_once request.moment journal notes notes' ready ready' advanced advanced' in
+      let (nothing, others) = without notes ready advanced in
+      let (same, stays) = line_once ready number request line line' after after' nothing answer (subst (λ (j : Journal). IsAnswer settings j number request line' after') (sym readies) answer') in
       let more : rest ≡ rest' = lines_once after es rest rest' (others line after answer) are (subst (λ (j : Journal). AreLines settings j es rest') (sym stays) are') in
-      is ∙ ap (λ (l : List ℕ). l ++ rest) same ∙ ap (λ (r : List ℕ). line' ++ r) more ∙ sym is'
+      is ∙ ap (λ (n : List Note). trap_lines n ++ (line ++ rest)) told ∙ ap (λ (l : List ℕ). trap_lines notes' ++ (l ++ rest)) same ∙ ap (λ (r : List ℕ). trap_lines notes' ++ (line' ++ r)) more ∙ sym is'
 
   pub text_once : (frames : List Frame) (stop : Stop) (requests : List TimedDatagram) (text other : List ℕ) → AreWithoutChoice settings [] (events 1 frames requests) → IsText settings frames stop requests text → IsText settings frames stop requests other → text ≡ other
   text_once frames stop requests text other without is is' =

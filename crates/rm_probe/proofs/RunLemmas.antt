@@ -1,70 +1,28 @@
 -- What a run has written so far.
-use Rattle.std.proofs.Common.{◌≡◌, Bool, true, ℕ, ◌+◌, ◌-◌, ◌<◌, ◌≤◌, List, [], ◌∷◌, ◌++◌, length, take, Option, Some, None, Result, Ok, Err, refl, sym, ap, subst, ◌∙◌, arith, take_while, append_assoc, min, ◌^◌}
+use Rattle.std.proofs.Common.{◌≡◌, ℕ, ◌+◌, ◌-◌, ◌<◌, ◌≤◌, List, [], ◌∷◌, ◌++◌, length, take, Option, Result, Ok, Err, refl, sym, ap, subst, ◌∙◌, arith, take_while, append_assoc, min, ◌^◌}
 use Rattle.std.proofs.lemmas.List.{append-nil}
 use Rattle.std.specs.Str.Lines.{lines}
 use Rattle.rm_edge.specs.Outside.{Adds, AddsFront, Held, File}
-use Rattle.rm_model.specs.Journal.{Frame, Journal, passes, after_frames}
-use Rattle.rm_pdu.specs.Message.{Message}
-use Rattle.rm_pdu.specs.Verdict.{Verdict, too_long, malformed, other_version, not_request, message, IsVerdict}
+use Rattle.rm_model.specs.Journal.{Frame, Journal}
 use Rattle.rm_probe.specs.Lines.{TimedDatagram, requests_from, requests_of, AreRequests, with_first}
 use Rattle.rm_pcap.specs.Records.{Stop}
 use Rattle.rm_pcap.specs.Progress.{Progress}
 use Rattle.rm_probe.specs.Capture.{IsFaultless}
 use Rattle.rm_probe.specs.declared.status.Status.{Status}
 use Rattle.rm_probe.specs.declared.status.Status.TheVariants.{Done, Usage, BadCapture, BadRequests, ReadFault, WriteFault, NoMemory, LinkFault, TooLong}
-use Rattle.rm_probe.specs.Events.{Event, Comes, Asks, is_by, frames_after, events, comings}
-use Rattle.rm_probe.specs.Text.{IsAnswered, dropped, replied, IsAnswer, AreLines, IsText, last_line}
+use Rattle.rm_probe.specs.Events.{Event, Asks, is_by, frames_after, events, comings}
+use Rattle.rm_probe.specs.Text.{AreLines, IsText, last_line}
 use Rattle.rm_agent.specs.declared.settings.Settings.{Settings}
-use Rattle.rm_agent.specs.Answers.{reason_for, IsReplyAfter}
-use Rattle.rm_agent.specs.declared.answer.Reason.{Reason}
 use Rattle.rm_probe.specs.Probe.{settings_of, last_given, Stands}
-use Rattle.rm_probe.specs.Steps.{IsNextLine, Keeps, Leaves, WritesLine, Writes, done}
+use Rattle.rm_probe.specs.Steps.{HasBegun, IsLastLine, IsNextLine, Keeps, Leaves, WritesLine, Writes, done}
 use Rattle.rm_probe.specs.declared.probe.Probe.{Probe}
-use Rattle.rm_probe.specs.Notes.{adds_none}
+use Rattle.rm_probe.specs.Notes.{Note, trap_lines, adds_none}
 use Rattle.rm_probe.proofs.NoteLemmas.{adds_then, front_of}
+use Rattle.rm_agent.specs.Orderly.{IsOrderly}
+use Rattle.rm_probe.proofs.PassingLemmas.{SomeLines, all_frames, more_comings, begun_lines}
 use Rattle.rm_probe.proofs.JudgeLemmas.{SameJudged}
 
--- each datagram is something, and has a reply if it isn't dropped
-pub record EveryDatagram : Type 0 where
-  pub verdict : (requests : Bool) (bytes : List ℕ) → (v : Verdict) × IsVerdict requests bytes v
-  pub reply : (settings : Settings) (journal : Journal) (now : ℕ) (datagram : List ℕ) (request : Message) → IsVerdict true datagram (message request)
-      → reason_for settings (message request) ≡ None → (reply : Message) × (after : Journal) × IsReplyAfter settings journal now request reply after
-
-what_is_said : EveryDatagram → (settings : Settings) (journal : Journal) (moment : ℕ) (datagram : List ℕ) (v : Verdict) (reason : Option Reason) → IsVerdict true datagram v → reason_for settings v ≡ reason
-    → (text : List ℕ) × (after : Journal) × IsAnswered settings journal moment datagram text after
-what_is_said every settings journal moment datagram v (Some reason) is why = (_, journal, dropped v reason is why refl refl)
-what_is_said every settings journal moment datagram (message request) None is why =
-    let (reply, after, replies) = every.reply settings journal moment datagram request is why in
-    (_, after, replied request reply is why replies refl)
-what_is_said every settings journal moment datagram too_long None is why = absurd cc
-what_is_said every settings journal moment datagram (malformed at) None is why = absurd cc
-what_is_said every settings journal moment datagram (other_version z) None is why = absurd cc
-what_is_said every settings journal moment datagram (not_request tag) None is why = absurd cc
-
--- so each has a line
-a_line : EveryDatagram → (settings : Settings) (journal : Journal) (number : ℕ) (request : TimedDatagram) → (line : List ℕ) × (after : Journal) × IsAnswer settings journal number request line after
-unfolding IsAnswer
-a_line every settings journal number request =
-    let (v, is) = every.verdict true request.datagram in
-    let (text, after, said) = what_is_said every settings journal request.moment request.datagram v (reason_for settings v) is refl in
-    (_, after, (text, said, refl))
-
 module _ (settings : Settings) where
-  -- frames that come, and what follows them
-  lines_after : (journal : Journal) (frames : List Frame) (es : List Event) (text : List ℕ) → AreLines settings (after_frames frames journal) es text → AreLines settings journal (comings frames ++ es) text
-  unfolding AreLines
-  lines_after journal [] es text h = h
-  lines_after journal (f ∷ fs) es text h = lines_after (passes f ∷ journal) fs es text h
-
-  some_lines : EveryDatagram → (journal : Journal) (es : List Event) → (text : List ℕ) × AreLines settings journal es text
-  unfolding AreLines
-  some_lines every journal [] = ([], refl)
-  some_lines every journal (Comes f ∷ es) = some_lines every (passes f ∷ journal) es
-  some_lines every journal (Asks number request ∷ es) =
-      let a = a_line every settings journal number request in
-      let r = some_lines every a.1 es in
-      (a.0 ++ r.0, (a.0, r.0, a.1, a.2, refl, r.1))
-
   -- The octets so far, and whatever may be written for what is left, may be written for all.
   pub record InRun (old new : Option (List ℕ)) (bytes : List ℕ) (frames : List Frame) (stop : Stop) (requests : List TimedDatagram) (progress : Progress) (number last : ℕ) (lines_left : List ℕ) (probe : Probe) : Type 0 where
     pub sofar : List ℕ
@@ -106,7 +64,6 @@ module _ (settings : Settings) where
   unfolding AreLines events
   next_line old new bytes frames stop requests progress number last lines_left probe request number' last' lines_left' progress' probe' line r takes one next =
       let w = with_first_ok request (requests_from number' last' (lines lines_left')) r.asked (sym takes ∙ r.requests_left) in
-      let j : Journal = after_frames (take_while (is_by request.moment) r.left) r.journal in
       record {
         sofar = r.sofar;
         journal = next.after;
@@ -117,11 +74,9 @@ module _ (settings : Settings) where
         stands = next.stands;
         added = r.added;
         goes = λ text h.
-            let here : AreLines settings j (Asks number request ∷ events (number + 1) (frames_after request.moment r.left) w.0) (line ++ text) =
-            (line, text, next.after, next.answer, refl, subst (λ (n : ℕ). AreLines settings next.after (events n (frames_after request.moment r.left) w.0) text) one h) in
-            let before : AreLines settings r.journal (events number r.left (request ∷ w.0)) (line ++ text) =
-            lines_after r.journal (take_while (is_by request.moment) r.left) (Asks number request ∷ events (number + 1) (frames_after request.moment r.left) w.0) (line ++ text) here in
-            let all = r.goes (line ++ text) (subst (λ (rs : List TimedDatagram). AreLines settings r.journal (events number r.left rs) (line ++ text)) (sym w.2) before) in
+            let here : AreLines settings r.journal (events number r.left (request ∷ w.0)) (line ++ text) =
+            next.goes (events (number + 1) (frames_after request.moment r.left) w.0) text (subst (λ (n : ℕ). AreLines settings next.after (events n (frames_after request.moment r.left) w.0) text) one h) in
+            let all = r.goes (line ++ text) (subst (λ (rs : List TimedDatagram). AreLines settings r.journal (events number r.left rs) (line ++ text)) (sym w.2) here) in
             subst (λ (t : List ℕ). AreLines settings [] (events 1 frames requests) t) (sym (append_assoc r.sofar line text)) all;
         frame_count = next.count ∙ r.frame_count;
         request_count = omega (arith, one, r.request_count, ap length w.2);
@@ -147,11 +102,11 @@ module _ (settings : Settings) where
       }
 
   -- the line is put in part
-  pub line_cut : EveryDatagram → (old new next : Option (List ℕ)) (bytes : List ℕ) (frames : List Frame) (stop : Stop) (requests : List TimedDatagram) (progress : Progress) (number last : ℕ) (lines_left : List ℕ) (probe : Probe) (line : List ℕ)
+  pub line_cut : SomeLines → (old new next : Option (List ℕ)) (bytes : List ℕ) (frames : List Frame) (stop : Stop) (requests : List TimedDatagram) (progress : Progress) (number last : ℕ) (lines_left : List ℕ) (probe : Probe) (line : List ℕ)
       → NextLine old new bytes frames stop requests progress number last lines_left probe line → AddsFront new next line
       → (text : List ℕ) × IsText settings frames stop requests text × AddsFront old next text
   line_cut every old new next bytes frames stop requests progress number last lines_left probe line n put =
-      let m = some_lines every n.journal (events number n.left n.asked) in
+      let m = every settings n.journal n.stands.orderly (events number n.left n.asked) in
       let e = last_line stop (length frames) (length requests) in
       let text : List ℕ = ((n.sofar ++ line) ++ m.0) ++ e in
       let parts : text ≡ n.sofar ++ (line ++ (m.0 ++ e)) = simp append_assoc in (
@@ -163,76 +118,84 @@ module _ (settings : Settings) where
         ),
       )
 
-  no_lines : (journal : Journal) (frames : List Frame) → AreLines settings journal (comings frames) []
-  unfolding AreLines
-  no_lines journal [] = refl
-  no_lines journal (f ∷ fs) = no_lines (passes f ∷ journal) fs
-
-  -- the lines of all requests are put
-  pub record AllPut (old new : Option (List ℕ)) (frames : List Frame) (requests : List TimedDatagram) (number : ℕ) : Type 0 where
-    pub lines : List ℕ
-    pub are_lines : AreLines settings [] (events 1 frames requests) lines
-    pub added : Adds old new lines
+  -- the lines of all requests are put, and those of the notifications after them may follow
+  pub record AllPut (old new : Option (List ℕ)) (frames : List Frame) (requests : List TimedDatagram) (number : ℕ) (behind : List ℕ) : Type 0 where
+    pub sofar : List ℕ
+    pub are_lines : AreLines settings [] (events 1 frames requests) (sofar ++ behind)
+    pub added : Adds old new sofar
     pub request_count : number ≡ 1 + length requests
 
-  pub all_put : (old new : Option (List ℕ)) (bytes : List ℕ) (frames : List Frame) (stop : Stop) (requests : List TimedDatagram) (progress : Progress) (number last : ℕ) (lines_left : List ℕ) (probe : Probe)
-      → InRun old new bytes frames stop requests progress number last lines_left probe
-      → requests_from number last (lines lines_left) ≡ Ok [] → AllPut old new frames requests number
+  pub all_put : (old new : Option (List ℕ)) (bytes : List ℕ) (frames : List Frame) (stop : Stop) (requests : List TimedDatagram) (progress : Progress) (number last : ℕ) (lines_left : List ℕ) (probe : Probe) (behind : List ℕ)
+      → (r : InRun old new bytes frames stop requests progress number last lines_left probe)
+      → requests_from number last (lines lines_left) ≡ Ok [] → AreLines settings r.journal (comings r.left) behind → AllPut old new frames requests number behind
   unfolding events
-  all_put old new bytes frames stop requests progress number last lines_left probe r none =
+  all_put old new bytes frames stop requests progress number last lines_left probe behind r none are =
       let asked : r.asked ≡ [] = let e = sym none ∙ r.requests_left in cc in
-      let here : AreLines settings r.journal (events number r.left r.asked) [] = rw asked (no_lines r.journal r.left) in
+      let here : AreLines settings r.journal (events number r.left r.asked) behind = rw asked are in
       record {
-        lines = r.sofar ++ [];
-        are_lines = r.goes [] here;
-        added = rw append-nil r.added;
+        sofar = r.sofar;
+        are_lines = r.goes behind here;
+        added = r.added;
         request_count = omega (arith, r.request_count, ap length asked);
       }
 
+  -- the text with the last line
+  text_is : (old new : Option (List ℕ)) (frames : List Frame) (stop : Stop) (requests : List TimedDatagram) (taken number : ℕ) (behind line : List ℕ)
+      → (a : AllPut old new frames requests number behind) → taken ≡ length frames → line ≡ behind ++ last_line stop taken (number - 1) → IsText settings frames stop requests (a.sofar ++ line)
+  text_is old new frames stop requests taken number behind line a all is =
+      let n : number - 1 ≡ length requests = omega (arith, a.request_count) in
+      record {
+        lines = a.sofar ++ behind;
+        are_lines = a.are_lines;
+        whole = ap (λ (t : List ℕ). a.sofar ++ t) (is ∙ ap (λ (k : ℕ). behind ++ last_line stop taken k) n ∙ ap (λ (k : ℕ). behind ++ last_line stop k (length requests)) all)
+            ∙ sym (append_assoc a.sofar behind (last_line stop (length frames) (length requests)));
+      }
+
   -- the last line is put
-  pub text_put : (old new next : Option (List ℕ)) (frames : List Frame) (stop : Stop) (requests : List TimedDatagram) (taken number : ℕ) (line : List ℕ)
-      → AllPut old new frames requests number → taken ≡ length frames → line ≡ last_line stop taken (number - 1) → Adds new next line
+  pub text_put : (old new next : Option (List ℕ)) (frames : List Frame) (stop : Stop) (requests : List TimedDatagram) (taken number : ℕ) (behind line : List ℕ)
+      → AllPut old new frames requests number behind → taken ≡ length frames → line ≡ behind ++ last_line stop taken (number - 1) → Adds new next line
       → (text : List ℕ) × IsText settings frames stop requests text × Adds old next text
-  text_put old new next frames stop requests taken number line a all is put =
-      let n : number - 1 ≡ length requests = omega (arith, a.request_count) in (
-        a.lines ++ line,
-        record { lines = a.lines; are_lines = a.are_lines; whole = ap (λ (t : List ℕ). a.lines ++ t) (is ∙ ap (λ (k : ℕ). last_line stop taken k) n ∙ ap (λ (k : ℕ). last_line stop k (length requests)) all) },
-        adds_then old new next a.lines line a.added put,
-      )
+  text_put old new next frames stop requests taken number behind line a all is put =
+      (a.sofar ++ line, text_is old new frames stop requests taken number behind line a all is, adds_then old new next a.sofar line a.added put)
 
   -- the last line is put in part
-  pub text_cut : (old new next : Option (List ℕ)) (frames : List Frame) (stop : Stop) (requests : List TimedDatagram) (taken number : ℕ) (line : List ℕ)
-      → AllPut old new frames requests number → taken ≡ length frames → line ≡ last_line stop taken (number - 1) → AddsFront new next line
+  pub text_cut : (old new next : Option (List ℕ)) (frames : List Frame) (stop : Stop) (requests : List TimedDatagram) (taken number : ℕ) (behind line : List ℕ)
+      → AllPut old new frames requests number behind → taken ≡ length frames → line ≡ behind ++ last_line stop taken (number - 1) → AddsFront new next line
       → (text : List ℕ) × IsText settings frames stop requests text × AddsFront old next text
-  text_cut old new next frames stop requests taken number line a all is put =
-      let n : number - 1 ≡ length requests = omega (arith, a.request_count) in
-      let parts : a.lines ++ line ≡ a.lines ++ (line ++ []) = ap (λ (t : List ℕ). a.lines ++ t) (sym (append-nil line)) in (
-        a.lines ++ line,
-        record { lines = a.lines; are_lines = a.are_lines; whole = ap (λ (t : List ℕ). a.lines ++ t) (is ∙ ap (λ (k : ℕ). last_line stop taken k) n ∙ ap (λ (k : ℕ). last_line stop k (length requests)) all) },
+  text_cut old new next frames stop requests taken number behind line a all is put =
+      let parts : a.sofar ++ line ≡ a.sofar ++ (line ++ []) = ap (λ (t : List ℕ). a.sofar ++ t) (sym (append-nil line)) in (
+        a.sofar ++ line,
+        text_is old new frames stop requests taken number behind line a all is,
         (
-          length a.lines + min put.0 (length line),
-          rw (parts, front_of put.0 a.lines line []) (adds_then old new next a.lines (take put.0 line) a.added put.1),
+          length a.sofar + min put.0 (length line),
+          rw (parts, front_of put.0 a.sofar line []) (adds_then old new next a.sofar (take put.0 line) a.added put.1),
         ),
       )
 
-  -- a run that stops after so many lines has written a front
-  text_stopped : EveryDatagram → (old new next : Option (List ℕ)) (bytes : List ℕ) (frames : List Frame) (stop : Stop) (requests : List TimedDatagram) (progress : Progress) (number last : ℕ) (lines_left : List ℕ) (probe : Probe)
-      → InRun old new bytes frames stop requests progress number last lines_left probe → AddsFront new next []
+  -- a run that stops after so many lines, and a front of those of some notifications, has written a front
+  pub text_stopped : SomeLines → (old new next : Option (List ℕ)) (bytes : List ℕ) (frames : List Frame) (stop : Stop) (requests : List TimedDatagram) (progress : Progress) (number last : ℕ) (lines_left : List ℕ) (probe : Probe)
+      (moment : ℕ) (es : List Event) (notes : List Note)
+      → (r : InRun old new bytes frames stop requests progress number last lines_left probe) → comings (take_while (is_by moment) r.left) ++ es ≡ events number r.left r.asked
+      → HasBegun settings moment r.left r.journal notes → AddsFront new next (trap_lines notes)
       → (text : List ℕ) × IsText settings frames stop requests text × AddsFront old next text
-  text_stopped every old new next bytes frames stop requests progress number last lines_left probe r (n, added) =
-      let m = some_lines every r.journal (events number r.left r.asked) in
+  text_stopped every old new next bytes frames stop requests progress number last lines_left probe moment es notes r left begun (n, added) =
+      let m = begun_lines settings every moment r.left r.journal notes es begun in
       let e = last_line stop (length frames) (length requests) in
-      let all = adds_then old new next r.sofar (take n []) r.added added in
-      let whole : r.sofar ++ take {A = ℕ} n [] ≡ take (length r.sofar + min n 0) (r.sofar ++ ([] ++ (m.0 ++ e))) = sym (front_of n r.sofar [] (m.0 ++ e)) in (
-        (r.sofar ++ m.0) ++ e,
-        record { lines = r.sofar ++ m.0; are_lines = r.goes m.0 m.1; whole = refl },
-        (length r.sofar + min n 0, rw (append_assoc r.sofar m.0 e) (subst (λ (t : List ℕ). Adds old next t) whole all)),
+      let line : List ℕ = trap_lines notes in
+      let text : List ℕ = (r.sofar ++ (line ++ m.0)) ++ e in
+      let parts : text ≡ r.sofar ++ (line ++ (m.0 ++ e)) = simp append_assoc in (
+        text,
+        record { lines = r.sofar ++ (line ++ m.0); are_lines = r.goes (line ++ m.0) (subst (λ (es : List Event). AreLines settings r.journal es (line ++ m.0)) left m.1); whole = refl },
+        (
+          length r.sofar + min n (length line),
+          rw (parts, front_of n r.sofar line (m.0 ++ e)) (adds_then old new next r.sofar (take n line) r.added added),
+        ),
       )
 
   -- a run that has written nothing has written a front
-  pub text_none : EveryDatagram → (old : Option (List ℕ)) (frames : List Frame) (stop : Stop) (requests : List TimedDatagram) → (text : List ℕ) × IsText settings frames stop requests text × AddsFront old old text
-  text_none every old frames stop requests =
-      let m = some_lines every [] (events 1 frames requests) in
+  pub text_none : SomeLines → IsOrderly [] → (old : Option (List ℕ)) (frames : List Frame) (stop : Stop) (requests : List TimedDatagram) → (text : List ℕ) × IsText settings frames stop requests text × AddsFront old old text
+  text_none every orderly old frames stop requests =
+      let m = every settings [] orderly (events 1 frames requests) in
       (m.0 ++ last_line stop (length frames) (length requests), record { lines = m.0; are_lines = m.1; whole = refl }, (0, adds_none old))
 
   pub run_begin : (old : Option (List ℕ)) (bytes : List ℕ) (frames : List Frame) (stop : Stop) (asked : List TimedDatagram) (progress : Progress) (requests : List ℕ) (probe : Probe)
@@ -254,16 +217,19 @@ module _ (settings : Settings) where
       }
 
   -- the line of a datagram isn't put whole
-  pub answer_stops : EveryDatagram → (old new next : Option (List ℕ)) (bytes : List ℕ) (frames : List Frame) (stop : Stop) (requests : List TimedDatagram) (progress : Progress) (number last : ℕ) (lines_left : List ℕ) (probe : Probe)
+  pub answer_stops : SomeLines → (old new next : Option (List ℕ)) (bytes : List ℕ) (frames : List Frame) (stop : Stop) (requests : List TimedDatagram) (progress : Progress) (number last : ℕ) (lines_left : List ℕ) (probe : Probe)
       (request : TimedDatagram) (number' last' : ℕ) (lines_left' : List ℕ) (progress' : Progress) (probe' : Probe)
       → (r : InRun old new bytes frames stop requests progress number last lines_left probe)
       → requests_from number last (lines lines_left) ≡ with_first request (requests_from number' last' (lines lines_left')) → number' ≡ number + 1 → IsFaultless stop → (status : Status)
-      → WritesLine {T = Unit {0}} (IsNextLine bytes progress progress' settings probe' number request r.left stop r.journal) stop new next (Err status) → Writes settings frames stop requests old next status
+      → WritesLine {T = Unit {0}} (IsNextLine bytes progress progress' settings probe' number request r.left stop r.journal) (HasBegun settings request.moment r.left r.journal) stop new next (Err status) → Writes settings frames stop requests old next status
+  unfolding events
   answer_stops every old new next bytes frames stop requests progress number last lines_left probe request number' last' lines_left' progress' probe' r takes one faultless WriteFault (line, is, put) =
       line_cut every old new next bytes frames stop requests progress' number' last' lines_left' probe' line
       (next_line old new bytes frames stop requests progress number last lines_left probe request number' last' lines_left' progress' probe' line r takes one is) put
-  answer_stops every old new next bytes frames stop requests progress number last lines_left probe request number' last' lines_left' progress' probe' r takes one faultless ReadFault front =
-      text_stopped every old new next bytes frames stop requests progress number last lines_left probe r front
+  answer_stops every old new next bytes frames stop requests progress number last lines_left probe request number' last' lines_left' progress' probe' r takes one faultless ReadFault (notes, begun, front) =
+      let w = with_first_ok request (requests_from number' last' (lines lines_left')) r.asked (sym takes ∙ r.requests_left) in
+      text_stopped every old new next bytes frames stop requests progress number last lines_left probe request.moment (Asks number request ∷ events (number + 1) (frames_after request.moment r.left) w.0) notes r
+      (ap (events number r.left) (sym w.2)) begun front
   answer_stops every old new next bytes frames stop requests progress number last lines_left probe request number' last' lines_left' progress' probe' r takes one faultless Done (fault, is, status) = absurd (subst (λ (s : Stop). IsFaultless s) is faultless)
   answer_stops every old new next bytes frames stop requests progress number last lines_left probe request number' last' lines_left' progress' probe' r takes one faultless Usage (fault, is, status) = absurd (subst (λ (s : Stop). IsFaultless s) is faultless)
   answer_stops every old new next bytes frames stop requests progress number last lines_left probe request number' last' lines_left' progress' probe' r takes one faultless (BadCapture at) (fault, is, status) = absurd (subst (λ (s : Stop). IsFaultless s) is faultless)
@@ -273,15 +239,18 @@ module _ (settings : Settings) where
   answer_stops every old new next bytes frames stop requests progress number last lines_left probe request number' last' lines_left' progress' probe' r takes one faultless TooLong (fault, is, status) = absurd (subst (λ (s : Stop). IsFaultless s) is faultless)
 
   -- the last line is put, or isn't put whole
-  pub last_written : EveryDatagram → (old new next : Option (List ℕ)) (bytes : List ℕ) (frames : List Frame) (stop : Stop) (requests : List TimedDatagram) (progress : Progress) (number last : ℕ) (lines_left : List ℕ) (probe : Probe)
+  pub last_written : SomeLines → (old new next : Option (List ℕ)) (bytes : List ℕ) (frames : List Frame) (stop : Stop) (requests : List TimedDatagram) (progress : Progress) (number last : ℕ) (lines_left : List ℕ) (probe : Probe)
       → (r : InRun old new bytes frames stop requests progress number last lines_left probe) → requests_from number last (lines lines_left) ≡ Ok [] → IsFaultless stop → (status : Status)
-      → WritesLine (λ line. line ≡ last_line stop (progress.reach.count + length r.left) (number - 1)) stop new next (done status) → Writes settings frames stop requests old next status
-  last_written every old new next bytes frames stop requests progress number last lines_left probe r none faultless Done (line, is, put) =
-      text_put old new next frames stop requests (progress.reach.count + length r.left) number line (all_put old new bytes frames stop requests progress number last lines_left probe r none) r.frame_count is put
-  last_written every old new next bytes frames stop requests progress number last lines_left probe r none faultless WriteFault (line, is, put) =
-      text_cut old new next frames stop requests (progress.reach.count + length r.left) number line (all_put old new bytes frames stop requests progress number last lines_left probe r none) r.frame_count is put
-  last_written every old new next bytes frames stop requests progress number last lines_left probe r none faultless ReadFault front =
-      text_stopped every old new next bytes frames stop requests progress number last lines_left probe r front
+      → WritesLine (IsLastLine settings progress.reach.count (number - 1) r.left stop r.journal) (HasBegun settings 4294967295 r.left r.journal) stop new next (done status) → Writes settings frames stop requests old next status
+  unfolding events
+  last_written every old new next bytes frames stop requests progress number last lines_left probe r none faultless Done (line, (behind, are, is), put) =
+      text_put old new next frames stop requests (progress.reach.count + length r.left) number behind line (all_put old new bytes frames stop requests progress number last lines_left probe behind r none are) r.frame_count is put
+  last_written every old new next bytes frames stop requests progress number last lines_left probe r none faultless WriteFault (line, (behind, are, is), put) =
+      text_cut old new next frames stop requests (progress.reach.count + length r.left) number behind line (all_put old new bytes frames stop requests progress number last lines_left probe behind r none are) r.frame_count is put
+  last_written every old new next bytes frames stop requests progress number last lines_left probe r none faultless ReadFault (notes, begun, front) =
+      let asked : r.asked ≡ [] = let e = sym none ∙ r.requests_left in cc in
+      text_stopped every old new next bytes frames stop requests progress number last lines_left probe 4294967295 (comings (frames_after 4294967295 r.left)) notes r
+      (sym (more_comings (take_while (is_by 4294967295) r.left) (frames_after 4294967295 r.left)) ∙ ap comings (all_frames 4294967295 r.left) ∙ ap (events number r.left) (sym asked)) begun front
   last_written every old new next bytes frames stop requests progress number last lines_left probe r none faultless Usage (fault, is, status) = absurd (subst (λ (s : Stop). IsFaultless s) is faultless)
   last_written every old new next bytes frames stop requests progress number last lines_left probe r none faultless (BadCapture at) (fault, is, status) = absurd (subst (λ (s : Stop). IsFaultless s) is faultless)
   last_written every old new next bytes frames stop requests progress number last lines_left probe r none faultless (BadRequests at) (fault, is, status) = absurd (subst (λ (s : Stop). IsFaultless s) is faultless)

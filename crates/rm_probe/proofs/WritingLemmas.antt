@@ -1,88 +1,117 @@
 -- Lines that are written one at a time.
-use Rattle.std.proofs.Common.{◌≡◌, ◌⊎◌, inl, inr, ℕ, zero, suc, ◌≤◌, Bool, true, false, List, [], take, take_while, Option, Result, Ok, Err, refl, sym, subst, arith}
-use Rattle.std.specs.Result.{IsErrAnd}
+use Rattle.std.proofs.Common.{◌≡◌, ◌⊎◌, inl, inr, ℕ, ◌+◌, ◌≤◌, min, Bool, true, false, List, [], ◌∷◌, ◌++◌, length, take, take_while, Option, Ok, Err, refl, sym, ap, subst, ◌∙◌, arith, append_assoc}
+use Rattle.std.proofs.lemmas.List.{append-nil}
 use Rattle.rm_edge.specs.Outside.{Adds, AddsFront, Rose}
-use Rattle.rm_model.specs.Journal.{Frame, Journal, after_frames}
+use Rattle.rm_model.specs.Journal.{Frame, Journal}
 use Rattle.rm_pcap.specs.Records.{Stop, Broken}
 use Rattle.rm_pcap.specs.Progress.{Progress}
+use Rattle.rm_agent.specs.declared.settings.Settings.{Settings}
 use Rattle.rm_pcap.specs.declared.fault.PcapFault.{PcapFault}
 use Rattle.rm_pcap.specs.declared.fault.PcapFault.TheVariants.{Magic, Version, LinkType, Included, Original, Late, TooMany, Read, NoMemory as OutOfMemory}
-use Rattle.rm_agent.specs.declared.settings.Settings.{Settings}
 use Rattle.rm_probe.specs.Capture.{status_of}
-use Rattle.rm_probe.specs.Events.{is_by}
+use Rattle.rm_probe.specs.Advance.{IsAdvanced}
+use Rattle.rm_probe.specs.Events.{Asks, comings, is_by}
 use Rattle.rm_probe.specs.Lines.{TimedDatagram}
-use Rattle.rm_probe.specs.Notes.{HasNoted}
+use Rattle.rm_probe.specs.Notes.{Note, trap_lines, HasNoted}
 use Rattle.rm_probe.specs.Probe.{settings_of, Stands}
-use Rattle.rm_probe.specs.Steps.{Advanced, Advances, Answers, Finishes, IsNextLine, IsOfRecord, Leaves, WritesLine, done}
-use Rattle.rm_probe.specs.Text.{IsAnswer}
+use Rattle.rm_probe.specs.Steps.{HasBegun, Advanced, Advances, Answers, Finishes, IsNextLine, IsOfRecord, Leaves, WritesLine, done}
+use Rattle.rm_probe.specs.Text.{IsAnswer, AreLines}
 use Rattle.rm_probe.specs.declared.probe.Probe.{Probe}
-use Rattle.rm_probe.specs.declared.status.Status.{Status}
+use Rattle.rm_probe.proofs.NoteLemmas.{HasPut, adds_then, front_of, front_more}
+use Rattle.rm_probe.proofs.PassingLemmas.{more_traps, lines_after}
 
-take_of_none : (n : ℕ) → take {A = ℕ} n [] ≡ []
-take_of_none zero = refl
-take_of_none (suc n) = refl
+-- notifications, and then a line that is put
+pub line_behind : (old mid new : Option (List ℕ)) (before between after : ℕ) (failed failed' failed'' : Bool) (notes : List Note) (line : List ℕ) (done : Unit {0})
+    → HasNoted old mid before between failed failed' notes → HasPut {T = Unit {0}} {E = Unit {0}} mid new between after failed' failed'' line (Ok done) → Adds old new (trap_lines notes ++ line)
+line_behind old mid new before between after failed failed' failed'' notes line done noted put = adds_then old mid new (trap_lines notes) line (noted.whole put.first) put.octets
 
--- where no notification came, nothing was added
-pub not_noted : (old new : Option (List ℕ)) (faults faults' : ℕ) (failed failed' : Bool) → HasNoted old new faults faults' failed failed' [] → Adds old new []
-not_noted old new faults faults' failed failed' noted = let (n, added) = noted.front in subst (λ (t : List ℕ). Adds old new t) (take_of_none n) added
+-- and one that isn't put whole
+pub front_behind : {E : Type 0} (old mid new : Option (List ℕ)) (before between after : ℕ) (failed failed' failed'' : Bool) (notes : List Note) (line : List ℕ) (fault : E)
+    → HasNoted old mid before between failed failed' notes → HasPut {T = Unit {0}} {E = E} mid new between after failed' failed'' line (Err fault) → AddsFront old new (trap_lines notes ++ line)
+front_behind old mid new before between after failed true failed'' notes line fault noted put = rw (put.stays refl) (front_more old mid (trap_lines notes) line noted.front)
+front_behind old mid new before between after failed false failed'' notes line fault noted put =
+    let (n, added) = put.octets in (
+      length (trap_lines notes) + min n (length line),
+      rw (ap (λ (t : List ℕ). trap_lines notes ++ t) (sym (append-nil line)), front_of n (trap_lines notes) line []) (adds_then old mid new (trap_lines notes) (take n line) (noted.whole refl) added),
+    )
 
 -- a put that failed after an earlier one hadn't
-pub put_rose : (faults between faults' : ℕ) (old new old' : Option (List ℕ)) (failed' : Bool) → HasNoted old new faults between false failed' [] → (failed' ≡ true) ⊎ Rose between faults' → between ≤ faults' → Rose faults faults'
-put_rose faults between faults' old new old' failed' noted (inr rose) later = omega (arith, rose, noted.later)
-put_rose faults between faults' old new old' failed' noted (inl failed) later = noted_rose (noted.cause failed)
+pub put_rose : (faults between faults' : ℕ) (old new : Option (List ℕ)) (failed' : Bool) (notes : List Note) → HasNoted old new faults between false failed' notes → (failed' ≡ true) ⊎ Rose between faults' → between ≤ faults' → Rose faults faults'
+put_rose faults between faults' old new failed' notes noted (inr rose) later = omega (arith, rose, noted.later)
+put_rose faults between faults' old new failed' notes noted (inl failed) later = noted_rose (noted.cause failed)
   where
     noted_rose : (false ≡ true) ⊎ Rose faults between → Rose faults faults'
     noted_rose (inl e) = absurd cc
     noted_rose (inr rose) = omega (arith, rose, later)
 
 -- the next line, after the frames up to the moment of its datagram
-pub next_is : (bytes : List ℕ) (old new : Progress) (settings : Settings) (probe probe' : Probe) (number : ℕ) (request : TimedDatagram) (frames : List Frame) (stop : Stop) (journal : Journal) (line : List ℕ)
-    → Advanced request.moment bytes new probe old.reach.count frames stop journal → settings_of probe ≡ settings → Answers probe probe' number request line
-    → IsNextLine bytes old new settings probe' number request frames stop journal line
-next_is bytes old new settings probe probe' number request frames stop journal line advanced same answers =
-    let (after, answer, stands) = answers (after_frames (take_while (is_by request.moment) frames) journal) advanced.stands in
-    record { left = advanced.left; count = advanced.count; after = after; answer = subst (λ (s : Settings). IsAnswer s (after_frames (take_while (is_by request.moment) frames) journal) number request line after) same answer; stands = stands }
+pub next_is : (bytes : List ℕ) (old new : Progress) (settings : Settings) (probe probe' : Probe) (number : ℕ) (request : TimedDatagram) (frames : List Frame) (stop : Stop) (journal : Journal) (passed told : List Note) (line : List ℕ)
+    → Advanced settings request.moment bytes new probe old.reach.count frames stop journal passed → settings_of probe ≡ settings → Answers probe probe' number request told line
+    → IsNextLine bytes old new settings probe' number request frames stop journal (trap_lines (passed ++ told) ++ line)
+unfolding AreLines
+next_is bytes old new settings probe probe' number request frames stop journal passed told line advanced same answers =
+    let (ready, after, is, answer, stands) = answers advanced.reached advanced.stands in
+    record {
+      left = advanced.left;
+      count = advanced.count;
+      after = after;
+      goes = λ more text lines.
+          let here : AreLines settings advanced.reached (Asks number request ∷ more) (trap_lines told ++ (line ++ text)) = (
+            told,
+            line,
+            text,
+            ready,
+            after,
+            subst (λ (s : Settings). IsAdvanced s request.moment advanced.reached told ready) same is,
+            subst (λ (s : Settings). IsAnswer s ready number request line after) same answer,
+            refl,
+            lines,
+          ) in
+          let whole : trap_lines passed ++ (trap_lines told ++ (line ++ text)) ≡ (trap_lines (passed ++ told) ++ line) ++ text =
+          sym (append_assoc (trap_lines passed) (trap_lines told) (line ++ text)) ∙ ap (λ (t : List ℕ). t ++ (line ++ text)) (sym (more_traps passed told)) ∙ sym (append_assoc (trap_lines (passed ++ told)) line text) in
+          subst (λ (t : List ℕ). AreLines settings journal (comings (take_while (is_by request.moment) frames) ++ Asks number request ∷ more) t) whole
+          (lines_after settings journal (take_while (is_by request.moment) frames) passed advanced.reached (Asks number request ∷ more) (trap_lines told ++ (line ++ text)) advanced.passing here);
+      stands = stands;
+    }
 
--- what a fault of the records writes: nothing was added, and but for a failed read it is how the records stop
-pub advance_writes : (T U : Type 0) (IsNext : List ℕ → Type 0) (moment : ℕ) (bytes : List ℕ) (old new : Progress) (probe probe' : Probe) (content content' : Option (List ℕ)) (fault : PcapFault)
-    → Advances {T = T} moment bytes old new probe probe' (Err fault) → IsOfRecord fault → (frames : List Frame) (stop : Stop) (journal : Journal) → Leaves old bytes frames stop → Stands probe journal
-    → Adds content content' [] → WritesLine {T = U} IsNext stop content content' (Err (status_of fault))
-advance_writes T U IsNext moment bytes old new probe probe' content content' (Included at) stops kind frames stop journal left stands added = (Included at, stops frames stop journal left stands, refl)
-advance_writes T U IsNext moment bytes old new probe probe' content content' (Original at) stops kind frames stop journal left stands added = (Original at, stops frames stop journal left stands, refl)
-advance_writes T U IsNext moment bytes old new probe probe' content content' (Late at) stops kind frames stop journal left stands added = (Late at, stops frames stop journal left stands, refl)
-advance_writes T U IsNext moment bytes old new probe probe' content content' TooMany stops kind frames stop journal left stands added = (TooMany, stops frames stop journal left stands, refl)
-advance_writes T U IsNext moment bytes old new probe probe' content content' Read stops kind frames stop journal left stands added = (0, added)
-advance_writes T U IsNext moment bytes old new probe probe' content content' Magic stops kind frames stop journal left stands added = absurd kind
-advance_writes T U IsNext moment bytes old new probe probe' content content' Version stops kind frames stop journal left stands added = absurd kind
-advance_writes T U IsNext moment bytes old new probe probe' content content' LinkType stops kind frames stop journal left stands added = absurd kind
-advance_writes T U IsNext moment bytes old new probe probe' content content' OutOfMemory stops kind frames stop journal left stands added = absurd kind
+-- how a run stops with a fault: a read failed after some notifications, or the records end so
+abbrev pub HowStopped : (List Note → Type 0) → Stop → List Note → PcapFault → Type 0
+HowStopped IsBegun stop notes Read = IsBegun notes
+HowStopped IsBegun stop notes fault = stop ≡ Broken fault
 
-pub finish_writes : (T U : Type 0) (IsNext : List ℕ → Type 0) (bytes : List ℕ) (progress : Progress) (probe : Probe) (requests : ℕ) (line : List ℕ) (content content' : Option (List ℕ)) (fault : PcapFault)
-    → Finishes {T = T} bytes progress probe requests line (Err fault) → IsOfRecord fault → (frames : List Frame) (stop : Stop) (journal : Journal) → Leaves progress bytes frames stop → Stands probe journal
-    → Adds content content' [] → WritesLine {T = U} IsNext stop content content' (Err (status_of fault))
-finish_writes T U IsNext bytes progress probe requests line content content' (Included at) stops kind frames stop journal left stands added = (Included at, stops frames stop journal left stands, refl)
-finish_writes T U IsNext bytes progress probe requests line content content' (Original at) stops kind frames stop journal left stands added = (Original at, stops frames stop journal left stands, refl)
-finish_writes T U IsNext bytes progress probe requests line content content' (Late at) stops kind frames stop journal left stands added = (Late at, stops frames stop journal left stands, refl)
-finish_writes T U IsNext bytes progress probe requests line content content' TooMany stops kind frames stop journal left stands added = (TooMany, stops frames stop journal left stands, refl)
-finish_writes T U IsNext bytes progress probe requests line content content' Read stops kind frames stop journal left stands added = (0, added)
-finish_writes T U IsNext bytes progress probe requests line content content' Magic stops kind frames stop journal left stands added = absurd kind
-finish_writes T U IsNext bytes progress probe requests line content content' Version stops kind frames stop journal left stands added = absurd kind
-finish_writes T U IsNext bytes progress probe requests line content content' LinkType stops kind frames stop journal left stands added = absurd kind
-finish_writes T U IsNext bytes progress probe requests line content content' OutOfMemory stops kind frames stop journal left stands added = absurd kind
+pub advance_stops : (m : ℕ) (bytes : List ℕ) (old new : Progress) (probe probe' : Probe) (notes : List Note) (fault : PcapFault) → Advances {T = Unit {0}} m bytes old new probe probe' notes (Err fault)
+    → (frames : List Frame) (stop : Stop) (journal : Journal) → Leaves old bytes frames stop → Stands probe journal → HowStopped (HasBegun (settings_of probe) m frames journal) stop notes fault
+advance_stops m bytes old new probe probe' notes Magic is frames stop journal left stands = is frames stop journal left stands
+advance_stops m bytes old new probe probe' notes Version is frames stop journal left stands = is frames stop journal left stands
+advance_stops m bytes old new probe probe' notes LinkType is frames stop journal left stands = is frames stop journal left stands
+advance_stops m bytes old new probe probe' notes (Included at) is frames stop journal left stands = is frames stop journal left stands
+advance_stops m bytes old new probe probe' notes (Original at) is frames stop journal left stands = is frames stop journal left stands
+advance_stops m bytes old new probe probe' notes (Late at) is frames stop journal left stands = is frames stop journal left stands
+advance_stops m bytes old new probe probe' notes TooMany is frames stop journal left stands = is frames stop journal left stands
+advance_stops m bytes old new probe probe' notes Read is frames stop journal left stands = is frames stop journal left stands
+advance_stops m bytes old new probe probe' notes OutOfMemory is frames stop journal left stands = is frames stop journal left stands
 
--- what holds of an error holds of a result that is this error
-pub errs_so : {T : Type 0} (holds : Result T Status → Type 0) (result : Result T Status) (status : Status) → IsErrAnd result (λ other. other ≡ status) → holds (Err status) → holds result
-errs_so holds (Ok done) status is it = absurd is
-errs_so holds (Err other) status is it = subst (λ (s : Status). holds (Err s)) (sym is) it
+pub finish_stops : (bytes : List ℕ) (progress : Progress) (probe : Probe) (requests : ℕ) (notes : List Note) (line : List ℕ) (fault : PcapFault) → Finishes {T = Unit {0}} bytes progress probe requests notes line (Err fault)
+    → (frames : List Frame) (stop : Stop) (journal : Journal) → Leaves progress bytes frames stop → Stands probe journal → HowStopped (HasBegun (settings_of probe) 4294967295 frames journal) stop notes fault
+finish_stops bytes progress probe requests notes line Magic is frames stop journal left stands = is frames stop journal left stands
+finish_stops bytes progress probe requests notes line Version is frames stop journal left stands = is frames stop journal left stands
+finish_stops bytes progress probe requests notes line LinkType is frames stop journal left stands = is frames stop journal left stands
+finish_stops bytes progress probe requests notes line (Included at) is frames stop journal left stands = is frames stop journal left stands
+finish_stops bytes progress probe requests notes line (Original at) is frames stop journal left stands = is frames stop journal left stands
+finish_stops bytes progress probe requests notes line (Late at) is frames stop journal left stands = is frames stop journal left stands
+finish_stops bytes progress probe requests notes line TooMany is frames stop journal left stands = is frames stop journal left stands
+finish_stops bytes progress probe requests notes line Read is frames stop journal left stands = is frames stop journal left stands
+finish_stops bytes progress probe requests notes line OutOfMemory is frames stop journal left stands = is frames stop journal left stands
 
--- a run doesn't end well by a fault
-pub fault_is_error : (fault : PcapFault) → done (status_of fault) ≡ Err (status_of fault)
-fault_is_error (Included at) = refl
-fault_is_error (Original at) = refl
-fault_is_error (Late at) = refl
-fault_is_error TooMany = refl
-fault_is_error Read = refl
-fault_is_error Magic = refl
-fault_is_error Version = refl
-fault_is_error LinkType = refl
-fault_is_error OutOfMemory = refl
+-- what is written then
+pub stops_writing : (IsNext : List ℕ → Type 0) (IsBegun : List Note → Type 0) (stop : Stop) (old new : Option (List ℕ)) (notes : List Note) (fault : PcapFault) → IsOfRecord fault → HowStopped IsBegun stop notes fault
+    → AddsFront old new (trap_lines notes) → WritesLine {T = Unit {0}} IsNext IsBegun stop old new (Err (status_of fault)) × WritesLine IsNext IsBegun stop old new (done (status_of fault))
+stops_writing IsNext IsBegun stop old new notes Magic kind stopped front = absurd kind
+stops_writing IsNext IsBegun stop old new notes Version kind stopped front = absurd kind
+stops_writing IsNext IsBegun stop old new notes LinkType kind stopped front = absurd kind
+stops_writing IsNext IsBegun stop old new notes (Included at) kind stopped front = (((Included at), stopped, refl), ((Included at), stopped, refl))
+stops_writing IsNext IsBegun stop old new notes (Original at) kind stopped front = (((Original at), stopped, refl), ((Original at), stopped, refl))
+stops_writing IsNext IsBegun stop old new notes (Late at) kind stopped front = (((Late at), stopped, refl), ((Late at), stopped, refl))
+stops_writing IsNext IsBegun stop old new notes TooMany kind stopped front = ((TooMany, stopped, refl), (TooMany, stopped, refl))
+stops_writing IsNext IsBegun stop old new notes Read kind stopped front = ((notes, stopped, front), (notes, stopped, front))
+stops_writing IsNext IsBegun stop old new notes OutOfMemory kind stopped front = absurd kind

@@ -4,9 +4,10 @@ pub mod Lines
 pub mod Taking
 pub mod Whole
 pub mod Events
+pub mod Notes
+pub mod Advance
 pub mod Text
 pub mod Probe
-pub mod Notes
 pub mod Steps
 pub mod Status
 pub mod Ends

@@ -18,6 +18,10 @@ trap_line note = decimal note.moment ++ codes " trap " ++ encode_lower note.mess
 abbrev pub trap_lines : List Note → List ℕ
 trap_lines notes = flat_map trap_line notes
 
+-- Notifications came behind those that had come before, by a relation that says which came since an earlier state.
+abbrev pub Sent : {N : Type 0} → (since : N → N → List Note → Type 0) → N → N → List Note → Type 0
+Sent {N = N} since old new notes = (start : N) (sent : List Note) → since start old sent → since start new (sent ++ notes)
+
 -- What notifications did to a sink, by the octets put before and after, the counts of failed puts, and whether a put had
 -- failed: their lines were added, or a front of these where a put failed. Nothing
 -- is added once a put has failed.

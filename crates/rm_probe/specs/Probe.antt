@@ -17,7 +17,7 @@ last_given probe = agent_last probe.agent
 abbrev pub frames_given : Probe → ℕ
 frames_given probe = agent_frames probe.agent
 
--- the probe stands for a journal
+-- the probe stands for the journals for which its agent does
 abbrev pub Stands : Probe → Journal → Type 0
 Stands probe journal = AgentStands probe.agent journal
 

@@ -1,4 +1,4 @@
--- What a run writes: one line for each datagram, in the order of events, and a last line.
+-- What a run writes: one line for each datagram and one for each notification, in the order of events, and a last line.
 use Rattle.std.specs.Prelude.{◌≡◌, ℕ, true, List, [], ◌∷◌, ◌++◌, length, take, decimal, codes, Some, None}
 use Rattle.hex.specs.Hex.{encode_lower}
 use Rattle.rm_model.specs.Journal.{Frame, Journal, passes}
@@ -15,6 +15,8 @@ use Rattle.rm_agent.specs.Answers.{reason_for, IsReplyAfter}
 use Rattle.rm_agent.specs.Sets.{given_by}
 use Rattle.rm_agent.specs.Groups.{Reserves}
 use Rattle.rm_probe.specs.Lines.{TimedDatagram}
+use Rattle.rm_probe.specs.Notes.{Note, trap_lines}
+use Rattle.rm_probe.specs.Advance.{IsAdvanced}
 use Rattle.rm_probe.specs.Events.{Event, Comes, Asks, events}
 
 -- why there is no reply, in words
@@ -48,12 +50,16 @@ unfoldable pub IsAnswer : Settings → Journal → ℕ → TimedDatagram → Lis
 IsAnswer settings journal number request line after =
     (text : List ℕ) × IsAnswered settings journal request.moment request.datagram text after × (line ≡ answer_line request.moment number text)
 
--- The lines may be written for the events, from a journal on.
+-- The lines may be written for the events, from a journal on. Before each event come the notifications of the samples that are
+-- due up to its moment. What is due after the last event isn't taken.
 unfoldable pub AreLines : Settings → Journal → List Event → List ℕ → Type 0
 AreLines settings journal [] text = text ≡ []
-AreLines settings journal (Comes frame ∷ events) text = AreLines settings (passes frame ∷ journal) events text
+AreLines settings journal (Comes frame ∷ events) text =
+    (notes : List Note) × (rest : List ℕ) × (ready : Journal) × IsAdvanced settings frame.moment journal notes ready
+    × (text ≡ trap_lines notes ++ rest) × AreLines settings (passes frame ∷ ready) events rest
 AreLines settings journal (Asks number request ∷ events) text =
-    (line rest : List ℕ) × (after : Journal) × IsAnswer settings journal number request line after × (text ≡ line ++ rest) × AreLines settings after events rest
+    (notes : List Note) × (line rest : List ℕ) × (ready after : Journal) × IsAdvanced settings request.moment journal notes ready
+    × IsAnswer settings ready number request line after × (text ≡ trap_lines notes ++ (line ++ rest)) × AreLines settings after events rest
 
 -- the datagram is no SetRequest that reserves storage after a journal
 abbrev pub ReservesNothing : Journal → List ℕ → Type 0
@@ -64,10 +70,12 @@ ReservesNothing journal datagram =
 -- lawful line; one that reserves storage has a further one, by which there was no memory.
 unfoldable pub AreWithoutChoice : Settings → Journal → List Event → Type 0
 AreWithoutChoice settings journal [] = Unit {0}
-AreWithoutChoice settings journal (Comes frame ∷ events) = AreWithoutChoice settings (passes frame ∷ journal) events
+AreWithoutChoice settings journal (Comes frame ∷ events) =
+    (notes : List Note) (ready : Journal) → IsAdvanced settings frame.moment journal notes ready → AreWithoutChoice settings (passes frame ∷ ready) events
 AreWithoutChoice settings journal (Asks number request ∷ events) =
-    ReservesNothing journal request.datagram
-    × ((line : List ℕ) (after : Journal) → IsAnswer settings journal number request line after → AreWithoutChoice settings after events)
+    (notes : List Note) (ready : Journal) → IsAdvanced settings request.moment journal notes ready
+    → ReservesNothing ready request.datagram
+    × ((line : List ℕ) (after : Journal) → IsAnswer settings ready number request line after → AreWithoutChoice settings after events)
 
 -- what the last line begins with: whether the capture was cut short
 abbrev pub last_word : Stop → List ℕ

@@ -21,8 +21,8 @@ const LEAD: u32 = 1000;
 
 /// Runs the words of a command line.
 ///
-/// The one command is `replay CAPTURE REQUESTS`. It writes one line for each datagram of the request file, and a last
-/// line. Each word after `replay` isn't empty and doesn't begin with a dash; other words are `Usage`.
+/// The one command is `replay CAPTURE REQUESTS`. It writes one line for each datagram of the request file and one for each
+/// notification, and a last line. Each word after `replay` isn't empty and doesn't begin with a dash; other words are `Usage`.
 ///
 /// The capture is judged first, a record at a time, and then the request file, its length before its form. Only then
 /// is anything written, and the capture is read again meanwhile. After `WriteFault` and `ReadFault` a front of the
@@ -123,7 +123,7 @@ fn replay_words(words: &Words) -> Option<(&str, &str)>
 }
 
 /// Replays a capture, whose first frame stands at the moment `lead` in milliseconds, against the datagrams of a request
-/// file. It writes one line for each datagram, and a last line.
+/// file. It writes one line for each datagram and one for each notification, and a last line.
 ///
 /// The capture is judged first, a record at a time, and then the request file, its length before its form. Only then
 /// is anything written, and the capture is read again meanwhile. After `WriteFault` and `ReadFault` a front of the

@@ -1,20 +1,39 @@
-// A law of what a run writes. The body cites the laws of datagrams and replies, and does nothing else.
+// Laws of what a run writes. The bodies cite the laws of datagrams, replies and samples, and do nothing else.
 ghost use Rattle.std.specs.Prelude.{◌≡◌, ℕ, List, []};
-ghost use Rattle.rm_model.specs.Journal.{Frame};
+ghost use Rattle.rm_model.specs.Journal.{Frame, Journal};
 ghost use Rattle.rm_pcap.specs.Records.{Stop};
 ghost use Rattle.rm_agent.specs.declared.settings.Settings.{Settings};
+ghost use Rattle.rm_agent.specs.Orderly.{IsOrderly};
 ghost use Rattle.rm_probe.specs.Lines.{TimedDatagram};
-ghost use Rattle.rm_probe.specs.Events.{events};
-ghost use Rattle.rm_probe.specs.Text.{AreWithoutChoice, IsText};
+ghost use Rattle.rm_probe.specs.Events.{Event, events};
+ghost use Rattle.rm_probe.specs.Text.{AreLines, AreWithoutChoice, IsText};
 
-use rm_agent::one_reply;
-use rm_pdu::one_verdict;
+use rm_agent::{
+    advance_is_orderly, every_advance, every_reply, frame_is_orderly, one_advance, one_reply,
+    reply_is_orderly,
+};
+use rm_pdu::{every_verdict, one_verdict};
 
 /// A law: of the same frames and datagrams there is one text, where none of the SetRequests among them reserves storage.
 pub fn one_text()
     ensures { (settings : Settings) (frames : List Frame) (stop : Stop) (requests : List TimedDatagram) (text other : List ℕ)
-        → AreWithoutChoice settings [] (events 1 frames requests) → IsText settings frames stop requests text → IsText settings frames stop requests other → text ≡ other }
+        → AreWithoutChoice settings [] (events 1 frames requests) → IsText settings frames stop requests text
+        → IsText settings frames stop requests other → text ≡ other }
 {
     one_verdict();
     one_reply();
+    one_advance();
+}
+
+/// A law: from an orderly journal on, there are lines of all events.
+pub(crate) fn every_line()
+    ensures { (settings : Settings) (journal : Journal) → IsOrderly journal → (events : List Event) → (text : List ℕ)
+        × AreLines settings journal events text }
+{
+    every_verdict();
+    every_reply();
+    every_advance();
+    advance_is_orderly();
+    frame_is_orderly();
+    reply_is_orderly();
 }

@@ -3,7 +3,7 @@ ghost use Rattle.std.specs.Prelude.{◌≡◌, ◌+◌, ◌≤◌, ◌++◌, Lis
 ghost use Rattle.hex.specs.Hex.{encode_lower};
 ghost use Rattle.rm_agent.specs.Answers.{IsShort};
 ghost use Rattle.rm_probe.specs.Text.{reason_text, answer_text, last_line};
-ghost use Rattle.rm_probe.specs.Notes.{Note, trap_line};
+ghost use Rattle.rm_probe.specs.Notes.{Note, Sent, trap_line};
 ghost use Rattle.rm_probe.specs.Probe.{settings_of, last_given, frames_given};
 ghost use Rattle.rm_probe.specs.Steps.{Answers, timed};
 ghost use Rattle.rm_pcap.specs.Records.{Stop, Stops};
@@ -21,6 +21,7 @@ use std::alloc::Global;
 /// The octets of a line, its line feed included.
 pub type Line = ArrayVec<u8, 3072>;
 
+// Appends octets.
 fn push(line: &mut Line, bytes: &[u8])
     requires { length line.old.items + length bytes.now ≤ 3072 }
     ensures { line.new.items ≡ line.old.items ++ bytes.now }
@@ -28,6 +29,7 @@ fn push(line: &mut Line, bytes: &[u8])
     let _ = line.try_extend_from_slice(bytes);
 }
 
+// Appends a number in decimal digits.
 fn push_number(line: &mut Line, number: u64)
     requires { length line.old.items + 40 ≤ 3072 }
     ensures text { line.new.items ≡ line.old.items ++ decimal number }
@@ -37,6 +39,7 @@ fn push_number(line: &mut Line, number: u64)
     push(line, buffer.format(number).as_bytes());
 }
 
+// Appends octets in hexadecimal digits.
 fn push_hex(line: &mut Line, bytes: &[u8])
     requires room { length line.old.items + 2944 ≤ 3072 }
     requires short { length bytes.now ≤ MOST_REPLY }
@@ -49,6 +52,7 @@ fn push_hex(line: &mut Line, bytes: &[u8])
     push(line, digits);
 }
 
+// Appends why there is no reply.
 fn push_reason(line: &mut Line, reason: Reason)
     requires { length line.old.items ≤ 120 }
     ensures text { line.new.items ≡ line.old.items ++ reason_text reason }
@@ -66,6 +70,7 @@ fn push_reason(line: &mut Line, reason: Reason)
     }
 }
 
+// Appends what is answered: the reply, which is at the front of `out`, or why there is none.
 fn push_answer(line: &mut Line, answer: Answer, out: &[u8; MOST_REPLY])
     requires front { length line.old.items ≤ 100 }
     requires short { IsShort answer }
@@ -96,7 +101,7 @@ pub fn trap_line(moment: u32, message: &[u8], line: &mut Line)
     push(line, b"\n");
 }
 
-/// Answers a datagram, and writes its line into an empty line.
+/// Takes the samples that are due up to the moment of a datagram, answers it, and writes its line into an empty line.
 #[tactic(auto, unfolding(crate::specs::Text::IsAnswer))]
 pub fn push_line<N: Notes>(
     line: &mut Line,
@@ -107,11 +112,11 @@ pub fn push_line<N: Notes>(
 )
     requires empty { line.old.items ≡ [] }
     requires later { last_given probe.old ≤ request.moment }
-    ensures answers { Answers probe.old probe.new request.entry.number (timed request.entry) line.new.items }
+    ensures answers { (more : List Note) × Sent N.since notes.old notes.new more
+        × Answers probe.old probe.new request.entry.number (timed request.entry) more line.new.items }
     ensures settings { settings_of probe.new ≡ settings_of probe.old }
     ensures last { last_given probe.new ≡ request.entry.moment }
     ensures frames { frames_given probe.new ≡ frames_given probe.old }
-    ensures noted { (start : N) (sent : List Note) → N.since start notes.old sent → N.since start notes.new sent }
 {
     push_number(line, u64::from(request.moment));
     push(line, b" ");

@@ -1,11 +1,15 @@
 // The probe.
-ghost use Rattle.std.specs.Prelude.{◌≡◌, ◌+◌, ◌≤◌, ◌<◌, List, [], ◌∷◌, length, IfOk};
+ghost use Rattle.std.specs.Prelude.{◌≡◌, ℕ, ◌+◌, ◌≤◌, ◌<◌, max, List, [], ◌∷◌, length, Some, IfOk, IfSome, IfNone};
 ghost use Rattle.rm_model.specs.Journal.{Journal};
+ghost use Rattle.rm_model.specs.Alarms.{due_of, IsNextDue};
+ghost use Rattle.rm_agent.specs.Agent.{due_of_agent, IsNextMoment, samples_left_of, sample_of};
 ghost use Rattle.rm_agent.specs.Answers.{IsShort};
-ghost use Rattle.rm_probe.specs.Notes.{Note};
+ghost use Rattle.rm_agent.specs.Orderly.{NoneIsDue};
+ghost use Rattle.rm_probe.specs.Advance.{notes_of};
+ghost use Rattle.rm_probe.specs.Notes.{Note, Sent};
 
 use crate::notes::Notes;
-use rm_agent::{Agent, Answer, MOST_FRAMES, MOST_REPLY, Settings};
+use rm_agent::{Agent, Answer, MOST_FRAMES, MOST_REPLY, Settings, advance_is_orderly};
 use rm_pcap::Frame;
 use rm_val::NoMemory;
 use std::alloc::Global;
@@ -19,10 +23,11 @@ pub struct Probe {
 impl Probe {
     ghost use Rattle.rm_model.specs.Journal.{passes};
     ghost use Rattle.rm_pcap.specs.Progress.{frame_of};
+    ghost use Rattle.rm_probe.specs.Advance.{IsAdvanced};
     ghost use Rattle.rm_probe.specs.Text.{answer_text, IsAnswered};
     ghost use Rattle.rm_probe.specs.Probe.{settings_of, last_given, frames_given, Stands};
 
-    /// The probe before the first frame. NoMemory comes for want of memory.
+    /// The probe before the first frame. NoMemory where there is none for the storage that tables take at first.
     pub fn new(alloc: Global, settings: Settings) -> Result<Probe, NoMemory>
         ensures stands { IfOk result (λ probe. Stands probe []) }
         ensures settings { IfOk result (λ probe. settings_of probe ≡ settings) }
@@ -34,26 +39,76 @@ impl Probe {
         })
     }
 
-    /// Counts a frame. Its moment, in milliseconds, isn't below the last one given, it had at most 262,144 octets and was
-    /// captured with no more than it had, and fewer than `MOST_FRAMES` frames were given before. No notification comes yet.
+    /// Takes all samples of alarms that are due up to a moment, in milliseconds, which isn't below the last one given. They come in
+    /// order of their moments, at one moment in order of the alarms, and each sees those before it. One that crosses a threshold
+    /// has its event fire, and where the event asks for a trap, the notification goes to `notes`.
+    pub fn advance<N: Notes>(&mut self, to: u32, notes: &mut N)
+        requires { last_given self.old ≤ to }
+        ensures advanced { (more : List Note) × Sent N.since notes.old notes.new more
+            × ((journal : Journal) → Stands self.old journal → (after : Journal) × IsAdvanced (settings_of self.old) to journal more after
+            × Stands self.new after) }
+        ensures settings { settings_of self.new ≡ settings_of self.old }
+        ensures last { last_given self.new ≤ to }
+        ensures frames { frames_given self.new ≡ frames_given self.old }
+    {
+        while let Some(moment) = self.next_by(to) {
+            self.sample(moment, notes);
+        }
+    }
+
+    // The moment of the next sample, in milliseconds, if it is due up to a moment.
+    fn next_by(&self, to: u32) -> Option<u32>
+        ensures due { IfSome result (λ moment. moment ≤ to) }
+        ensures next { IfSome result (λ moment. IsNextMoment (due_of_agent self.now.agent) (Some moment)) }
+        ensures none { IfNone result ((journal : Journal) → Stands self.now journal → NoneIsDue to journal) }
+    {
+        match self.agent.next_due() {
+            Some(moment) if moment <= u64::from(to) => Some(moment as u32),
+            _ => None,
+        }
+    }
+
+    // Takes the next sample, which is due at a moment in milliseconds.
+    fn sample<N: Notes>(&mut self, moment: u32, notes: &mut N)
+        requires { IsNextMoment (due_of_agent self.old.agent) (Some moment) }
+        ensures taken { (more : List Note) × Sent N.since notes.old notes.new more
+            × ((journal : Journal) → Stands self.old journal → (alarm : ℕ) × IsNextDue (due_of journal) (Some (moment, alarm))
+            × (more ≡ notes_of (settings_of self.old) journal (moment, alarm))
+            × Stands self.new (sample_of (settings_of self.old) journal moment alarm ∷ journal)) }
+        ensures fewer { (latest : ℕ) → moment ≤ latest → samples_left_of self.new.agent latest < samples_left_of self.old.agent latest }
+        ensures settings { settings_of self.new ≡ settings_of self.old }
+        ensures last { last_given self.new ≡ max (last_given self.old) moment }
+        ensures frames { frames_given self.new ≡ frames_given self.old }
+    {
+        let mut message = [0; MOST_REPLY];
+        if let Some(length) = self.agent.due(moment, &mut message) {
+            notes.note(moment, &message[..length]);
+        }
+    }
+
+    /// Takes the samples that are due up to the moment of a frame, as `advance` does, and counts the frame. Its moment, in
+    /// milliseconds, isn't below the last one given, it had at most 262,144 octets and was captured with no more than it had, and
+    /// fewer than `MOST_FRAMES` frames were given before.
     pub fn frame<N: Notes>(&mut self, frame: &Frame<'_>, notes: &mut N)
         requires later { last_given self.old ≤ frame.now.moment }
         requires captured { length frame.now.bytes.now ≤ frame.now.original }
         requires original { frame.now.original ≤ 262144 }
         requires room { frames_given self.old < MOST_FRAMES }
-        ensures stands { (journal : Journal) → Stands self.old journal → Stands self.new (passes (frame_of frame.now) ∷ journal) }
+        ensures passes { (more : List Note) × Sent N.since notes.old notes.new more
+            × ((journal : Journal) → Stands self.old journal → (ready : Journal)
+            × IsAdvanced (settings_of self.old) frame.now.moment journal more ready
+            × Stands self.new (passes (frame_of frame.now) ∷ ready)) }
         ensures settings { settings_of self.new ≡ settings_of self.old }
         ensures last { last_given self.new ≡ frame.now.moment }
         ensures frames { frames_given self.new ≡ frames_given self.old + 1 }
-        ensures noted { (start : N) (sent : List Note) → N.since start notes.old sent → N.since start notes.new sent }
     {
-        // No notification comes yet.
-        let _ = notes;
+        advance_is_orderly();
+        self.advance(frame.moment, notes);
         self.agent.frame(frame);
     }
 
-    /// Answers a datagram at a moment, in milliseconds, which isn't below the last one given. A reply comes to the front of
-    /// `out`. Drop says why there is none. No notification comes yet.
+    /// Takes the samples that are due up to a moment, in milliseconds, as `advance` does, and answers a datagram at it. The moment
+    /// isn't below the last one given. A reply comes to the front of `out`. Drop says why there is none.
     pub fn datagram<N: Notes>(
         &mut self,
         alloc: Global,
@@ -63,16 +118,17 @@ impl Probe {
         notes: &mut N,
     ) -> Answer
         requires { last_given self.old ≤ moment }
-        ensures answered { (journal : Journal) → Stands self.old journal → (after : Journal)
-            × IsAnswered (settings_of self.old) journal moment bytes.now (answer_text result out.new) after × Stands self.new after }
+        ensures answered { (more : List Note) × Sent N.since notes.old notes.new more
+            × ((journal : Journal) → Stands self.old journal → (ready after : Journal)
+            × IsAdvanced (settings_of self.old) moment journal more ready
+            × IsAnswered (settings_of self.old) ready moment bytes.now (answer_text result out.new) after × Stands self.new after) }
         ensures short { IsShort result }
         ensures settings { settings_of self.new ≡ settings_of self.old }
         ensures last { last_given self.new ≡ moment }
         ensures frames { frames_given self.new ≡ frames_given self.old }
-        ensures noted { (start : N) (sent : List Note) → N.since start notes.old sent → N.since start notes.new sent }
     {
-        // No notification comes yet.
-        let _ = notes;
+        advance_is_orderly();
+        self.advance(moment, notes);
         self.agent.answer(alloc, bytes, moment, out)
     }
 }

@@ -7,23 +7,21 @@ ghost use Rattle.rm_pcap.specs.Records.{Stop, Stops};
 ghost use Rattle.rm_pcap.specs.declared.fault.PcapFault.TheVariants.{Read};
 ghost use Rattle.rm_probe.specs.Capture.{IsCapture, IsFaultless};
 ghost use Rattle.rm_probe.specs.Lines.{TimedDatagram, AreRequests, requests_of};
-ghost use Rattle.rm_probe.specs.Notes.{Note};
-ghost use Rattle.rm_probe.specs.Text.{last_line};
+ghost use Rattle.rm_probe.specs.Notes.{Note, Sent};
 ghost use Rattle.rm_probe.specs.Probe.{settings_of, last_given, IsFresh, Stands};
-ghost use Rattle.rm_probe.specs.Steps.{Advances, Finishes, IsNextLine, IsOfRecord, Keeps, Leaves, Writes, WritesLine, done, timed};
+ghost use Rattle.rm_probe.specs.Steps.{Advances, Finishes, HasBegun, IsLastLine, IsNextLine, IsOfRecord, Keeps, Leaves, Writes, WritesLine, done, timed};
 ghost use Rattle.rm_probe.specs.Ends.{IsSilent};
 ghost use Rattle.rm_probe.specs.declared.status.Status.TheVariants.{BadRequests, ReadFault, WriteFault, NoMemory};
 
+use crate::laws::every_line;
 use crate::line::{self, Line};
 use crate::lines::{self, Request};
 use crate::notes::Notes;
 use crate::output::Output;
 use crate::probe::Probe;
 use crate::status::Status;
-use rm_agent::every_reply;
 use rm_edge::{Shelf, Sink};
 use rm_pcap::{Capture, PcapFault, Step};
-use rm_pdu::every_verdict;
 use std::alloc::Global;
 
 /// A capture whose frames pass by a probe.
@@ -34,7 +32,8 @@ struct Replaying {
 }
 
 impl Replaying {
-    /// Counts the frames up to a moment, which isn't below the last one that the probe was given.
+    /// Counts the frames up to a moment in milliseconds, which isn't below the last one that the probe was given, each after the
+    /// samples that are due. Fails where a read fails, or with the fault of the next record.
     fn advance<F: Shelf, N: Notes>(
         &mut self,
         shelf: &mut F,
@@ -48,12 +47,12 @@ impl Replaying {
         ensures later { (each : List ℕ) → F.faults shelf.old each ≤ F.faults shelf.new each }
         ensures cause { result ≡ Err Read → Rose (F.faults shelf.old name.now) (F.faults shelf.new name.now) }
         ensures kinds { IfErr result IsOfRecord }
-        ensures passed { (bytes : List ℕ) → F.held shelf.old name.now ≡ File bytes
-            → Advances moment bytes (progress_of self.old.capture) (progress_of self.new.capture) self.old.probe self.new.probe result }
+        ensures passed { (more : List Note) × Sent N.since notes.old notes.new more
+            × ((bytes : List ℕ) → F.held shelf.old name.now ≡ File bytes
+            → Advances moment bytes (progress_of self.old.capture) (progress_of self.new.capture) self.old.probe self.new.probe more result) }
         ensures settings { settings_of self.new.probe ≡ settings_of self.old.probe }
         ensures keeps { OnOk result (Keeps moment self.new.probe (progress_of self.new.capture)) }
         ensures all { moment ≡ 4294967295 → OnOk result ((stop : Stop) × ((progress_of self.new.capture).ahead ≡ Some (Stops stop))) }
-        ensures noted { (start : N) (sent : List Note) → N.since start notes.old sent → N.since start notes.new sent }
     {
         loop {
             let Some(next) = self.capture.peek(shelf, name)? else {
@@ -85,9 +84,9 @@ impl Replaying {
         ensures later { (each : List ℕ) → F.faults shelf.old each ≤ F.faults shelf.new each }
         ensures cause { result ≡ Err Read → Rose (F.faults shelf.old name.now) (F.faults shelf.new name.now) }
         ensures kinds { IfErr result IsOfRecord }
-        ensures last { (bytes : List ℕ) → F.held shelf.old name.now ≡ File bytes
-            → Finishes bytes (progress_of self.old.capture) self.old.probe requests line.new.items result }
-        ensures noted { (start : N) (sent : List Note) → N.since start notes.old sent → N.since start notes.new sent }
+        ensures last { (more : List Note) × Sent N.since notes.old notes.new more
+            × ((bytes : List ℕ) → F.held shelf.old name.now ≡ File bytes
+            → Finishes bytes (progress_of self.old.capture) self.old.probe requests more line.new.items result) }
     {
         self.advance(shelf, name, u32::MAX, notes)?;
         let frames = u64::from(self.capture.count());
@@ -112,7 +111,8 @@ impl Replaying {
         ensures line { (bytes : List ℕ) (frames : List Frame) (stop : Stop) (journal : Journal) → F.held shelf.old name.now ≡ File bytes
             → Leaves (progress_of self.old.capture) bytes frames stop → Stands self.old.probe journal
             → WritesLine (IsNextLine bytes (progress_of self.old.capture) (progress_of self.new.capture) (settings_of self.old.probe) self.new.probe
-            request.entry.number (timed request.entry) frames stop journal) stop (K.content out.old.sink.now) (K.content out.new.sink.now) result }
+            request.entry.number (timed request.entry) frames stop journal) (HasBegun (settings_of self.old.probe) request.entry.moment frames journal) stop
+            (K.content out.old.sink.now) (K.content out.new.sink.now) result }
         ensures settings { settings_of self.new.probe ≡ settings_of self.old.probe }
         ensures keeps { OnOk result (Keeps (last_given self.new.probe) self.new.probe (progress_of self.new.capture)) }
         ensures last { OnOk result (last_given self.new.probe ≡ request.entry.moment) }
@@ -146,8 +146,8 @@ impl Replaying {
         requires output { out.old.failed ≡ false }
         ensures line { (bytes : List ℕ) (frames : List Frame) (stop : Stop) (journal : Journal) → F.held shelf.old name.now ≡ File bytes
             → Leaves (progress_of self.old.capture) bytes frames stop → Stands self.old.probe journal
-            → WritesLine (λ line. line ≡ last_line stop ((progress_of self.old.capture).reach.count + length frames) requests) stop
-            (K.content out.old.sink.now) (K.content out.new.sink.now) (done result) }
+            → WritesLine (IsLastLine (settings_of self.old.probe) (progress_of self.old.capture).reach.count requests frames stop journal)
+            (HasBegun (settings_of self.old.probe) 4294967295 frames journal) stop (K.content out.old.sink.now) (K.content out.new.sink.now) (done result) }
         ensures same_reference { out.new.sink.ghost_name ≡ out.old.sink.ghost_name }
         ensures write_later { K.faults out.old.sink.now ≤ K.faults out.new.sink.now }
         ensures read_later { (each : List ℕ) → F.faults shelf.old each ≤ F.faults shelf.new each }
@@ -182,8 +182,10 @@ impl Replaying {
         requires first { IsFresh self.old.probe }
         requires begun { Keeps 0 self.old.probe (progress_of self.old.capture) }
         requires output { out.old.failed ≡ false }
-        ensures text { (bytes : List ℕ) (frames : List Frame) (stop : Stop) (asked : List TimedDatagram) → F.held shelf.old name.now ≡ File bytes
-            → Leaves (progress_of self.old.capture) bytes frames stop → (progress_of self.old.capture).reach.count ≡ 0 → IsFaultless stop → AreRequests requests.now asked
+        ensures text { (bytes : List ℕ) (frames : List Frame) (stop : Stop) (asked : List TimedDatagram)
+            → F.held shelf.old name.now ≡ File bytes
+            → Leaves (progress_of self.old.capture) bytes frames stop → (progress_of self.old.capture).reach.count ≡ 0 → IsFaultless stop
+            → AreRequests requests.now asked
             → Writes (settings_of self.old.probe) frames stop asked (K.content out.old.sink.now) (K.content out.new.sink.now) result }
         ensures same_reference { out.new.sink.ghost_name ≡ out.old.sink.ghost_name }
         ensures write_later { K.faults out.old.sink.now ≤ K.faults out.new.sink.now }
@@ -192,8 +194,7 @@ impl Replaying {
         ensures writes { result ≡ WriteFault → Rose (K.faults out.old.sink.now) (K.faults out.new.sink.now) }
         ensures loud { IsSilent result → ⊥ }
     {
-        every_verdict();
-        every_reply();
+        every_line();
         let mut cursor = lines::first_request(requests);
         loop {
             let taken = match lines::next_request(cursor, buffer) {
@@ -228,8 +229,10 @@ impl Replaying {
         requires judged { IsOk (requests_of requests.now) }
         requires first { IsFresh self.probe }
         requires begun { Keeps 0 self.probe (progress_of self.capture) }
-        ensures text { (bytes : List ℕ) (frames : List Frame) (stop : Stop) (asked : List TimedDatagram) → F.held shelf.old name.now ≡ File bytes
-            → Leaves (progress_of self.capture) bytes frames stop → (progress_of self.capture).reach.count ≡ 0 → IsFaultless stop → AreRequests requests.now asked
+        ensures text { (bytes : List ℕ) (frames : List Frame) (stop : Stop) (asked : List TimedDatagram)
+            → F.held shelf.old name.now ≡ File bytes
+            → Leaves (progress_of self.capture) bytes frames stop → (progress_of self.capture).reach.count ≡ 0 → IsFaultless stop
+            → AreRequests requests.now asked
             → Writes (settings_of self.probe) frames stop asked (K.content out.old) (K.content out.new) result }
         ensures write_later { K.faults out.old ≤ K.faults out.new }
         ensures read_later { (each : List ℕ) → F.faults shelf.old each ≤ F.faults shelf.new each }
@@ -258,7 +261,8 @@ pub fn write_run<F: Shelf, K: Sink>(
     requires few { length requests.now < 2 ^ 32 }
     requires judged { IsOk (requests_of requests.now) }
     requires first { IsFresh probe }
-    ensures text { (bytes : List ℕ) (frames : List Frame) (stop : Stop) (asked : List TimedDatagram) → F.held shelf.old name.now ≡ File bytes
+    ensures text { (bytes : List ℕ) (frames : List Frame) (stop : Stop) (asked : List TimedDatagram)
+        → F.held shelf.old name.now ≡ File bytes
         → IsCapture lead bytes frames stop → AreRequests requests.now asked
         → Writes (settings_of probe) frames stop asked (K.content out.old) (K.content out.new) result }
     ensures reads { result ≡ ReadFault → Rose (F.faults shelf.old name.now) (F.faults shelf.new name.now) }
@@ -268,8 +272,7 @@ pub fn write_run<F: Shelf, K: Sink>(
     ensures read_later { (each : List ℕ) → F.faults shelf.old each ≤ F.faults shelf.new each }
     ensures kinds { IsSilent result → result ≡ NoMemory }
 {
-    every_verdict();
-    every_reply();
+    every_line();
     match Capture::begin(alloc, shelf, name, lead) {
         Ok(capture) => {
             let replaying = Replaying { capture, probe };

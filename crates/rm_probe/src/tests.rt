@@ -7,6 +7,7 @@ use std::fmt::Write;
 use std::process::Abort;
 use std::test::Fail;
 
+mod alarms;
 mod datagrams;
 mod exchange;
 mod history;

@@ -4,6 +4,11 @@ use Rattle.rm_probe.proofs.line.push_line.Goals as goal
 
 pub returns-clause-answers : goal.returns-clause-answers
 unfolding IsAnswer
-returns-clause-answers g c journal stands =
-    let (after, said, goes_on) = c.datagram-answer.ensures.answered journal stands in
-    (after, (answer_text c.datagram-answer.result c.datagram-answer.new.out, said, search rules), goes_on)
+returns-clause-answers g c =
+    let (more, sent, answered) = c.datagram-answer.ensures.answered in (
+      more,
+      sent,
+      λ journal stands.
+          let (ready, after, is, said, goes_on) = answered journal stands in
+          (ready, after, is, (answer_text c.datagram-answer.result c.datagram-answer.new.out, said, search rules), goes_on),
+    )

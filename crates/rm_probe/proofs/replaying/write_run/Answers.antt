@@ -13,4 +13,4 @@ returns-in-Ok-clause-text g c = λ bytes frames stop asked is capture are.
 pub returns-in-Err-clause-text : goal.returns-in-Err-clause-text
 returns-in-Err-clause-text g c = λ bytes frames stop asked is capture are.
     rw c.from.ensures (writes_none c.args.lead (settings_of c.args.probe) bytes frames stop asked (g.K.Sink.content c.args.out.now) c.in-Err.fault (c.in-Err.ensures.header bytes is) c.in-Err.ensures.kinds capture
-    (text_none (settings_of c.args.probe) (record { verdict = c.every_verdict.ensures; reply = c.every_reply.ensures }) (g.K.Sink.content c.args.out.now) frames stop asked))
+    (text_none (settings_of c.args.probe) c.every_line.ensures c.requires.first.stands.orderly (g.K.Sink.content c.args.out.now) frames stop asked))

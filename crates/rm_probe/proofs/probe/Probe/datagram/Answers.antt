@@ -1,8 +1,25 @@
+use Rattle.std.proofs.Common.{subst}
+use Rattle.rm_agent.specs.declared.settings.Settings.{Settings}
+use Rattle.rm_probe.specs.Probe.{settings_of}
+use Rattle.rm_probe.specs.Text.{answer_text, IsAnswered}
 use Rattle.rm_probe.proofs.AnswerLemmas.{is_answered}
 use Rattle.rm_probe.proofs.probe.Probe.datagram.Goals as goal
 
 pub returns-clause-answered : goal.returns-clause-answered
-returns-clause-answered g c journal stands =
-    let (v, judged, why) = c.answer.ensures.reason in
-    let (after, stood, replied) = c.answer.ensures.reply journal stands in
-    (after, is_answered _ journal c.args.moment c.args.bytes.now v c.answer.result c.answer.new.out after judged why replied, stood)
+returns-clause-answered g c =
+    let (more, sent, advanced) = c.advance.ensures.advanced in
+    let (v, judged, why) = c.answer.ensures.reason in (
+      more,
+      sent,
+      λ journal stands.
+          let (ready, is, stood) = advanced journal stands in
+          let (orderly, none) = c.advance_is_orderly.ensures (settings_of c.args.self.now) c.args.moment journal is.sent ready stands.orderly is.advanced in
+          let (after, stays, replied) = c.answer.ensures.reply ready stood in
+          let answered = is_answered (settings_of c.advance.new.self) ready c.args.moment c.args.bytes.now v c.answer.result c.answer.new.out after judged why replied in (
+            ready,
+            after,
+            is,
+            subst (λ (settings : Settings). IsAnswered settings ready c.args.moment c.args.bytes.now (answer_text c.answer.result c.answer.new.out) after) c.advance.ensures.settings answered,
+            stays none,
+          ),
+    )

@@ -1,9 +1,9 @@
-use Rattle.std.proofs.Common.{length, arith, ◌∙◌, ap, take, refl, subst, Err}
+use Rattle.std.proofs.Common.{◌-◌, length, arith, ◌∙◌, ap, take, refl, subst, Err}
 use Rattle.rm_pcap.specs.View.{progress_of}
 use Rattle.rm_probe.specs.Lines.{TimedDatagram}
 use Rattle.rm_agent.specs.declared.settings.Settings.{Settings}
 use Rattle.rm_probe.specs.Probe.{settings_of}
-use Rattle.rm_probe.specs.Steps.{IsNextLine, WritesLine}
+use Rattle.rm_probe.specs.Steps.{HasBegun, IsLastLine, IsNextLine, WritesLine, done}
 use Rattle.rm_probe.proofs.FrameLemmas.{keeps_begun}
 use Rattle.rm_probe.proofs.JudgeLemmas.{judged_more}
 use Rattle.rm_probe.proofs.RunLemmas.{run_begin, next_line, line_put, answer_stops, last_written}
@@ -67,11 +67,11 @@ returns-in-Err-write_answer-clause-text g c = λ bytes frames stop asked is left
     let request : TimedDatagram = record { moment = c.in-Ok-Some.taken.moment; datagram = take c.in-Ok-Some.taken.count c.next_request.new.into } in
     let r = i.run bytes frames stop asked is left none are in
     let written = c.in-Err-write_answer.ensures.line bytes r.left stop r.journal (i.same c.args.name.now ∙ is) r.records_left r.stands in
-    answer_stops (settings_of c.args.self.now.probe) (record { verdict = c.every_verdict.ensures; reply = c.every_reply.ensures }) (g.K.Sink.content c.args.out.now.sink.now) (g.K.Sink.content c.loop-taken.out.sink.now) (g.K.Sink.content c.write_answer.new.out.sink.now) bytes frames stop asked (progress_of c.loop-taken.self.capture)
+    answer_stops (settings_of c.args.self.now.probe) c.every_line.ensures (g.K.Sink.content c.args.out.now.sink.now) (g.K.Sink.content c.loop-taken.out.sink.now) (g.K.Sink.content c.write_answer.new.out.sink.now) bytes frames stop asked (progress_of c.loop-taken.self.capture)
     c.loop-taken.cursor.number c.loop-taken.cursor.last c.loop-taken.cursor.rest.now c.loop-taken.self.probe request
     c.in-Ok-Some.taken.next.number c.in-Ok-Some.taken.next.last c.in-Ok-Some.taken.next.rest.now (progress_of c.write_answer.new.self.capture) c.write_answer.new.self.probe
     r t.0 t.4 faultless c.in-Err-write_answer.status
-    (subst (λ (settings : Settings). WritesLine {T = Unit {0}} (IsNextLine bytes (progress_of c.loop-taken.self.capture) (progress_of c.write_answer.new.self.capture) settings c.write_answer.new.self.probe c.loop-taken.cursor.number request r.left stop r.journal) stop
+    (subst (λ (settings : Settings). WritesLine {T = Unit {0}} (IsNextLine bytes (progress_of c.loop-taken.self.capture) (progress_of c.write_answer.new.self.capture) settings c.write_answer.new.self.probe c.loop-taken.cursor.number request r.left stop r.journal) (HasBegun settings request.moment r.left r.journal) stop
     (g.K.Sink.content c.loop-taken.out.sink.now) (g.K.Sink.content c.write_answer.new.out.sink.now) (Err c.in-Err-write_answer.status)) i.settings_same written)
 
 pub returns-in-Ok-None-clause-text : goal.returns-in-Ok-None-clause-text
@@ -79,6 +79,8 @@ returns-in-Ok-None-clause-text g c = λ bytes frames stop asked is left none fau
     let i = c.loop-taken.invariant.0 in
     let t = rw c.in-Ok-None.field-0-is at c.in-Ok-None.ensures in
     let r = i.run bytes frames stop asked is left none are in
-    last_written (settings_of c.args.self.now.probe) (record { verdict = c.every_verdict.ensures; reply = c.every_reply.ensures }) (g.K.Sink.content c.args.out.now.sink.now) (g.K.Sink.content c.loop-taken.out.sink.now) (g.K.Sink.content c.write_last.new.out.sink.now) bytes frames stop asked (progress_of c.loop-taken.self.capture)
+    last_written (settings_of c.args.self.now.probe) c.every_line.ensures (g.K.Sink.content c.args.out.now.sink.now) (g.K.Sink.content c.loop-taken.out.sink.now) (g.K.Sink.content c.write_last.new.out.sink.now) bytes frames stop asked (progress_of c.loop-taken.self.capture)
     c.loop-taken.cursor.number c.loop-taken.cursor.last c.loop-taken.cursor.rest.now c.loop-taken.self.probe r t.1 faultless c.write_last.result
-    (c.write_last.ensures.line bytes r.left stop r.journal (i.same c.args.name.now ∙ is) r.records_left r.stands)
+    (subst (λ (settings : Settings). WritesLine (IsLastLine settings (progress_of c.loop-taken.self.capture).reach.count (c.loop-taken.cursor.number - 1) r.left stop r.journal) (HasBegun settings 4294967295 r.left r.journal) stop
+    (g.K.Sink.content c.loop-taken.out.sink.now) (g.K.Sink.content c.write_last.new.out.sink.now) (done c.write_last.result)) i.settings_same
+    (c.write_last.ensures.line bytes r.left stop r.journal (i.same c.args.name.now ∙ is) r.records_left r.stands))

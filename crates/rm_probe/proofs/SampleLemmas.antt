@@ -1,0 +1,69 @@
+-- Samples that are taken up to a moment.
+use Rattle.std.proofs.Common.{◌≡◌, ℕ, ◌≤◌, List, [], ◌∷◌, ◌++◌, length, map, take, Option, Some, None, refl, sym, ap, subst, ◌∙◌, append_assoc}
+use mathlib.Core.List.{map-append}
+use Rattle.rm_model.specs.Journal.{Journal}
+use Rattle.rm_model.specs.Alarms.{due_of, IsNextDue}
+use Rattle.rm_pdu.specs.Message.{Message, message_octets}
+use Rattle.rm_agent.specs.declared.settings.Settings.{Settings}
+use Rattle.rm_agent.specs.Orderly.{NoneIsDue}
+use Rattle.rm_agent.specs.Agent.{sample_of, IsWritten}
+use Rattle.rm_agent.specs.Advance.{sent_at, notifications_of, none_due, one_due}
+use Rattle.rm_probe.specs.Advance.{note_of, notes_of, IsAdvanced}
+use Rattle.rm_probe.specs.Notes.{Note, Sent}
+use Rattle.rm_probe.specs.Probe.{settings_of, last_given, frames_given, Stands}
+use Rattle.rm_probe.specs.declared.probe.Probe.{Probe}
+
+in_some : {A : Type 0} (x y : A) → ◌≡◌ {A = Option A} (Some x) (Some y) → x ≡ y
+in_some x y e = cc
+
+none_some : {A : Type 0} (o : Option A) (x : A) → o ≡ None → o ≡ Some x → ⊥
+none_some o x e f = cc
+
+-- what was written of the notification, if there is one
+pub noticed : (notice : Option Message) (result : Option ℕ) (count moment : ℕ) (out : List ℕ) → result ≡ Some count → IsWritten notice result out → record { moment = moment; message = take count out } ∷ [] ≡ map note_of (sent_at moment notice)
+noticed None result count moment out same is = absurd (none_some result count is same)
+noticed (Some message) result count moment out same is =
+    let long : count ≡ length (message_octets message) = in_some _ _ (sym same ∙ is.0) in
+    let octets : take count out ≡ message_octets message = ap (λ (n : ℕ). take n out) long ∙ is.1 in
+    ap (λ (octets : List ℕ). record { moment = moment; message = octets } ∷ []) octets
+
+pub not_noticed : (notice : Option Message) (result : Option ℕ) (moment : ℕ) (out : List ℕ) → result ≡ None → IsWritten notice result out → [] ≡ map note_of (sent_at moment notice)
+not_noticed None result moment out same is = refl
+not_noticed (Some message) result moment out same is = absurd (none_some result (length (message_octets message)) same is.0)
+
+-- where none is due, the journal stays
+pub advanced_none : (settings : Settings) (to : ℕ) (journal : Journal) → NoneIsDue to journal → IsAdvanced settings to journal [] journal
+advanced_none settings to journal none = record { sent = []; advanced = none_due journal none; noted = refl }
+
+-- one sample more, before the others
+advanced_more : (settings : Settings) (to : ℕ) (journal : Journal) (next : ℕ × ℕ) (notes : List Note) (after : Journal) → IsNextDue (due_of journal) (Some next) → next.0 ≤ to
+    → IsAdvanced settings to (sample_of settings journal next.0 next.1 ∷ journal) notes after → IsAdvanced settings to journal (notes_of settings journal next ++ notes) after
+advanced_more settings to journal next notes after due early is = record {
+  sent = notifications_of settings journal next ++ is.sent;
+  advanced = one_due journal next is.sent after due early is.advanced;
+  noted = ap (λ (later : List Note). notes_of settings journal next ++ later) is.noted ∙ sym (map-append note_of (notifications_of settings journal next) is.sent);
+}
+
+-- some samples were taken up to a moment
+pub record Sampling {N : Type 0} (since : N → N → List Note → Type 0) (notes notes' : N) (to : ℕ) (probe probe' : Probe) : Type 0 where
+  pub settings : settings_of probe' ≡ settings_of probe
+  pub last : last_given probe' ≤ to
+  pub frames : frames_given probe' ≡ frames_given probe
+  pub more : List Note
+  pub sent : Sent since notes notes' more
+  pub goes : (journal : Journal) → Stands probe journal
+      → (reached : Journal) × Stands probe' reached × ((later : List Note) (after : Journal) → IsAdvanced (settings_of probe) to reached later after → IsAdvanced (settings_of probe) to journal (more ++ later) after)
+
+-- one sample more is taken
+pub next_more : (settings now : Settings) (to : ℕ) (journal reached : Journal) (next : ℕ × ℕ) (notes more : List Note) (probe : Probe) → now ≡ settings
+    → IsNextDue (due_of reached) (Some next) → next.0 ≤ to → more ≡ notes_of now reached next → Stands probe (sample_of now reached next.0 next.1 ∷ reached)
+    → ((later : List Note) (after : Journal) → IsAdvanced settings to reached later after → IsAdvanced settings to journal (notes ++ later) after)
+    → (reached : Journal) × Stands probe reached × ((later : List Note) (after : Journal) → IsAdvanced settings to reached later after → IsAdvanced settings to journal ((notes ++ more) ++ later) after)
+next_more settings now to journal reached next notes more probe same due early told stands goes = (
+  sample_of settings reached next.0 next.1 ∷ reached,
+  subst (λ (s : Settings). Stands probe (sample_of s reached next.0 next.1 ∷ reached)) same stands,
+  λ later after is.
+      let here : more ++ later ≡ notes_of settings reached next ++ later = ap (λ (n : List Note). n ++ later) (told ∙ ap (λ (s : Settings). notes_of s reached next) same) in
+      subst (λ (all : List Note). IsAdvanced settings to journal all after) (ap (λ (n : List Note). notes ++ n) (sym here) ∙ sym (append_assoc notes more later))
+      (goes (notes_of settings reached next ++ later) after (advanced_more settings to reached next later after due early is)),
+)

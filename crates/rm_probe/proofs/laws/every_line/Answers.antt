@@ -1,0 +1,13 @@
+use Rattle.rm_probe.proofs.PassingLemmas.{some_lines}
+use Rattle.rm_probe.proofs.laws.every_line.Goals as goal
+
+pub returns : goal.returns
+returns c settings journal orderly events =
+    some_lines settings (record {
+      verdict = c.every_verdict.ensures;
+      reply = c.every_reply.ensures;
+      samples = c.every_advance.ensures;
+      sampled = c.advance_is_orderly.ensures;
+      passed = c.frame_is_orderly.ensures;
+      replied = c.reply_is_orderly.ensures;
+    }) journal orderly events

@@ -1,0 +1,48 @@
+use Rattle.std.proofs.Common.{[], ◌++◌, refl, subst, ◌∙◌, arith, List}
+use Rattle.std.proofs.lemmas.List.{append-nil}
+use Rattle.rm_probe.specs.Advance.{IsAdvanced}
+use Rattle.rm_probe.specs.Notes.{Note}
+use Rattle.rm_probe.specs.Probe.{settings_of}
+use Rattle.rm_probe.proofs.FrameLemmas.{sent_none, sent_more}
+use Rattle.rm_probe.proofs.SampleLemmas.{advanced_none, next_more}
+use Rattle.rm_probe.proofs.probe.Probe.advance.Goals as goal
+
+pub loop-moment-init : goal.loop-moment-init
+loop-moment-init g c = record {
+  settings = refl;
+  last = c.requires;
+  frames = refl;
+  more = [];
+  sent = sent_none g.N.Notes.since c.args.notes.now;
+  goes = λ journal stands. (journal, stands, λ later after is. is);
+}
+
+pub loop-moment-preserved : goal.loop-moment-preserved
+loop-moment-preserved g c =
+    let i = c.loop-moment.invariant in
+    let (more, sent, taken) = c.sample.ensures.taken in
+    record {
+      settings = c.sample.ensures.settings ∙ i.settings;
+      last = omega (arith, c.sample.ensures.last, i.last, c.in-Some.ensures.due);
+      frames = c.sample.ensures.frames ∙ i.frames;
+      more = i.more ++ more;
+      sent = sent_more g.N.Notes.since c.args.notes.now c.loop-moment.notes c.sample.new.notes i.more more i.sent sent;
+      goes = λ journal stands.
+          let (reached, stood, goes) = i.goes journal stands in
+          let (alarm, due, told, stood') = taken reached stood in
+          next_more (settings_of c.args.self.now) (settings_of c.loop-moment.self) c.args.to journal reached (c.in-Some.moment, alarm) i.more more c.sample.new.self i.settings due c.in-Some.ensures.due told stood' goes;
+    }
+
+pub returns-clause-advanced : goal.returns-clause-advanced
+returns-clause-advanced g c =
+    let i = c.loop-moment.invariant in (
+      i.more,
+      i.sent,
+      λ journal stands.
+          let (reached, stood, goes) = i.goes journal stands in (
+            reached,
+            subst (λ (notes : List Note). IsAdvanced (settings_of c.args.self.now) c.args.to journal notes reached) (append-nil i.more)
+                (goes [] reached (advanced_none (settings_of c.args.self.now) c.args.to reached (c.in_default.ensures.none reached stood))),
+            stood,
+          ),
+    )
