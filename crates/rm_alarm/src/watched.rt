@@ -33,7 +33,7 @@ pub struct Watched<G> {
 }
 
 impl<G: Readable> Group for Watched<G> {
-    ghost stands = { λ s settings journal. AreWatched G.cells (G.stands s.watched settings journal) s.alarms settings journal };
+    ghost stands = { λ s settings journal. AreWatched G.sampleable (G.stands s.watched settings journal) s.alarms settings journal };
 
     ghost clock = { λ s. G.clock s.watched };
 
@@ -55,7 +55,7 @@ impl<G: Readable> Group for Watched<G> {
     ghost accepts = { λ s now readings bindings. G.accepts s.watched now readings bindings × AreFine s.alarms bindings };
 
     ghost prepared = { λ s now bindings.
-        ArePrepared G.cells (G.stands s.watched) (G.prepared s.watched now bindings) s.alarms now bindings };
+        ArePrepared G.sampleable (G.stands s.watched) (G.prepared s.watched now bindings) s.alarms now bindings };
 
     ghost released = { λ s. G.released s.watched × HasForgotten s.alarms };
 
@@ -132,7 +132,7 @@ impl<G: Readable + Unsampled> Watched<G> {
     pub fn next_due(&self) -> Option<(u64, u32)>
         ensures next { IsNextDue (due_in self.now.alarms) result }
         ensures journal { (settings : Settings) (journal : Journal)
-            → AreWatched G.cells (G.stands self.now.watched settings journal) self.now.alarms settings journal
+            → AreWatched G.sampleable (G.stands self.now.watched settings journal) self.now.alarms settings journal
             → IsNextDue (due_of journal) result }
     {
         self.alarms.next_due()
@@ -144,12 +144,12 @@ impl<G: Readable + Unsampled> Watched<G> {
         requires { due_in self.old.alarms index ≡ Some moment }
         ensures watched { self.new.watched ≡ self.old.watched }
         ensures stands { (settings : Settings) (journal : Journal)
-            → AreWatched G.cells (G.stands self.old.watched settings journal) self.old.alarms settings journal
+            → AreWatched G.sampleable (G.stands self.old.watched settings journal) self.old.alarms settings journal
             → last_moment journal ≤ moment
             → let after = samples moment index (number_read settings journal moment index) ∷ journal in
-            AreWatched G.cells (G.stands self.new.watched settings after) self.new.alarms settings after }
+            AreWatched G.sampleable (G.stands self.new.watched settings after) self.new.alarms settings after }
         ensures result { (settings : Settings) (journal : Journal)
-            → AreWatched G.cells (G.stands self.old.watched settings journal) self.old.alarms settings journal
+            → AreWatched G.sampleable (G.stands self.old.watched settings journal) self.old.alarms settings journal
             → last_moment journal ≤ moment
             → result ≡ sampled settings journal moment index (number_read settings journal moment index) }
         ensures fewer { (latest : ℕ) → moment ≤ latest

@@ -154,7 +154,11 @@ impl Objects for Ether {
 
 impl Readable for Ether {
     ghost use Rattle.rm_model.specs.Cells.{cells_of};
+    ghost use Rattle.rm_ether.specs.EtherStats.{ether_table};
     ghost use Rattle.rm_ether.specs.Shown.{rows_table};
+    ghost use Rattle.std.specs.Prelude.{refl};
+
+    ghost sampleable = { λ settings journal now. cells_of (ether_table settings journal) };
 
     ghost shown = { λ s now. cells_of (rows_table s.rows) };
 
@@ -165,6 +169,8 @@ impl Readable for Ether {
     fn shows(&self, _now: u32) {
         prove!(self.rows.len() <= 16);
     }
+
+    ghost recurring = { λ keep_short one other journal alike now name. refl };
 }
 
 impl Unsampled for Ether {

@@ -4,7 +4,7 @@ use Rattle.std.specs.Prelude.{is_some}
 use Rattle.std.proofs.lemmas.Bool.Decides.{nat_tests}
 use Rattle.rm_status.specs.declared.row.Row.{Row}
 use Rattle.rm_status.specs.Rows.{AllThere}
-use Rattle.rm_event.specs.declared.event_row.EventRow.{EventRow}
+use Rattle.rm_event.specs.EventRows.{EventRow}
 use Rattle.rm_event.specs.declared.log.Log.{Log}
 use Rattle.rm_event.specs.Logs.{log_in, AreDistinct, HasNew, AreBegun, released, valid_in}
 use Rattle.rm_event.specs.Held.{AreOfValid}

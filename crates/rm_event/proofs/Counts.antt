@@ -7,7 +7,7 @@ use Rattle.rm_status.specs.declared.row.Row.{Row}
 use Rattle.rm_status.specs.Rows.{AllThere}
 use Rattle.rm_status.proofs.Held.{count_none}
 use Rattle.rm_status.proofs.Valid.{count_less}
-use Rattle.rm_event.specs.declared.event_row.EventRow.{EventRow}
+use Rattle.rm_event.specs.EventRows.{EventRow}
 use Rattle.rm_event.specs.declared.log.Log.{Log}
 use Rattle.rm_event.specs.Logs.{log_in, AreDistinct, valid_in}
 use Rattle.rm_event.specs.Held.{AreOfValid}

@@ -1,7 +1,7 @@
 mod OneFiring
 mod Spares
 mod RowFacts
-mod Moments
+pub mod Moments
 mod Fires
 mod Begun
 mod Counts

@@ -6,18 +6,18 @@ use Rattle.rm_model.specs.Journal.{Act, passes, assigns, samples, Journal, momen
 use Rattle.rm_model.specs.ControlRows.{no_rows, is_valid, stays_valid}
 use Rattle.rm_status.specs.RowsAfter.{AreRowsAfter}
 use Rattle.rm_status.specs.declared.row.Row.{Row}
-use Rattle.rm_event.specs.declared.event_row.EventRow.{EventRow}
+use Rattle.rm_acts.specs.declared.firing.Firing.{Firing}
 use Rattle.rm_event.specs.EventTable.{event_table, event_state, event_set, type_of}
-use Rattle.rm_event.specs.EventRows.{set_to}
+use Rattle.rm_event.specs.EventRows.{EventRow, set_to}
 use Rattle.rm_event.specs.Firings.{moments_in, firings, firings_with, fired, is_set}
 
 -- one event more that fires
-pub moments_more : (moment event : ℕ) (some : List ℕ) (index : ℕ) → moments_in moment event (some ++ index ∷ []) ≡ cond (nat_eq index event) (moment ∷ moments_in moment event some) (moments_in moment event some)
+pub moments_more : (moment event : ℕ) (some : List Firing) (index : Firing) → moments_in moment event (some ++ index ∷ []) ≡ cond (nat_eq index.event event) (moment ∷ moments_in moment event some) (moments_in moment event some)
 moments_more moment event [] index =
-    elim (nat_eq index event) as (λ t. map (λ (each : ℕ). moment) (cond t (index ∷ []) []) ≡ cond t (moment ∷ []) []) [ true ↦ refl | false ↦ refl ]
+    elim (nat_eq index.event event) as (λ t. map (λ (each : Firing). moment) (cond t (index ∷ []) []) ≡ cond t (moment ∷ []) []) [ true ↦ refl | false ↦ refl ]
 moments_more moment event (x ∷ some) index =
-    elim (nat_eq x event) as (λ t. map (λ (each : ℕ). moment) (cond t (x ∷ filter (λ other. nat_eq other event) (some ++ index ∷ [])) (filter (λ other. nat_eq other event) (some ++ index ∷ []))) ≡ cond (nat_eq index event) (moment ∷ map (λ (each : ℕ). moment) (cond t (x ∷ filter (λ other. nat_eq other event) some) (filter (λ other. nat_eq other event) some))) (map (λ (each : ℕ). moment) (cond t (x ∷ filter (λ other. nat_eq other event) some) (filter (λ other. nat_eq other event) some)))) [
-      | true ↦ ap (λ l. moment ∷ l) (moments_more moment event some index) ∙ both (nat_eq index event)
+    elim (nat_eq x.event event) as (λ t. map (λ (each : Firing). moment) (cond t (x ∷ filter (λ other. nat_eq other.event event) (some ++ index ∷ [])) (filter (λ other. nat_eq other.event event) (some ++ index ∷ []))) ≡ cond (nat_eq index.event event) (moment ∷ map (λ (each : Firing). moment) (cond t (x ∷ filter (λ other. nat_eq other.event event) some) (filter (λ other. nat_eq other.event event) some))) (map (λ (each : Firing). moment) (cond t (x ∷ filter (λ other. nat_eq other.event event) some) (filter (λ other. nat_eq other.event event) some)))) [
+      | true ↦ ap (λ l. moment ∷ l) (moments_more moment event some index) ∙ both (nat_eq index.event event)
       | false ↦ moments_more moment event some index
     ]
   where
@@ -67,7 +67,7 @@ idle_firings settings (act ∷ earlier) event idle =
     (ap (λ b. is_valid (event_state earlier (event ∷ [])) && b) idle ∙ and_false (is_valid (event_state earlier (event ∷ []))))
 
 -- the firings in an act that is no Set, of an event whose row is valid, and of any other one
-module _ (act : Act) (earlier : Journal) (unset : is_set act ≡ false) (event : ℕ) (some before : List ℕ) where
+module _ (act : Act) (earlier : Journal) (unset : is_set act ≡ false) (event : ℕ) (some : List Firing) (before : List ℕ) where
   pub valid_with : is_valid (event_state earlier (event ∷ [])) ≡ true → firings_with act earlier event some before ≡ moments_in (moment_of act) event some ++ before
   valid_with valid = ap (λ b. cond b (moments_in (moment_of act) event some ++ before) []) (stays_as act earlier (event ∷ []) unset ∙ valid)
 

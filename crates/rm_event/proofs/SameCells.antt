@@ -1,6 +1,6 @@
 -- What the rows and the logs show is what the tables show after the journal.
-use Rattle.std.proofs.Common.{◌≡◌, ℕ, zero, suc, ◌+◌, ◌-◌, ◌<◌, ◌≤◌, List, [], ◌∷◌, length, take, map, refl, sym, ◌∙◌, ap, subst, Bool, true, false, cond, ◌&&◌, Option, Some, None, nat_le, arith}
-use Rattle.std.specs.Prelude.{not, is_some, slice_get, unwrap_or}
+use Rattle.std.proofs.Common.{◌≡◌, ℕ, zero, suc, ◌+◌, ◌-◌, ◌<◌, ◌≤◌, List, [], ◌∷◌, length, take, map, refl, sym, ◌∙◌, ap, subst, Bool, true, false, cond, ◌&&◌, Option, Some, None, nat_eq, nat_le, arith}
+use Rattle.std.specs.Prelude.{pos, is_some, slice_get, unwrap_or}
 use Rattle.std.specs.Option.{option_or, option_map_or}
 use Rattle.std.proofs.lemmas.Bool.Decides.{nat_tests}
 use Rattle.rm_val.specs.Val.{Val, int, octets, ticks, null}
@@ -13,23 +13,20 @@ use Rattle.rm_status.specs.declared.row.Row.{Row}
 use Rattle.rm_status.specs.Rows.{row_in, state_in, columns_in, state_seen, columns_seen, AreControlRows}
 use Rattle.rm_status.specs.Indexes.{is_index_in}
 use Rattle.rm_status.specs.RowsAfter.{AreRowsAfter}
-use Rattle.rm_status.proofs.RowsAfterLemmas.{is_row_after}
-use Rattle.rm_event.specs.declared.event_column.EventColumn.{EventColumn}
-use Rattle.rm_event.specs.declared.event_column.EventColumn.TheVariants as event
+use Rattle.rm_status.proofs.KeptCellsLaws.{same_control_cells}
 use Rattle.rm_event.specs.declared.log_column.LogColumn.{LogColumn}
 use Rattle.rm_event.specs.declared.log_column.LogColumn.TheVariants as log
-use Rattle.rm_event.specs.declared.event_row.EventRow.{EventRow}
 use Rattle.rm_event.specs.declared.log.Log.{Log}
-use Rattle.rm_event.specs.Columns.{event_columns, event_column, log_columns, log_column}
+use Rattle.rm_event.specs.Columns.{event_columns, log_columns, log_column}
 use Rattle.rm_event.specs.EventTable.{event_entry, event_table, event_state, event_set, type_of}
-use Rattle.rm_event.specs.EventRows.{set_to}
+use Rattle.rm_event.specs.EventRows.{EventRow, set_to, description_in_row}
 use Rattle.rm_event.specs.Firings.{firings, last_sent, tick_of, most_shown}
-use Rattle.rm_event.specs.Tables.{event_value, events_table, log_entry, log_of, is_shown, time_at, is_entry, log_value, log_table}
+use Rattle.rm_event.specs.Tables.{event_other, events_table, log_entry, log_of, is_shown, time_at, is_entry, log_value, log_table}
 use Rattle.rm_event.specs.Log.{IsLog, kept_time}
 use Rattle.rm_event.specs.Logs.{log_in}
 use Rattle.rm_event.specs.Held.{AreOfValid}
 use Rattle.rm_event.specs.Standing.{IsLogOf, AreLogs}
-use Rattle.rm_event.specs.Shown.{sent_in, row_value, value_in, rows_table, description_in, is_kept, entry_value, entry_in, logs_table, cells_shown}
+use Rattle.rm_event.specs.Shown.{sent_in, kept_other, rows_table, description_in, is_kept, entry_value, entry_in, logs_table, cells_shown}
 use Rattle.rm_event.proofs.RowFacts.{found_there, valid_there, valid_columns, valid_fits}
 use Rattle.rm_event.proofs.Moments.{idle_firings}
 use Rattle.rm_event.proofs.Fires.{description_is, type_shown_is, community_is, owner_is}
@@ -48,49 +45,17 @@ module _ (rows : List (Row EventRow)) (held : AreControlRows rows) (logs : List 
       of_log None idle = sym (ap last_sent (idle_firings settings journal i idle))
       of_log (Some log) it = it.1.sent
 
-  module _ (i : ℕ) (row : Row EventRow) (here : row_in rows i ≡ Some row) where
-    state_is : row.state ≡ event_state journal (i ∷ [])
-    state_is = sym (ap state_seen here) ∙ is.alike.states i
+  there : (i : ℕ) (row : Row EventRow) → row_in rows i ≡ Some row → is_absent row.state ≡ false
+  there i row here = (found_there rows i row held.1 here).1
 
-    has : columns_in rows i ≡ Some row.columns
-    has = ap columns_seen here
-
-    there : is_absent (state_in rows i) ≡ false
-    there = ap (λ o. is_absent (state_seen o)) here ∙ (found_there rows i row held.1 here).1
-
-    first : 1 ≤ i
-    first = least i (found_there rows i row held.1 here).0
-      where
-        least : (n : ℕ) → (nat_le 1 n && nat_le n 65535) ≡ true → 1 ≤ n
-        least n h = grind (arith, nat_tests)
-
-    row_shows : (column : EventColumn) → row_value i row.state row.columns (sent_in logs i) column ≡ event_value settings journal (i ∷ []) column
-    row_shows event.Index = refl
-    row_shows event.Description = description_is rows journal is i row.columns has there
-    row_shows event.Type = type_shown_is rows journal is i row.columns has there
-    row_shows event.Community = community_is rows journal is i row.columns has there
-    row_shows event.LastTimeSent = ap ticks (sent_is i first)
-    row_shows event.Owner = owner_is rows journal is i row.columns has there
-    row_shows event.Status = ap (λ s. int (entry_status s)) state_is
-
-  is_row : (index : List ℕ) → not (is_absent (event_state journal index)) ≡ is_index_in rows index
-  is_row index = is_row_after event_table no_rows set_to rows journal held is index
-
-  value_at : (i : ℕ) (o : Option (Row EventRow)) → row_in rows i ≡ o → (column : EventColumn) → cond (is_some o) (Some (value_in i o (sent_in logs i) column)) None ≡ cond (is_some o) (Some (event_value settings journal (i ∷ []) column)) None
-  value_at i None e column = refl
-  value_at i (Some row) e column = ap Some (row_shows i row e column)
-
-  event_at : (at : Option Instance) → cell_at (rows_table rows logs) at ≡ cell_at (events_table settings journal) at
-  event_at None = refl
-  event_at (Some at) = by_index at.index ∙ sym (ap (λ b. cond b (Some (event_value settings journal at.index (event_column at.column))) None) (is_row at.index))
+  same_other : (column i : ℕ) (row : Row EventRow) → row_in rows i ≡ Some row → kept_other logs column (i ∷ []) ≡ event_other settings journal column (i ∷ [])
+  same_other column i row here = ap (λ s. cond (nat_eq column 1) (int (pos i)) (ticks s)) (sent_is i (first (found_there rows i row held.1 here).0))
     where
-      by_index : (index : List ℕ) → cell_at (rows_table rows logs) (Some (record { column = at.column; index = index })) ≡ cond (is_index_in rows index) (Some (event_value settings journal index (event_column at.column))) None
-      by_index [] = refl
-      by_index (i ∷ []) = value_at i (row_in rows i) refl (event_column at.column)
-      by_index (i ∷ j ∷ more) = refl
+      first : (nat_le 1 i && nat_le i 65535) ≡ true → 1 ≤ i
+      first h = grind (arith, nat_tests)
 
   same_events : (name : List ℕ) → cells_of (rows_table rows logs) name ≡ cells_of (events_table settings journal) name
-  same_events name = event_at (instance_of event_entry event_columns name)
+  same_events = same_control_cells event_table no_rows set_to rows held journal is event_columns (kept_other logs) (event_other settings journal) there same_other
 
   -- there is no row 0
   no_row_0 : is_valid (event_state journal (0 ∷ [])) ≡ false
@@ -112,7 +77,7 @@ module _ (rows : List (Row EventRow)) (held : AreControlRows rows) (logs : List 
     description_there =
         let right : is_valid (state_in rows i) ≡ true = ap is_valid (is.alike.states i) ∙ valid in
         let columns = valid_columns rows i right in
-        ap (λ o. option_map_or (λ (c : EventRow). octets c.description.items) o null) columns.1
+        ap (λ o. option_map_or (λ (c : EventRow). octets (description_in_row c)) o null) columns.1
         ∙ description_is rows journal is i columns.0 columns.1 (valid_there (state_in rows i) right)
 
     time_is : (number : ℕ) → is_shown kept.added number ≡ true → kept_time kept number ≡ time_at (log_of settings journal i) number

@@ -1,42 +1,45 @@
 -- What is kept of the columns of a row of eventTable.
-use Rattle.std.specs.Prelude.{ℕ, pos, List, [], nat_eq, if◌then◌else◌, Option, Some, None}
-use Rattle.rm_val.specs.Val.{Val, int, octets}
-use Rattle.rm_status.specs.Values.{octets_in}
-use Rattle.rm_event.specs.declared.event_row.EventRow.{EventRow}
+use Rattle.std.specs.Prelude.{ℕ, List, Option}
+use Rattle.arrayvec.specs.ArrayVec.{ArrayVec}
+use Rattle.rm_val.specs.Val.{Val}
+use Rattle.rm_status.specs.Field.{FieldsOf}
+use Rattle.rm_status.specs.FieldLaws.{also, nothing}
+use Rattle.rm_status.specs.Kinds.{texts}
+use Rattle.rm_status.specs.Sheeted as sheeted
+use Rattle.rm_status.specs.declared.also.Also.{Also}
+use Rattle.rm_status.specs.declared.also.Nothing.{Nothing}
+use Rattle.rm_status.specs.declared.sheeted.Sheeted.{Sheeted}
+use Rattle.rm_event.specs.EventTable.{event_sheet}
+use Rattle.rm_event.specs.declared.event_row.EventTable.{EventTable}
 use Rattle.rm_event.specs.declared.event_type.EventType.{EventType}
-use Rattle.rm_event.specs.declared.event_type.EventType.TheVariants as kind
-use Rattle.rm_event.specs.EventType.{number_of, type_in}
+use Rattle.rm_event.specs.EventTypes.{types}
 
--- what a text and a type show
-abbrev pub text_shown : List ℕ → Option Val
-text_shown text = Some (octets text)
+-- the columns, by their types, and the row that has them
+abbrev pub Typed : Type 0
+Typed = Also (ArrayVec ℕ) (Also EventType (Also (ArrayVec ℕ) (Also (ArrayVec ℕ) Nothing)))
 
-abbrev pub type_shown : EventType → Option Val
-type_shown type = Some (int (pos (number_of type)))
+abbrev pub typed : FieldsOf Typed
+typed = also (texts 127) (also types (also (texts 127) (also (texts 127) nothing)))
 
--- what each column was set to; those that weren't set count as set to their default
+abbrev pub EventRow : Type 0
+EventRow = Sheeted EventTable Typed Nothing
+
+-- what each column was set to, a new row, and a row with one of its columns set
 abbrev pub set_to : EventRow → ℕ → Option Val
-set_to row n =
-    if nat_eq 2 n then text_shown row.description.items
-    else if nat_eq 3 n then type_shown row.event_type
-    else if nat_eq 4 n then text_shown row.community.items
-    else if nat_eq 6 n then text_shown row.owner.items
-    else None
+set_to = sheeted.set_to event_sheet typed
 
--- a new row
 abbrev pub blank_row : EventRow
-blank_row = record {
-  description = record { items = [] };
-  event_type = kind.None;
-  community = record { items = [] };
-  owner = record { items = [] };
-}
+blank_row = sheeted.blank_row event_sheet typed (record {})
 
--- a row with one of its columns set
 abbrev pub with_column : EventRow → ℕ → Val → EventRow
-with_column row n value = record {
-  description = record { items = if nat_eq 2 n then octets_in value else row.description.items };
-  event_type = if nat_eq 3 n then type_in value else row.event_type;
-  community = record { items = if nat_eq 4 n then octets_in value else row.community.items };
-  owner = record { items = if nat_eq 6 n then octets_in value else row.owner.items };
-}
+with_column = sheeted.with_column event_sheet typed
+
+-- the columns that events are made of
+abbrev pub description_in_row : EventRow → List ℕ
+description_in_row row = row.typed.first.items
+
+abbrev pub type_in_row : EventRow → EventType
+type_in_row row = row.typed.rest.first
+
+abbrev pub community_in_row : EventRow → List ℕ
+community_in_row row = row.typed.rest.rest.first.items

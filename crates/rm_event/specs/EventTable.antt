@@ -8,35 +8,7 @@ use Rattle.rm_model.specs.declared.row.StatusKind.TheVariants.{EntryStatus}
 use Rattle.rm_model.specs.declared.row.State.{State}
 use Rattle.rm_event.specs.declared.event_type.EventType.{EventType}
 use Rattle.rm_event.specs.EventType.{type_in}
-
--- the identifier of eventEntry
-abbrev pub event_entry : List ℕ
-event_entry = 1 ∷ 3 ∷ 6 ∷ 1 ∷ 2 ∷ 1 ∷ 16 ∷ 9 ∷ 1 ∷ 1 ∷ []
-
--- The columns that can be set: eventDescription, eventType, eventCommunity and eventOwner. The owner alone may be set while the
--- row is valid.
-abbrev pub description_column : Column
-description_column = record { number = 2; kind = text 127; always = false; needed = false; default = octets [] }
-
-abbrev pub type_column : Column
-type_column = record { number = 3; kind = number (record { least = pos 1; greatest = pos 4 } ∷ []); always = false; needed = false; default = int (pos 1) }
-
-abbrev pub community_column : Column
-community_column = record { number = 4; kind = text 127; always = false; needed = false; default = octets [] }
-
-abbrev pub owner_column : Column
-owner_column = record { number = 6; kind = text 127; always = true; needed = false; default = octets [] }
-
--- the control table: every row is ready
-abbrev pub event_table : ControlTable
-event_table = record {
-  entry = event_entry;
-  status = 7;
-  status_kind = EntryStatus;
-  columns = description_column ∷ type_column ∷ community_column ∷ owner_column ∷ [];
-  go_together = λ value. true;
-  is_sampled = false;
-}
+pub use Rattle.rm_acts.specs.Events.{event_entry, event_sheet, event_table, all_together}
 
 -- the state of a row
 abbrev pub event_state : Journal → List ℕ → State

@@ -10,41 +10,23 @@ use Rattle.rm_status.specs.Values.{natural_in}
 use Rattle.rm_event.specs.declared.event_type.EventType.{EventType}
 use Rattle.rm_event.specs.EventType.{is_logged}
 use Rattle.rm_event.specs.EventTable.{event_table}
+pub use Rattle.rm_acts.specs.Fired.{moments_in}
+use Rattle.rm_acts.specs.Fired.{fired as all_fired, act_fires, firings_of}
+use Rattle.rm_acts.specs.declared.firing.Firing.{Firing}
 
--- the event with an index, and none where that is 0
-abbrev pub event_named : ℕ → List ℕ
-event_named zero = []
-event_named (suc index) = suc index ∷ []
+-- what an act fires after a journal, in this order
+abbrev pub fired : Settings → Act → Journal → List Firing
+fired settings act earlier = act_fires settings act earlier (all_fired settings earlier)
 
--- The event that a sample of an alarm fires, by what the sample comes to: its alarmRisingEventIndex, which is column 9, or its
--- alarmFallingEventIndex, which is column 10.
-abbrev pub crossing_event : Journal → ℕ → Sampled → List ℕ
-crossing_event journal alarm Rising = event_named (natural_in (alarm_column journal alarm 9))
-crossing_event journal alarm Falling = event_named (natural_in (alarm_column journal alarm 10))
-crossing_event journal alarm Quiet = []
-crossing_event journal alarm Gone = []
-
--- the events that an act fires after a journal, in this order
-abbrev pub fired : Settings → Act → Journal → List ℕ
-fired settings (passes frame) earlier = []
-fired settings (assigns moment values) earlier = []
-fired settings (samples moment alarm reading) earlier = crossing_event earlier alarm (sampled settings earlier moment alarm reading)
-
--- a moment, as often as an event is among some that fire then
-abbrev pub moments_in : ℕ → ℕ → List ℕ → List ℕ
-moments_in moment event some = map (λ each. moment) (filter (λ other. nat_eq other event) some)
-
--- The moments at which an event has fired, by those before an act and the events that the act fires: an event fires only while its
--- row is valid, and begins anew where that becomes valid.
-abbrev pub firings_with : Act → Journal → (event : ℕ) → (some before : List ℕ) → List ℕ
+-- The moments at which an event has fired, by those before an act and what the act has fired: an event fires only while its row is
+-- valid, and begins anew where that becomes valid.
+abbrev pub firings_with : Act → Journal → (event : ℕ) → (some : List Firing) → (before : List ℕ) → List ℕ
 firings_with act earlier event some before =
     if stays_valid event_table no_rows act earlier (event ∷ []) then moments_in (moment_of act) event some ++ before else []
 
 -- the moments at which an event fired since its row became valid, the newest first
 abbrev pub firings : Settings → Journal → ℕ → List ℕ
-firings settings [] event = []
-firings settings (act ∷ earlier) event =
-    firings_with act earlier event (fired settings act earlier) (firings settings earlier event)
+firings settings journal event = firings_of journal (all_fired settings journal) event
 
 -- the tick of a moment
 abbrev pub tick_of : ℕ → ℕ

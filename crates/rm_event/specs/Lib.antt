@@ -4,7 +4,7 @@ pub mod EventTable
 pub mod Firings
 pub mod Tables
 pub mod EventRows
-pub mod RowLaws
+pub mod EventTypes
 pub mod Log
 pub mod Logs
 pub mod Held

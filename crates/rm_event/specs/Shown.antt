@@ -1,22 +1,18 @@
 -- What the rows and the logs that are kept show.
-use Rattle.std.specs.Prelude.{ℕ, pos, List, [], ◌∷◌, Bool, false, ◌&&◌, nat_le, Option, Some, None}
+use Rattle.std.specs.Prelude.{ℕ, pos, List, [], ◌∷◌, Bool, false, ◌&&◌, nat_eq, nat_le, Option, Some, None, if◌then◌else◌}
 use Rattle.std.specs.Option.{option_or, option_map_or}
 use Rattle.rm_val.specs.Val.{Val, int, octets, ticks, null}
 use Rattle.rm_model.specs.Cells.{Cells, Table, cells_of}
-use Rattle.rm_model.specs.ControlRows.{entry_status}
-use Rattle.rm_model.specs.declared.row.State.{State}
+use Rattle.rm_model.specs.ControlRows.{index_value}
+use Rattle.rm_status.specs.KeptCells.{kept_cells}
 use Rattle.rm_status.specs.declared.row.Row.{Row}
 use Rattle.rm_status.specs.Rows.{row_in, columns_in, row_number}
-use Rattle.rm_status.specs.Indexes.{is_index_in}
-use Rattle.rm_event.specs.declared.event_column.EventColumn.{EventColumn}
-use Rattle.rm_event.specs.declared.event_column.EventColumn.TheVariants as event
 use Rattle.rm_event.specs.declared.log_column.LogColumn.{LogColumn}
 use Rattle.rm_event.specs.declared.log_column.LogColumn.TheVariants as log
-use Rattle.rm_event.specs.declared.event_row.EventRow.{EventRow}
+use Rattle.rm_event.specs.EventRows.{EventRow, set_to, description_in_row}
 use Rattle.rm_event.specs.declared.log.Log.{Log}
-use Rattle.rm_event.specs.Columns.{event_columns, event_column, log_columns, log_column}
-use Rattle.rm_event.specs.EventType.{number_of}
-use Rattle.rm_event.specs.EventTable.{event_entry}
+use Rattle.rm_event.specs.Columns.{event_columns, log_columns, log_column}
+use Rattle.rm_event.specs.EventTable.{event_table}
 use Rattle.rm_event.specs.Tables.{log_entry, is_shown}
 use Rattle.rm_event.specs.Log.{kept_time}
 use Rattle.rm_event.specs.Logs.{log_in}
@@ -25,33 +21,17 @@ use Rattle.rm_event.specs.Logs.{log_in}
 abbrev pub sent_in : List Log → ℕ → ℕ
 sent_in logs row = option_map_or (λ log. log.sent) (log_in logs row) 0
 
--- what a column of a row shows, by the row's index, its state, its columns, and when its event fired last
-abbrev pub row_value : ℕ → State → EventRow → ℕ → EventColumn → Val
-row_value index state row sent event.Index = int (pos index)
-row_value index state row sent event.Description = octets row.description.items
-row_value index state row sent event.Type = int (pos (number_of row.event_type))
-row_value index state row sent event.Community = octets row.community.items
-row_value index state row sent event.LastTimeSent = ticks sent
-row_value index state row sent event.Owner = octets row.owner.items
-row_value index state row sent event.Status = int (entry_status state)
-
--- the same for a row that there may be
-abbrev pub value_in : ℕ → Option (Row EventRow) → ℕ → EventColumn → Val
-value_in index None sent column = null
-value_in index (Some row) sent column = row_value index row.state row.columns sent column
+-- what the columns of eventTable show that can't be set
+abbrev pub kept_other : List Log → ℕ → List ℕ → Val
+kept_other logs column index = if nat_eq column 1 then index_value index else ticks (sent_in logs (row_number index))
 
 -- eventTable with these rows and logs
 abbrev pub rows_table : List (Row EventRow) → List Log → Table
-rows_table rows logs = record {
-  entry = event_entry;
-  columns = event_columns;
-  is_row = is_index_in rows;
-  value = λ column index. value_in (row_number index) (row_in rows (row_number index)) (sent_in logs (row_number index)) (event_column column);
-}
+rows_table rows logs = kept_cells event_table set_to event_columns (kept_other logs) rows
 
 -- the description of an event, if there is a row of it
 abbrev pub description_in : List (Row EventRow) → ℕ → Val
-description_in rows event = option_map_or (λ columns. octets columns.description.items) (columns_in rows event) null
+description_in rows event = option_map_or (λ columns. octets (description_in_row columns)) (columns_in rows event) null
 
 -- whether these numbers are those of an event that has a log and of an entry that the log shows
 abbrev pub is_kept : List Log → List ℕ → Bool

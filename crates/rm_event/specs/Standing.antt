@@ -7,6 +7,7 @@ use Rattle.rm_model.specs.ControlRows.{no_rows, is_valid, is_absent}
 use Rattle.rm_model.specs.declared.row.State.{State}
 use Rattle.rm_model.specs.declared.row.State.TheVariants.{Absent, UnderCreation, Valid}
 use Rattle.rm_status.specs.RowsAfter.{AreRowsAfter}
+use Rattle.rm_acts.specs.declared.firing.Firing.{Firing}
 use Rattle.rm_event.specs.declared.events.Events.{Events}
 use Rattle.rm_event.specs.declared.event_type.EventType.{EventType}
 use Rattle.rm_event.specs.declared.fired.Fired.{Fired}
@@ -40,7 +41,7 @@ pub record Stands (events : Events) (settings : Settings) (journal : Journal) : 
   pub logs : AreLogs (kept events.logs) journal (firings settings journal)
 
 -- The group is in an act, which is no Set, after a journal: these events were fired by it so far.
-pub record IsUnderWay (events : Events) (settings : Settings) (act : Act) (earlier : Journal) (some : List ℕ) : Type 0 where
+pub record IsUnderWay (events : Events) (settings : Settings) (act : Act) (earlier : Journal) (some : List Firing) : Type 0 where
   pub rows : HasRows events earlier
   pub logs : AreLogs (kept events.logs) earlier (λ event. firings_with act earlier event some (firings settings earlier event))
 

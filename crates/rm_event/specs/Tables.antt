@@ -1,38 +1,26 @@
 -- What eventTable and logTable show after a journal (RFC 1757, section 5).
-use Rattle.std.specs.Prelude.{ℕ, pos, ◌+◌, ◌-◌, List, [], ◌∷◌, length, Bool, false, ◌&&◌, not, nat_le, nat_lt, slice_get}
+use Rattle.std.specs.Prelude.{ℕ, pos, ◌+◌, ◌-◌, List, [], ◌∷◌, length, Bool, false, ◌&&◌, nat_eq, nat_le, nat_lt, slice_get, if◌then◌else◌}
 use Rattle.std.specs.Option.{option_map_or}
 use Rattle.rm_val.specs.Val.{Val, int, ticks, null}
 use Rattle.rm_model.specs.Settings.{Settings}
 use Rattle.rm_model.specs.Journal.{Journal}
 use Rattle.rm_model.specs.Cells.{Table}
-use Rattle.rm_model.specs.ControlRows.{is_absent, is_valid, index_value, entry_status}
+use Rattle.rm_model.specs.ControlRows.{no_rows, is_valid, index_value}
+use Rattle.rm_model.specs.ControlCells.{control_cells}
 use Rattle.rm_status.specs.Rows.{row_number}
-use Rattle.rm_event.specs.declared.event_column.EventColumn.{EventColumn}
-use Rattle.rm_event.specs.declared.event_column.EventColumn.TheVariants as event
 use Rattle.rm_event.specs.declared.log_column.LogColumn.{LogColumn}
 use Rattle.rm_event.specs.declared.log_column.LogColumn.TheVariants as log
-use Rattle.rm_event.specs.Columns.{event_columns, event_column, log_columns, log_column}
-use Rattle.rm_event.specs.EventTable.{event_entry, event_state, event_set, type_of}
+use Rattle.rm_event.specs.Columns.{event_columns, log_columns, log_column}
+use Rattle.rm_event.specs.EventTable.{event_table, event_state, event_set, type_of}
 use Rattle.rm_event.specs.Firings.{firings, last_sent, logged, tick_of, most_shown}
 
--- what a column of a row shows
-abbrev pub event_value : Settings → Journal → List ℕ → EventColumn → Val
-event_value settings journal index event.Index = index_value index
-event_value settings journal index event.Description = event_set journal index 2
-event_value settings journal index event.Type = event_set journal index 3
-event_value settings journal index event.Community = event_set journal index 4
-event_value settings journal index event.LastTimeSent = ticks (last_sent (firings settings journal (row_number index)))
-event_value settings journal index event.Owner = event_set journal index 6
-event_value settings journal index event.Status = int (entry_status (event_state journal index))
+-- what the columns show that can't be set: 1 is eventIndex, 5 eventLastTimeSent
+abbrev pub event_other : Settings → Journal → ℕ → List ℕ → Val
+event_other settings journal column index = if nat_eq column 1 then index_value index else ticks (last_sent (firings settings journal (row_number index)))
 
 -- eventTable after a journal
 abbrev pub events_table : Settings → Journal → Table
-events_table settings journal = record {
-  entry = event_entry;
-  columns = event_columns;
-  is_row = λ index. not (is_absent (event_state journal index));
-  value = λ column index. event_value settings journal index (event_column column);
-}
+events_table settings journal = control_cells event_table no_rows event_columns (event_other settings journal) journal
 
 -- the identifier of logEntry
 abbrev pub log_entry : List ℕ

@@ -11,7 +11,7 @@ ghost use Rattle.rm_event.specs.Logs.{kept};
 ghost use Rattle.rm_event.specs.Standing.{Stands};
 
 use crate::event_cell::event_entry;
-use crate::event_row::STATUS;
+use crate::event_row::EVENT_STATUS;
 use crate::events::Events;
 use rm_status::{Assigns, Denied};
 use std::alloc::Global;
@@ -62,7 +62,7 @@ impl Events {
         ensures { result ≡ count_valid_after event_table (rows_before set_to self.now.rows) (A.bindings set.now) }
     {
         self.rows
-            .rows_after(set, &event_entry(), STATUS)
+            .rows_after(set, &event_entry(), EVENT_STATUS)
             .count_valid()
     }
 
@@ -75,7 +75,7 @@ impl Events {
     {
         prove!(self.rows.len() <= 16);
         self.rows
-            .first_activated(set, &event_entry(), STATUS)
+            .first_activated(set, &event_entry(), EVENT_STATUS)
             .unwrap()
     }
 
@@ -99,7 +99,7 @@ impl Events {
         ensures stocked { IsStocked self.old → IsStocked self.new }
     {
         prove!(self.rows.len() <= 16);
-        self.rows.commit(set, &event_entry(), STATUS);
+        self.rows.commit(set, &event_entry(), EVENT_STATUS);
         self.logs.follow(&self.rows);
     }
 }

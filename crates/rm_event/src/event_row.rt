@@ -1,132 +1,113 @@
-// The columns of a row of eventTable that can be set.
-ghost use Rattle.std.specs.Prelude.{◌≡◌, refl};
-ghost use Rattle.rm_event.specs.EventTable.{event_table};
-ghost use Rattle.rm_event.specs.EventRows.{set_to, blank_row, with_column};
-ghost use Rattle.rm_event.specs.RowLaws.{blank_alike, set_with};
+// The table eventTable: what is fixed of it, and the types of its columns.
+ghost use Rattle.std.specs.Prelude.{◌≡◌, ◌≤◌, length, refl};
+ghost use Rattle.rm_event.specs.EventTable.{event_sheet, all_together};
+ghost use Rattle.rm_event.specs.EventRows.{description_in_row, type_in_row, community_in_row};
 
 use crate::event_type::EventType;
 use arrayvec::ArrayVec;
-use rm_status::{Columns, number_fault, put_text, text_fault};
-use rm_val::{ErrorStatus, Value};
-
-/// The number of eventDescription.
-const DESCRIPTION: u32 = 2;
-
-/// The number of eventType.
-const TYPE: u32 = 3;
-
-/// The number of eventCommunity.
-const COMMUNITY: u32 = 4;
-
-/// The number of eventOwner.
-const OWNER: u32 = 6;
-
-/// The number of eventStatus.
-pub(crate) const STATUS: u32 = 7;
+use rm_model::{ColumnKind, ColumnSheet, Settable, Setting, Span};
+use rm_status::{Also, Described, Nothing, Sheeted};
 
 /// How many octets a text has at most.
 const MOST_TEXT: usize = 127;
 
-/// The columns of a row of eventTable that can be set (RFC 1757, section 5).
+/// eventEntry (RFC 1757, section 5)
+pub const EVENT_ENTRY: &[u32] = &[1, 3, 6, 1, 2, 1, 16, 9, 1, 1];
+
+/// The numbers of all columns: eventIndex, eventDescription, eventType, eventCommunity, eventLastTimeSent, eventOwner and
+/// eventStatus.
+pub const EVENT_SHOWN: [u32; 7] = [1, 2, 3, 4, 5, 6, 7];
+
+/// The number of eventStatus.
+pub const EVENT_STATUS: u32 = 7;
+
+/// The other columns that can be set: eventDescription, eventType, eventCommunity and eventOwner.
+pub const EVENT_COLUMNS: &[ColumnSheet] = &[
+    ColumnSheet {
+        number: 2,
+        kind: ColumnKind::Text(127),
+        settable: Settable::UnderCreation,
+        needed: false,
+        default: Setting::Empty,
+    },
+    ColumnSheet {
+        number: 3,
+        kind: ColumnKind::Number(Span {
+            least: 1,
+            greatest: 4,
+        }),
+        settable: Settable::UnderCreation,
+        needed: false,
+        default: Setting::Number(1),
+    },
+    ColumnSheet {
+        number: 4,
+        kind: ColumnKind::Text(127),
+        settable: Settable::UnderCreation,
+        needed: false,
+        default: Setting::Empty,
+    },
+    ColumnSheet {
+        number: 6,
+        kind: ColumnKind::Text(127),
+        settable: Settable::Always,
+        needed: false,
+        default: Setting::Empty,
+    },
+];
+
+/// A text of eventTable.
+type Text = ArrayVec<u8, MOST_TEXT>;
+
+/// The table with these columns.
 #[derive(Drop)]
-pub struct EventRow {
-    /// eventDescription
-    pub description: ArrayVec<u8, MOST_TEXT>,
-    /// eventType
-    pub event_type: EventType,
-    /// eventCommunity
-    pub community: ArrayVec<u8, MOST_TEXT>,
-    /// eventOwner
-    pub owner: ArrayVec<u8, MOST_TEXT>,
-}
+pub struct EventTable {}
 
-impl Default for EventRow {
-    ghost is_default = { λ row. row ≡ blank_row };
+/// The columns of a row of eventTable that can be set.
+pub type EventRow = Sheeted<EventTable>;
 
-    fn default() -> Self {
-        EventRow::blank()
-    }
-}
+impl Described for EventTable {
+    type Typed = Also<Text, Also<EventType, Also<Text, Also<Text, Nothing>>>>;
 
-impl Columns for EventRow {
-    ghost table = { event_table };
+    type Data = Nothing;
 
-    ghost set_to = { set_to };
+    ghost sheet = { event_sheet };
 
-    ghost blank_row = { blank_row };
+    ghost go_together = { all_together };
 
-    ghost with_column = { with_column };
-
-    ghost default_is_blank = { λ row is. is };
-
-    ghost blank_alike = { blank_alike };
-
-    ghost set_with = { λ row n other value fine. set_with row n other value fine };
+    ghost fits = { refl };
 
     ghost sound = { refl };
 
-    fn blank() -> Self {
-        EventRow {
-            description: ArrayVec::new(),
-            event_type: EventType::None,
-            community: ArrayVec::new(),
-            owner: ArrayVec::new(),
-        }
+    ghost apart = { refl };
+
+    fn columns() -> &'static [ColumnSheet] {
+        EVENT_COLUMNS
     }
 
-    fn check(column: u32, value: &Value<'_>) -> Option<ErrorStatus> {
-        if column == DESCRIPTION {
-            text_fault(value, MOST_TEXT)
-        } else if column == TYPE {
-            number_fault(value, 1, 4)
-        } else if column == COMMUNITY {
-            text_fault(value, MOST_TEXT)
-        } else if column == OWNER {
-            text_fault(value, MOST_TEXT)
-        } else {
-            Some(ErrorStatus::NotWritable)
-        }
-    }
-
-    fn always(column: u32) -> bool {
-        column == OWNER
-    }
-
-    fn needed(_column: u32) -> bool {
-        false
-    }
-
-    fn put(&mut self, column: u32, value: &Value<'_>) {
-        if column == DESCRIPTION {
-            put_text(&mut self.description, value);
-        } else if column == TYPE {
-            self.event_type = EventType::given(value);
-        } else if column == COMMUNITY {
-            put_text(&mut self.community, value);
-        } else if column == OWNER {
-            put_text(&mut self.owner, value);
-        }
-    }
-
-    fn ready(&self) -> bool {
+    fn agree(_columns: &Self::Typed) -> bool {
         true
-    }
-
-    fn bare(&self) -> Self {
-        EventRow {
-            description: copy_of(&self.description),
-            event_type: self.event_type,
-            community: copy_of(&self.community),
-            owner: copy_of(&self.owner),
-        }
     }
 }
 
-// The same text once more.
-fn copy_of(text: &ArrayVec<u8, MOST_TEXT>) -> ArrayVec<u8, MOST_TEXT>
-    ensures { result.items ≡ text.now.items }
+/// eventDescription
+pub(crate) fn description(row: &EventRow) -> &[u8]
+    ensures { result.now ≡ description_in_row row.now }
 {
-    let mut copy = ArrayVec::new();
-    copy.try_extend_from_slice(text.as_slice()).unwrap();
-    copy
+    row.typed.first.as_slice()
+}
+
+/// eventType
+pub(crate) fn event_type(row: &EventRow) -> EventType
+    ensures { result ≡ type_in_row row.now }
+{
+    row.typed.rest.first
+}
+
+/// eventCommunity
+pub(crate) fn community(row: &EventRow) -> &[u8]
+    ensures value { result.now ≡ community_in_row row.now }
+    ensures most { length result.now ≤ 127 }
+{
+    row.typed.rest.rest.first.as_slice()
 }

@@ -1,17 +1,20 @@
 // Events that fire.
-ghost use Rattle.std.specs.Prelude.{◌≡◌, ℕ, List, [], ◌∷◌, ◌++◌, ◌≤◌, length, true, false, OnOk, IfSome, IfNone, Some};
+ghost use Rattle.std.specs.Prelude.{◌≡◌, ℕ, List, [], ◌∷◌, ◌++◌, ◌≤◌, length, true, false, OnOk, IfSome, IfNone, Option, Some};
 ghost use Rattle.std.specs.Option.{option_map};
 ghost use Rattle.rm_val.specs.Val.{octets};
 ghost use Rattle.rm_model.specs.Settings.{Settings};
 ghost use Rattle.rm_model.specs.Journal.{Act, Journal, moment_of};
 ghost use Rattle.rm_model.specs.ControlRows.{is_valid};
 ghost use Rattle.rm_status.specs.Rows.{state_in, columns_in};
-ghost use Rattle.rm_event.specs.declared.event_row.EventRow.{EventRow as Columns};
+ghost use Rattle.rm_acts.specs.declared.firing.Firing.{Firing};
+ghost use Rattle.rm_event.specs.declared.fired.Fired.TheVariants as FiredTo;
+ghost use Rattle.rm_event.specs.EventRows.{EventRow as Columns, type_in_row};
 ghost use Rattle.rm_event.specs.EventTable.{event_state, type_of};
 ghost use Rattle.rm_event.specs.Firings.{is_set};
 ghost use Rattle.rm_event.specs.Group.{IsStocked, IsReleased};
 ghost use Rattle.rm_event.specs.Standing.{HasRows, Stands, IsUnderWay, fired_of, community_of};
 
+use crate::event_row::{community, event_type};
 use crate::event_type::EventType;
 use crate::events::Events;
 use crate::fired::Fired;
@@ -44,11 +47,13 @@ impl Events {
     /// Fires the event with that index at a moment, in milliseconds, and tells what became of it. Only an event with a valid row
     /// fires.
     pub fn fire(&mut self, index: u32, moment: u32) -> Fired
-        ensures under_way { (settings : Settings) (act : Act) (earlier : Journal) (some : List ℕ) → is_set act ≡ false
+        ensures under_way { (settings : Settings) (act : Act) (earlier : Journal) (some : List Firing) (by_channel : Option ℕ) → is_set act ≡ false
             → moment_of act ≡ moment
-            → IsUnderWay self.old settings act earlier some → IsUnderWay self.new settings act earlier (some ++ index ∷ []) }
+            → IsUnderWay self.old settings act earlier some
+            → IsUnderWay self.new settings act earlier (some ++ record { event = index; channel = by_channel } ∷ []) }
         ensures result { (journal : Journal) → HasRows self.old journal
             → result ≡ fired_of (event_state journal (index ∷ [])) (type_of journal index) }
+        ensures absent { result ≡ FiredTo.Absent → self.new ≡ self.old }
         ensures stocked { IsStocked self.old → IsStocked self.new }
         ensures released { IsReleased self.old → IsReleased self.new }
     {
@@ -64,11 +69,11 @@ impl Events {
     // The type of an event, if its row is valid.
     fn valid_type(&self, index: u32) -> Option<EventType>
         ensures valid { IfSome result (λ kind. (is_valid (state_in self.now.rows index) ≡ true)
-            × ((columns : Columns) → columns_in self.now.rows index ≡ Some columns → kind ≡ columns.event_type)) }
+            × ((columns : Columns) → columns_in self.now.rows index ≡ Some columns → kind ≡ type_in_row columns)) }
         ensures idle { IfNone result (is_valid (state_in self.now.rows index) ≡ false) }
     {
         match self.rows.state(index) {
-            State::Valid => Some(self.rows.get(index)?.event_type),
+            State::Valid => Some(event_type(self.rows.get(index)?)),
             _ => None,
         }
     }
@@ -81,7 +86,7 @@ impl Events {
     {
         prove!(self.rows.len() <= 16);
         match self.rows.get(index) {
-            Some(row) => Some(row.community.as_slice()),
+            Some(row) => Some(community(row)),
             None => None,
         }
     }

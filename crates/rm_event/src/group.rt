@@ -3,8 +3,7 @@ ghost use Rattle.std.specs.Prelude.{◌≡◌, ℕ, List};
 
 use crate::cells::{cell_of, next_of};
 use crate::event_cell::event_entry;
-use crate::event_column::EVENT_COLUMNS;
-use crate::event_row::STATUS;
+use crate::event_row::{EVENT_SHOWN, EVENT_STATUS};
 use crate::events::Events;
 use crate::log_cell::log_entry;
 use crate::log_column::LOG_COLUMNS;
@@ -58,13 +57,13 @@ impl Group for Events {
     }
 
     fn judge_alone<A: Assigns>(&self, set: &A) -> Verdict {
-        let rows = self.rows.judge_alone(set, &event_entry(), STATUS);
+        let rows = self.rows.judge_alone(set, &event_entry(), EVENT_STATUS);
         let entries = judge_read_only(set, &log_entry(), &LOG_COLUMNS);
         lower_verdict(rows, entries)
     }
 
     fn judge_rows<A: Assigns, L: Look>(&self, set: &A, _now: u32, _look: &L) -> Verdict {
-        self.rows.judge_rows(set, &event_entry(), STATUS)
+        self.rows.judge_rows(set, &event_entry(), EVENT_STATUS)
     }
 
     fn prepare<A: Assigns, L: Look>(
@@ -93,7 +92,7 @@ impl Objects for Events {
     ghost objects = { event_objects };
 
     fn has_object(name: &Oid) -> bool {
-        is_of_column(name, &event_entry(), &EVENT_COLUMNS)
+        is_of_column(name, &event_entry(), &EVENT_SHOWN)
             || is_of_column(name, &log_entry(), &LOG_COLUMNS)
     }
 }

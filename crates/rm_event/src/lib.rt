@@ -5,7 +5,6 @@ mod assigning;
 mod cells;
 mod entries;
 mod event_cell;
-mod event_column;
 mod event_row;
 mod event_type;
 mod events;

@@ -101,8 +101,14 @@ impl Objects for History {
 }
 
 impl Readable for History {
+    ghost use Rattle.std.specs.Prelude.{refl};
+    ghost use Rattle.rm_model.specs.Cells.{cells_of};
+    ghost use Rattle.rm_history.specs.HistoryControl.{control_table};
+    ghost use Rattle.rm_history.specs.EtherHistory.{sample_table};
     ghost use Rattle.rm_history.specs.Runs.{kept};
     ghost use Rattle.rm_history.specs.Shown.{cells_shown};
+
+    ghost sampleable = { λ settings journal now name. option_or (cells_of (control_table journal) name) (cells_of (sample_table settings journal now) name) };
 
     ghost shown = { λ s now. cells_shown s.rows (kept s.runs) now };
 
@@ -114,6 +120,8 @@ impl Readable for History {
     fn shows(&self, _now: u32) {
         prove!(self.rows.len() <= 16);
     }
+
+    ghost recurring = { λ keep_short one other journal alike now name. refl };
 }
 
 impl Unsampled for History {

@@ -10,3 +10,4 @@ pub mod Accepted
 pub mod CrossingLaws
 mod CrossingExamples
 mod AlarmExamples
+mod IndexingExamples

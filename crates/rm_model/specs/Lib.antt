@@ -14,3 +14,6 @@ pub mod Accepted
 pub mod Reserves
 pub mod Crossings
 pub mod Alarms
+pub mod Sheet
+pub mod ControlCells
+pub mod Indexing

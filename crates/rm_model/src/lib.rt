@@ -14,6 +14,7 @@ mod place;
 mod reading;
 mod row;
 mod sampled;
+mod sheet;
 mod verdict;
 
 pub use instance::Instance;
@@ -21,4 +22,5 @@ pub use place::Place;
 pub use reading::Reading;
 pub use row::{Ask, State, StatusKind};
 pub use sampled::Sampled;
+pub use sheet::{ColumnKind, ColumnSheet, Settable, Setting, Span};
 pub use verdict::Verdict;

@@ -25,3 +25,4 @@ pub mod Named
 pub mod RowsAfterLemmas
 pub mod Valid
 pub mod Bares
+pub mod KeptCellsLaws

@@ -13,3 +13,12 @@ pub mod Indexes
 pub mod RowsAfter
 pub mod Bare
 pub mod Readable
+pub mod Field
+pub mod Also
+pub mod FieldLaws
+pub mod Kinds
+pub mod SheetLaws
+pub mod Sheeted
+pub mod KeptCells
+pub mod Via
+pub mod Pair

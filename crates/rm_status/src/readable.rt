@@ -1,10 +1,12 @@
 // Groups whose variables alarms may sample.
-ghost use Rattle.std.specs.Prelude.{◌≡◌, ℕ, ◌≤◌, List, Option, false};
+ghost use Rattle.std.specs.Prelude.{◌≡◌, ℕ, ◌≤◌, List, Option, false, refl};
 ghost use Rattle.std.specs.Option.{option_map, option_or};
 ghost use Rattle.rm_val.specs.Val.{val_of};
 ghost use Rattle.rm_model.specs.Settings.{Settings};
 ghost use Rattle.rm_model.specs.Journal.{Journal, last_moment};
 ghost use Rattle.rm_model.specs.Cells.{Cells, cells_of};
+ghost use Rattle.rm_acts.specs.Recurring.{ReadBefore};
+ghost use Rattle.rm_acts.proofs.ShownLaws.{both_before};
 ghost use Rattle.rm_status.specs.Readable.{reading_of};
 ghost use Rattle.rm_status.specs.System.{system_table};
 
@@ -17,10 +19,15 @@ use rm_val::{Oid, Value};
 
 /// A group whose variables alarms may sample: its cells follow from what it keeps.
 pub trait Readable: Group {
-    /// The group's cells at a moment in milliseconds, by what it keeps.
+    /// Those of the group's cells that alarms may sample, after a journal and at a moment in milliseconds, by what the probe was set
+    /// to.
+    ghost sampleable: { Settings → Journal → ℕ → Cells };
+
+    /// The same at a moment in milliseconds, by what the group keeps.
     ghost shown: { Self → ℕ → Cells };
 
-    /// The value of the variable with that name at a moment in milliseconds. None where the group has no such variable.
+    /// The value of the variable with that name at a moment in milliseconds. None where the group has no such variable that alarms
+    /// may sample.
     fn value(&self, name: &Oid, now: u32) -> Option<Value<'_>>
         ensures { option_map val_of result ≡ shown self.now now name.now };
 
@@ -28,10 +35,15 @@ pub trait Readable: Group {
     /// act isn't later. It does nothing.
     fn shows(&self, now: u32)
         ensures { (settings : Settings) (journal : Journal) → Self.Group.stands self.now settings journal → last_moment journal ≤ now
-            → (name : List ℕ) → shown self.now now name ≡ Self.Group.cells settings journal now name };
+            → (name : List ℕ) → shown self.now now name ≡ sampleable settings journal now name };
+
+    /// They depend on what alarms read after earlier acts only.
+    ghost recurring: { ReadBefore sampleable };
 }
 
 impl Readable for System {
+    ghost sampleable = { λ settings journal now. cells_of (system_table now) };
+
     ghost shown = { λ s now. cells_of (system_table now) };
 
     fn value(&self, name: &Oid, now: u32) -> Option<Value<'_>> {
@@ -39,9 +51,13 @@ impl Readable for System {
     }
 
     fn shows(&self, _now: u32) {}
+
+    ghost recurring = { λ keep_short one other journal alike now name. refl };
 }
 
 impl<G: Readable, H: Readable> Readable for Both<G, H> {
+    ghost sampleable = { λ settings journal now name. option_or (G.sampleable settings journal now name) (H.sampleable settings journal now name) };
+
     ghost shown = { λ s now name. option_or (G.shown s.first now name) (H.shown s.second now name) };
 
     fn value(&self, name: &Oid, now: u32) -> Option<Value<'_>> {
@@ -55,6 +71,8 @@ impl<G: Readable, H: Readable> Readable for Both<G, H> {
         self.first.shows(now);
         self.second.shows(now);
     }
+
+    ghost recurring = { both_before G.sampleable H.sampleable G.recurring H.recurring };
 }
 
 /// What a variable with that value reads, or without one: its number where it is an INTEGER, a Counter32, a Gauge32 or

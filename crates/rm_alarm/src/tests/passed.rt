@@ -129,6 +129,10 @@ impl Group for Passed {
 }
 
 impl Readable for Passed {
+    ghost use Rattle.std.specs.Prelude.{refl};
+
+    ghost sampleable = { λ settings journal now. cells_of (made_up_table true false (length (frames_in journal))) };
+
     ghost shown = { λ s now. cells_of (made_up_table s.is_there s.is_gauge s.frames) };
 
     fn value(&self, name: &Oid, _now: u32) -> Option<Value<'_>> {
@@ -144,6 +148,8 @@ impl Readable for Passed {
     }
 
     fn shows(&self, _now: u32) {}
+
+    ghost recurring = { λ keep_short one other journal alike now name. refl };
 }
 
 impl Unsampled for Passed {

@@ -9,7 +9,7 @@ use Rattle.rm_alarm.proofs.watched.Watched.sample.Goals as goal
 
 pub returns-clause-stands : goal.returns-clause-stands
 returns-clause-stands g c settings journal is later =
-    let read = ap (option_map (λ reading. reading.value)) (reads g.G.Group.cells (g.G.Readable.shown c.args.self.now.watched c.args.moment) settings journal c.args.moment (c.shows.ensures settings journal is.watched later) is.readings (variable_of journal c.args.index)) in
+    let read = ap (option_map (λ reading. reading.value)) (reads g.G.Readable.sampleable (g.G.Readable.shown c.args.self.now.watched c.args.moment) settings journal c.args.moment (c.shows.ensures settings journal is.watched later) is.readings (variable_of journal c.args.index)) in
     record {
       readings = is.readings;
       watched = g.met.G.Unsampled.sampled c.args.self.now.watched settings journal c.args.moment c.args.index _ is.watched later;
@@ -21,6 +21,6 @@ returns-clause-stands g c settings journal is later =
 
 pub returns-clause-result : goal.returns-clause-result
 returns-clause-result g c settings journal is later =
-    let read = ap (option_map (λ reading. reading.value)) (reads g.G.Group.cells (g.G.Readable.shown c.args.self.now.watched c.args.moment) settings journal c.args.moment (c.shows.ensures settings journal is.watched later) is.readings (variable_of journal c.args.index)) in
+    let read = ap (option_map (λ reading. reading.value)) (reads g.G.Readable.sampleable (g.G.Readable.shown c.args.self.now.watched c.args.moment) settings journal c.args.moment (c.shows.ensures settings journal is.watched later) is.readings (variable_of journal c.args.index)) in
     subst (λ (number : Option ℤ). c.sample.result ≡ sampled settings journal c.args.moment c.args.index number) read
     (c.sample.ensures.result settings journal is.stand is.based)

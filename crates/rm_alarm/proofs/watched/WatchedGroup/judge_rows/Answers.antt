@@ -17,7 +17,7 @@ pub returns-clause-verdict : goal.returns-clause-verdict
 returns-clause-verdict g c settings journal is later =
     let b = g.A.Assigns.bindings c.args.set.now in
     let read = g.L.Look.readings c.args.look.now c.args.now in
-    let same = same_readings g.G.Group.cells (g.G.Readable.shown c.args.self.now.watched c.args.now) settings journal c.args.now (c.shows.ensures settings journal is.watched later) is.readings in
+    let same = same_readings g.G.Readable.sampleable (g.G.Readable.shown c.args.self.now.watched c.args.now) settings journal c.args.now (c.shows.ensures settings journal is.watched later) is.readings in
     c.lower_verdict.ensures.lowest (length b)
     (g.G.Group.together settings journal c.args.now read b)
     (alarm_together (settings.readings journal c.args.now) (rows_after alarm_table no_rows journal) b)

@@ -15,5 +15,5 @@ returns-clause-ready g c = record {
   fine = c.remember.ensures.fine;
   read = λ settings journal readings stands later.
       c.remember.ensures.read settings journal
-      (reads g.G.Group.cells (g.G.Readable.shown c.prepare.new.self c.args.now) settings journal c.args.now (c.shows.ensures settings journal stands later) readings);
+      (reads g.G.Readable.sampleable (g.G.Readable.shown c.prepare.new.self c.args.now) settings journal c.args.now (c.shows.ensures settings journal stands later) readings);
 }

@@ -1,0 +1,12 @@
+pub mod ShownLaws
+pub mod RecurringLaws
+mod FilterExamples
+mod ExampleActs
+mod ActExamples
+mod ChannelExamples
+mod BufferExamples
+mod NoticeExamples
+mod ExampleLaws
+pub mod TurnedLaws
+pub mod RowsLaws
+pub mod SeenLaws

@@ -1,0 +1,10 @@
+pub mod Bits
+pub mod Rows
+pub mod Seen
+pub mod Events
+pub mod Filters
+pub mod Channels
+pub mod Fired
+pub mod Buffers
+pub mod Recurring
+pub mod Shown

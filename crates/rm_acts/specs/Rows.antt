@@ -1,0 +1,56 @@
+-- The rows of a control table whose indexes are one number, in order, and what their columns hold.
+use Rattle.std.specs.Prelude.{ℕ, pos, List, [], ◌∷◌, Bool, nat_eq, nat_lt, if◌then◌else◌, Option, Some, None, filter, filter_map}
+use Rattle.rm_val.specs.Val.{Val, int, octets}
+use Rattle.rm_model.specs.Journal.{Journal}
+use Rattle.rm_model.specs.ControlTable.{ControlTable}
+use Rattle.rm_model.specs.ControlRows.{no_rows, is_valid, state_of, value_of}
+use Rattle.rm_model.proofs.Rows.{indexes_of}
+use Rattle.rm_model.specs.declared.row.State.{State}
+
+-- the number that a value is, 0 where it is none or is negative, and the octets of a text
+abbrev pub natural_of : Val → ℕ
+natural_of (int (pos n)) = n
+natural_of value = 0
+
+abbrev pub text_of : Val → List ℕ
+text_of (octets bytes) = bytes
+text_of value = []
+
+-- the state of a row, whether it is valid, and what a column of it holds
+abbrev pub row_state : ControlTable → Journal → ℕ → State
+row_state table journal row = state_of table no_rows journal (row ∷ [])
+
+abbrev pub has_valid : ControlTable → Journal → ℕ → Bool
+has_valid table journal row = is_valid (row_state table journal row)
+
+abbrev pub number_in : ControlTable → Journal → ℕ → (column : ℕ) → ℕ
+number_in table journal row column = natural_of (value_of table no_rows journal (row ∷ []) column)
+
+abbrev pub text_in : ControlTable → Journal → ℕ → (column : ℕ) → List ℕ
+text_in table journal row column = text_of (value_of table no_rows journal (row ∷ []) column)
+
+-- the number that an index is, if it is one
+abbrev pub one_number : List ℕ → Option ℕ
+one_number [] = None
+one_number (number ∷ []) = Some number
+one_number (number ∷ more ∷ rest) = None
+
+-- numbers in rising order, each once, with one more
+abbrev pub with_number : ℕ → List ℕ → List ℕ
+with_number number [] = number ∷ []
+with_number number (first ∷ more) =
+    if nat_lt number first then number ∷ first ∷ more
+    else if nat_eq number first then first ∷ more
+    else first ∷ with_number number more
+
+abbrev pub with_numbers : List ℕ → List ℕ → List ℕ
+with_numbers [] others = others
+with_numbers (number ∷ more) others = with_number number (with_numbers more others)
+
+-- the rows whose status was set so far, in rising order
+abbrev pub named_rows : ControlTable → Journal → List ℕ
+named_rows table journal = with_numbers (filter_map one_number (indexes_of table [] journal)) []
+
+-- the valid rows, in rising order
+abbrev pub valid_rows : ControlTable → Journal → List ℕ
+valid_rows table journal = filter (has_valid table journal) (named_rows table journal)
