@@ -1,21 +1,21 @@
 -- What is kept of a capture between the calls.
-use Rattle.std.proofs.Common.{◌≡◌, ℕ, List, ◌++◌, length, take, drop, Option, Some, None, Err, refl, sym, ap, subst, ◌∙◌, arith}
-use Rattle.std.proofs.lemmas.List.{length-take, take_at}
+use Rattle.std.proofs.Common.{◌≡◌, ℕ, ◌+◌, ◌≤◌, List, length, take, drop, Option, Some, None, Err, refl, sym, ap, subst, ◌∙◌, arith}
+use Rattle.std.proofs.lemmas.List.{length-take, drop-drop}
 use Rattle.rm_edge.specs.Outside.{Held, File}
 use Rattle.rm_pcap.specs.declared.fault.PcapFault.{PcapFault}
 use Rattle.rm_pcap.specs.declared.fault.PcapFault.TheVariants.{Magic, Version, LinkType, Included, Original, Late, TooMany, Read, NoMemory}
-use Rattle.rm_pcap.specs.declared.place.Place.{Place}
 use Rattle.rm_pcap.specs.declared.reach.Reach.{Reach}
+use Rattle.rm_pcap.specs.declared.record.Record.{Record}
 use Rattle.rm_pcap.specs.declared.record.Seen.{Seen}
 use Rattle.rm_pcap.specs.declared.record.Seen.TheVariants.{Whole as SeenWhole, End as SeenEnd, Cut as SeenCut}
 use Rattle.rm_pcap.specs.Header.{header_of}
 use Rattle.rm_pcap.specs.Records.{Found, Whole, Stops}
 use Rattle.rm_pcap.specs.Progress.{Progress, Agrees, IsLawfulFind, next_in, looking_at, passing}
 use Rattle.rm_pcap.specs.Calls.{Looks, Passes, IsHeaderFault, BeginsAs}
-use Rattle.rm_pcap.specs.Filling.{Fills}
-use Rattle.rm_pcap.specs.View.{ahead_of}
-use Rattle.rm_pcap.specs.Seen.{found_of, FollowsSeen, IsAhead}
+use Rattle.rm_pcap.specs.Filling.{Fills, IsFront}
+use Rattle.rm_pcap.specs.Seen.{found_of, Follows, FollowsSeen, IsAhead}
 use Rattle.rm_pcap.proofs.FrontLemmas.{header_front}
+use Rattle.rm_pcap.proofs.WindowLemmas.{front_behind}
 
 -- a capture that doesn't begin by a fault of its header
 pub begins_not : (bytes : List ℕ) (fault : PcapFault) → IsHeaderFault fault → header_of bytes ≡ Err fault → BeginsAs bytes (Err fault)
@@ -34,9 +34,9 @@ pub header_read : (bytes header : List ℕ) (count : ℕ) → length header ≡ 
 header_read bytes header count long fills = ap header_of (fills.are ∙ ap (λ (k : ℕ). take k bytes) long) ∙ header_front bytes
 
 -- what was seen is lawful
-pub lawful_find : (reach : Reach) (buffer : List ℕ) (seen : Seen) → FollowsSeen reach seen → IsLawfulFind reach (found_of reach buffer seen)
-lawful_find reach buffer (SeenWhole whole) follows = record {
-  captured = omega (arith, follows.captured, length-take whole.included (drop 16 buffer));
+pub lawful_find : (reach : Reach) (octets : List ℕ) (seen : Seen) → FollowsSeen reach seen → IsLawfulFind reach (found_of reach octets seen)
+lawful_find reach octets (SeenWhole whole) follows = record {
+  captured = omega (arith, follows.captured, length-take whole.included (drop 16 octets));
   most = follows.most;
   number = follows.number;
   few = follows.few;
@@ -44,8 +44,8 @@ lawful_find reach buffer (SeenWhole whole) follows = record {
   last = refl;
   count = refl;
 }
-lawful_find reach buffer SeenEnd follows = tt
-lawful_find reach buffer SeenCut follows = tt
+lawful_find reach octets SeenEnd follows = tt
+lawful_find reach octets SeenCut follows = tt
 
 pub follows_seen : (reach : Reach) (ahead : Option Seen) (seen : Seen) → IsAhead reach ahead → ahead ≡ Some seen → FollowsSeen reach seen
 follows_seen reach ahead (SeenWhole whole) follows is = follows whole is
@@ -59,47 +59,54 @@ looks_again held now found is lawful = record {
   finds = record {
     lawful = lawful;
     again = λ was e. let s : Some found ≡ Some was = sym is ∙ e in cc;
-    stands = λ bytes file agrees. agrees found is;
+    stands = λ bytes file agrees. agrees.ahead found is;
     agrees = λ bytes file agrees. agrees;
   };
 }
 
-agrees_looking : (old : Progress) (found : Found) (bytes : List ℕ) → found ≡ next_in old bytes → Agrees (looking_at old found) bytes
-agrees_looking old found bytes is = λ was e. let s : was ≡ found = cc in s ∙ is
+agrees_looking : (old : Progress) (found : Found) (octets bytes : List ℕ) → found ≡ next_in old bytes → IsFront octets (drop old.reach.at bytes) → Agrees (looking_at old found octets) bytes
+agrees_looking old found octets bytes is front = record { ahead = λ was e. let s : was ≡ found = cc in s ∙ is; read = front }
 
 -- it is found now
-pub looks_new : (held : Held) (old new : Progress) (found : Found) → old.ahead ≡ None → new ≡ looking_at old found → IsLawfulFind old.reach found
-    → ((bytes : List ℕ) → held ≡ File bytes → found ≡ next_in old bytes) → Looks held old new found
+pub looks_new : (held : Held) (old new : Progress) (found : Found) → old.ahead ≡ None → new ≡ looking_at old found new.read → IsLawfulFind old.reach found
+    → ((bytes : List ℕ) → held ≡ File bytes → IsFront old.read (drop old.reach.at bytes) → IsFront new.read (drop old.reach.at bytes) × (found ≡ next_in old bytes)) → Looks held old new found
 looks_new held old new found none place lawful stands = record {
   place = place;
   finds = record {
     lawful = lawful;
     again = λ was e. let s : None ≡ Some was = sym none ∙ e in cc;
-    stands = λ bytes file agrees. stands bytes file;
-    agrees = λ bytes file agrees. subst (λ (p : Progress). Agrees p bytes) (sym place) (agrees_looking old found bytes (stands bytes file));
+    stands = λ bytes file agrees. (stands bytes file agrees.read).1;
+    agrees = λ bytes file agrees.
+        let there = stands bytes file agrees.read in subst (λ (p : Progress). Agrees p bytes) (sym place) (agrees_looking old found new.read bytes there.1 there.0);
   };
 }
 
-agrees_passing : (old : Progress) (found : Found) (bytes : List ℕ) → found ≡ next_in old bytes → Agrees (passing old found) bytes
-agrees_passing old (Whole frame after) bytes is = λ was e. cc
-agrees_passing old (Stops stop) bytes is = agrees_looking old (Stops stop) bytes is
+agrees_passing : (old : Progress) (found : Found) (octets bytes : List ℕ) → found ≡ next_in old bytes → IsFront octets (drop (passing old found octets).reach.at bytes)
+    → Agrees (passing old found octets) bytes
+agrees_passing old (Whole frame after) octets bytes is front = record { ahead = λ was e. cc; read = front }
+agrees_passing old (Stops stop) octets bytes is front = agrees_looking old (Stops stop) octets bytes is front
 
 -- what was found is passed
-pub passes : (held : Held) (old mid new : Progress) (found : Found) → Looks held old mid found → new ≡ passing old found → Passes held old new found
-passes held old mid new found looks place = record {
+pub passes : (held : Held) (old mid new : Progress) (found : Found) → Looks held old mid found → new ≡ passing old found new.read
+    → ((bytes : List ℕ) → IsFront mid.read (drop old.reach.at bytes) → IsFront new.read (drop (passing old found new.read).reach.at bytes)) → Passes held old new found
+passes held old mid new found looks place behind = record {
   place = place;
   finds = record {
     lawful = looks.finds.lawful;
     again = looks.finds.again;
     stands = looks.finds.stands;
-    agrees = λ bytes file agrees. subst (λ (p : Progress). Agrees p bytes) (sym place) (agrees_passing old found bytes (looks.finds.stands bytes file agrees));
+    agrees = λ bytes file agrees.
+        let same : mid.reach ≡ old.reach = ap (λ (p : Progress). p.reach) looks.place in
+        let front = subst (λ (r : Reach). IsFront mid.read (drop r.at bytes)) same (looks.finds.agrees bytes file agrees).read in
+        subst (λ (p : Progress). Agrees p bytes) (sym place) (agrees_passing old found new.read bytes (looks.finds.stands bytes file agrees) (behind bytes front));
   };
 }
 
--- what isn't seen doesn't hang on the buffer
-pub unseen : (place : Place) (before now : List ℕ) (seen : Option Seen) → seen ≡ None → ahead_of place now seen ≡ ahead_of place before seen
-unseen place before now seen none = rw none refl
-
--- the octets behind a slice that was written whole
-pub written : (count : ℕ) (now before : List ℕ) → length now ≡ count → take count (now ++ drop (length now) before) ≡ now
-written count now before long = take_at now (drop (length now) before) count long
+-- what is next behind a record that was passed
+pub behind_record : (reach : Reach) (seen : Record) (octets next bytes : List ℕ) → Follows reach seen → next ≡ drop (16 + seen.included) octets → 16 + seen.included ≤ length octets
+    → IsFront octets (drop reach.at bytes) → IsFront next (drop seen.after.at bytes)
+behind_record reach seen octets next bytes follows is within front =
+    let n = 16 + seen.included in
+    let behind : IsFront (drop n octets) (drop n (drop reach.at bytes)) = front_behind n octets (drop reach.at bytes) front within in
+    let rest : drop n (drop reach.at bytes) ≡ drop seen.after.at bytes = drop-drop n reach.at bytes ∙ ap (λ (k : ℕ). drop k bytes) (sym follows.place) in
+    subst (λ (t : List ℕ). IsFront t (drop seen.after.at bytes)) (sym is) (subst (λ (t : List ℕ). IsFront (drop n octets) t) rest behind)

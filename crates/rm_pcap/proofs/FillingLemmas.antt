@@ -16,7 +16,7 @@ pub record SoFar {F : Type 0} (held : F → List ℕ → Held) (faults : F → L
   pub none : held first name ≡ Absent → filled ≡ 0
 
 -- the front of a list, in two parts
-take_sum : (a b : ℕ) (xs : List ℕ) → a ≤ length xs → take (a + b) xs ≡ take a xs ++ take b (drop a xs)
+pub take_sum : (a b : ℕ) (xs : List ℕ) → a ≤ length xs → take (a + b) xs ≡ take a xs ++ take b (drop a xs)
 take_sum a b xs within =
     let parts : take a xs ++ drop a xs ≡ xs = take-append-drop a xs in
     let long : length (take a xs) ≡ a = length-take-le a xs within in
@@ -24,7 +24,7 @@ take_sum a b xs within =
     rw (long, parts) at e
 
 -- the front of a buffer whose octets from a place on were read
-put_front : (a b k : ℕ) (xs ys : List ℕ) → a ≤ length xs → b ≤ length ys → take (a + b) (put_mid a k xs ys) ≡ take a xs ++ take b ys
+pub put_front : (a b k : ℕ) (xs ys : List ℕ) → a ≤ length xs → b ≤ length ys → take (a + b) (put_mid a k xs ys) ≡ take a xs ++ take b ys
 put_front a b k xs ys within few =
     let long : length (take a xs) ≡ a = length-take-le a xs within in
     let whole : take (a + length ys) (put_mid a k xs ys) ≡ take a xs ++ ys = take-put_mid a k xs ys (a + length ys) refl within in

@@ -29,7 +29,7 @@ little_front i (suc n) k xs fits =
     let more : little_from (suc i) n (take k xs) ≡ little_from (suc i) n xs = little_front (suc i) n k xs (omega (arith, fits)) in
     rw (here, more) refl
 
-rest_front : (at m : ℕ) (xs : List ℕ) → at ≤ m → drop at (take m xs) ≡ take (m - at) (drop at xs)
+pub rest_front : (at m : ℕ) (xs : List ℕ) → at ≤ m → drop at (take m xs) ≡ take (m - at) (drop at xs)
 rest_front at m xs within = let e : m ≡ at + (m - at) = omega arith in ap (λ (k : ℕ). drop at (take k xs)) e ∙ drop-take at (m - at) xs
 
 -- a number that stands within the front of some octets

@@ -15,7 +15,7 @@ pub record PassedOne (held : Held) (old new : Progress) (frame : Frame) : Type 0
   pub after : Reach
   pub shows : Shows (Next frame) (Whole passed after)
   pub lawful : IsLawful old.reach passed after
-  pub place : new ≡ record old { reach = after; ahead = None }
+  pub place : new ≡ record old { reach = after; ahead = None; read = new.read }
   pub found : (bytes : List ℕ) → held ≡ File bytes → Agrees old bytes → next_in old bytes ≡ Whole passed after
   pub agrees : (bytes : List ℕ) → held ≡ File bytes → Agrees old bytes → Agrees new bytes
 
@@ -36,7 +36,7 @@ passed_one held old new frame steps = passed_found held old new frame steps.0 st
 
 -- no record was left
 pub record NonePassed (held : Held) (old new : Progress) (stop : Stop) : Type 0 where
-  pub place : new ≡ looking_at old (Stops stop)
+  pub place : new ≡ looking_at old (Stops stop) new.read
   pub found : (bytes : List ℕ) → held ≡ File bytes → Agrees old bytes → next_in old bytes ≡ Stops stop
   pub agrees : (bytes : List ℕ) → held ≡ File bytes → Agrees old bytes → Agrees new bytes
 

@@ -1,5 +1,5 @@
 -- What the calls on a capture tell of it and of its file.
-use Rattle.std.specs.Prelude.{◌≡◌, ℕ, ◌+◌, List, Option, Some, None, Result, Ok, Err, ◌⊎◌, ⊤}
+use Rattle.std.specs.Prelude.{◌≡◌, ℕ, ◌+◌, List, drop, Option, Some, None, Result, Ok, Err, ◌⊎◌, ⊤}
 use Rattle.rm_edge.specs.Outside.{Held, File}
 use Rattle.rm_pcap.specs.declared.form.Form.{Form}
 use Rattle.rm_pcap.specs.declared.reach.Reach.{Reach}
@@ -7,6 +7,7 @@ use Rattle.rm_pcap.specs.declared.fault.PcapFault.{PcapFault}
 use Rattle.rm_pcap.specs.declared.fault.PcapFault.TheVariants.{Magic, Version, LinkType, Included, Original, Late, TooMany, Read, NoMemory}
 use Rattle.rm_pcap.specs.declared.frame.Step.{Step}
 use Rattle.rm_pcap.specs.Header.{header_of}
+use Rattle.rm_pcap.specs.Filling.{IsFront}
 use Rattle.rm_pcap.specs.Records.{Found, Stops, Broken, found_at}
 use Rattle.rm_pcap.specs.Progress.{Progress, Agrees, IsLawfulFind, Shows, next_in, looking_at, passing, moment_found}
 
@@ -20,12 +21,12 @@ pub record Finds (held : Held) (old new : Progress) (found : Found) : Type 0 whe
 
 -- a look finds it, and stays at the same place
 pub record Looks (held : Held) (old new : Progress) (found : Found) : Type 0 where
-  pub place : new ≡ looking_at old found
+  pub place : new ≡ looking_at old found new.read
   pub finds : Finds held old new found
 
 -- it is found and passed
 pub record Passes (held : Held) (old new : Progress) (found : Found) : Type 0 where
-  pub place : new ≡ passing old found
+  pub place : new ≡ passing old found new.read
   pub finds : Finds held old new found
 
 -- the moment that a look answers
@@ -45,19 +46,19 @@ IsFaultAt reach (Late at) = at ≡ reach.at
 IsFaultAt reach TooMany = reach.count ≡ 100000000
 IsFaultAt reach fault = ⊥
 
--- the next record has that fault
-pub record Breaks (held : Held) (form : Form) (lead : ℕ) (reach : Reach) (fault : PcapFault) : Type 0 where
+-- the next record has that fault, in a file that has the octets that were read
+pub record Breaks (held : Held) (form : Form) (lead : ℕ) (reach : Reach) (read : List ℕ) (fault : PcapFault) : Type 0 where
   pub place : IsFaultAt reach fault
-  pub stands : (bytes : List ℕ) → held ≡ File bytes → found_at form lead reach bytes ≡ Stops (Broken fault)
+  pub stands : (bytes : List ℕ) → held ≡ File bytes → IsFront read (drop reach.at bytes) → found_at form lead reach bytes ≡ Stops (Broken fault)
 
 -- a look fails by a read or by the file
-abbrev pub IsBroken : Held → Form → ℕ → Reach → PcapFault → Type 0
-IsBroken held form lead reach fault = (fault ≡ Read) ⊎ Breaks held form lead reach fault
+abbrev pub IsBroken : Held → Form → ℕ → Reach → List ℕ → PcapFault → Type 0
+IsBroken held form lead reach read fault = (fault ≡ Read) ⊎ Breaks held form lead reach read fault
 
 -- a look fails only where nothing was found yet
 pub record Fails (held : Held) (old : Progress) (fault : PcapFault) : Type 0 where
   pub unseen : old.ahead ≡ None
-  pub cause : IsBroken held old.form old.lead old.reach fault
+  pub cause : IsBroken held old.form old.lead old.reach old.read fault
 
 -- the faults of a file header
 abbrev pub IsHeaderFault : PcapFault → Type 0

@@ -1,41 +1,44 @@
 -- How far a capture has been read, and what its calls do to that.
-use Rattle.std.specs.Prelude.{◌≡◌, ◌≤◌, ℕ, ◌+◌, List, length, Option, Some, None, ⊤}
+use Rattle.std.specs.Prelude.{◌≡◌, ◌≤◌, ℕ, ◌+◌, List, [], length, drop, Option, Some, None, ⊤}
 use Rattle.rm_model.specs.Journal.{Frame as Passed}
 use Rattle.rm_pcap.specs.declared.form.Form.{Form}
 use Rattle.rm_pcap.specs.declared.reach.Reach.{Reach}
 use Rattle.rm_pcap.specs.declared.frame.Frame.{Frame}
 use Rattle.rm_pcap.specs.declared.frame.Step.{Step}
 use Rattle.rm_pcap.specs.declared.frame.Step.TheVariants.{Next, End, Cut}
+use Rattle.rm_pcap.specs.Filling.{IsFront}
 use Rattle.rm_pcap.specs.Records.{Ended, CutAt, Broken, Found, Whole, Stops, found_at, beginning}
 
--- A capture that is being read: how its octets are read, the moment of its first frame, how far its records were passed, and
--- what was found there, if it was looked at.
+-- A capture that is being read: how its octets are read, the moment of its first frame, how far its records were passed,
+-- what was found there, if it was looked at, and the octets that were read from there on.
 pub record Progress : Type 0 where
   pub form : Form
   pub lead : ℕ
   pub reach : Reach
   pub ahead : Option Found
+  pub read : List ℕ
 
 -- before the first record
 abbrev pub begun : Form → ℕ → Progress
-begun form lead = record { form = form; lead = lead; reach = beginning lead; ahead = None }
+begun form lead = record { form = form; lead = lead; reach = beginning lead; ahead = None; read = [] }
 
 -- what stands next in a file of these octets
 abbrev pub next_in : Progress → List ℕ → Found
 next_in progress bytes = found_at progress.form progress.lead progress.reach bytes
 
--- what was looked at is what a file of these octets has there
-abbrev pub Agrees : Progress → List ℕ → Type 0
-Agrees progress bytes = (found : Found) → progress.ahead ≡ Some found → found ≡ next_in progress bytes
+-- what was looked at and what was read is what a file of these octets has there
+pub record Agrees (progress : Progress) (bytes : List ℕ) : Type 0 where
+  pub ahead : (found : Found) → progress.ahead ≡ Some found → found ≡ next_in progress bytes
+  pub read : IsFront progress.read (drop progress.reach.at bytes)
 
--- the same place, with what was found there
-abbrev pub looking_at : Progress → Found → Progress
-looking_at progress found = record progress { ahead = Some found }
+-- the same place, with what was found there, and what is read from there on
+abbrev pub looking_at : Progress → Found → List ℕ → Progress
+looking_at progress found octets = record progress { ahead = Some found; read = octets }
 
--- the place behind what was found; it stays where the records stop
-abbrev pub passing : Progress → Found → Progress
-passing progress (Whole frame after) = record progress { reach = after; ahead = None }
-passing progress (Stops stop) = looking_at progress (Stops stop)
+-- the place behind what was found, with what is read from there on; it stays where the records stop
+abbrev pub passing : Progress → Found → List ℕ → Progress
+passing progress (Whole frame after) octets = record progress { reach = after; ahead = None; read = octets }
+passing progress (Stops stop) octets = looking_at progress (Stops stop) octets
 
 -- the moment of the frame that was found, if one was
 abbrev pub moment_found : Found → Option ℕ

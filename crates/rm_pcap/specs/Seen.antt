@@ -1,5 +1,5 @@
--- What stands next in a capture, as its reader keeps it: the numbers of a record, whose octets are in the buffer.
-use Rattle.std.specs.Prelude.{◌≡◌, ◌≤◌, ℕ, ◌+◌, ◌*◌, max, List, take, drop, Option, Some}
+-- What stands next in a capture, as its reader keeps it: the numbers of a record, whose octets are in the window.
+use Rattle.std.specs.Prelude.{◌≡◌, ◌≤◌, ℕ, ◌+◌, ◌*◌, max, List, length, take, drop, Option, Some}
 use Rattle.rm_model.specs.Journal.{Frame as Passed}
 use Rattle.rm_pcap.specs.declared.form.Form.{Form}
 use Rattle.rm_pcap.specs.declared.reach.Reach.{Reach}
@@ -13,21 +13,27 @@ abbrev pub record_of : Form → ℕ → Reach → List ℕ → Record
 record_of form lead reach octets =
     record { included = included_of form octets; original = max (included_of form octets) (original_of form octets); after = reach_after form lead reach octets }
 
--- the frame of a record whose octets are in the buffer
+-- the frame of a record with these captured octets
 abbrev pub frame_seen : Record → List ℕ → Passed
-frame_seen seen buffer = record {
+frame_seen seen captured = record {
   interface = 1;
   moment = seen.after.last;
   number = seen.after.count;
-  octets = take seen.included (drop 16 buffer);
+  octets = captured;
   original = seen.original;
 }
 
--- what was seen at that reach, with the octets in the buffer
+-- what was seen at that reach, with the octets that stand there
 abbrev pub found_of : Reach → List ℕ → Seen → Found
-found_of reach buffer (SeenWhole seen) = Whole (frame_seen seen buffer) seen.after
-found_of reach buffer SeenEnd = Stops Ended
-found_of reach buffer SeenCut = Stops (CutAt reach.at)
+found_of reach octets (SeenWhole seen) = Whole (frame_seen seen (take seen.included (drop 16 octets))) seen.after
+found_of reach octets SeenEnd = Stops Ended
+found_of reach octets SeenCut = Stops (CutAt reach.at)
+
+-- a record that was seen is whole in the octets
+abbrev pub IsLong : List ℕ → Seen → Type 0
+IsLong octets (SeenWhole seen) = 16 + seen.included ≤ length octets
+IsLong octets SeenEnd = Unit {0}
+IsLong octets SeenCut = Unit {0}
 
 -- what holds of the numbers of each record behind a reach
 pub record Follows (reach : Reach) (seen : Record) : Type 0 where

@@ -3,18 +3,22 @@ use Rattle.std.specs.Prelude.{◌≡◌, ℕ, List, Option, Some, None, Result, 
 use Rattle.rm_edge.specs.Outside.{Held}
 use Rattle.rm_pcap.specs.declared.fault.PcapFault.{PcapFault}
 use Rattle.rm_pcap.specs.declared.form.Form.{Form}
+use Rattle.rm_pcap.specs.declared.reach.Reach.{Reach}
 use Rattle.rm_pcap.specs.declared.record.Seen.{Seen}
+use Rattle.rm_pcap.specs.declared.record.Seen.TheVariants.{Whole as SeenWhole, End as SeenEnd, Cut as SeenCut}
+use Rattle.rm_pcap.specs.declared.window.Window.{Window}
 use Rattle.rm_pcap.specs.declared.place.Place.{Place}
 use Rattle.rm_pcap.specs.declared.capture.Capture.{Capture}
-use Rattle.rm_pcap.specs.Records.{Found}
+use Rattle.rm_pcap.specs.Records.{Found, Whole, Stops, Ended, CutAt}
 use Rattle.rm_pcap.specs.Progress.{Progress}
 use Rattle.rm_pcap.specs.Calls.{Looks, Passes}
-use Rattle.rm_pcap.specs.Seen.{found_of}
+use Rattle.rm_pcap.specs.Seen.{frame_seen, found_of}
+use Rattle.rm_pcap.specs.Window.{octets_of, passed_of}
 
 -- what was found at a place, if it was looked at
 abbrev pub ahead_of : Place → List ℕ → Option Seen → Option Found
-ahead_of place buffer None = None
-ahead_of place buffer (Some seen) = Some (found_of place.reach buffer seen)
+ahead_of place octets None = None
+ahead_of place octets (Some seen) = Some (found_of place.reach octets seen)
 
 -- how far a capture was read
 unfoldable pub progress_of : Capture → Progress
@@ -22,7 +26,8 @@ progress_of capture = record {
   form = capture.place.form;
   lead = capture.place.lead;
   reach = capture.place.reach;
-  ahead = ahead_of capture.place capture.buffer.items capture.seen;
+  ahead = ahead_of capture.place (octets_of capture.window) capture.seen;
+  read = octets_of capture.window;
 }
 
 -- the form that a capture began with
@@ -30,11 +35,17 @@ abbrev pub form_begun : Result Capture PcapFault → Result Form PcapFault
 form_begun (Ok capture) = Ok (progress_of capture).form
 form_begun (Err fault) = Err fault
 
--- what is kept of a look and of a step: what was seen, with the octets that are in the buffer
+-- what was seen at that reach and passed
+abbrev pub found_passed : Reach → Window → Seen → Found
+found_passed reach window (SeenWhole seen) = Whole (frame_seen seen (passed_of window seen.included)) seen.after
+found_passed reach window SeenEnd = Stops Ended
+found_passed reach window SeenCut = Stops (CutAt reach.at)
+
+-- what is kept of a look and of a step: what was seen, with the octets that are in the window
 abbrev pub KeepsLook : Held → Capture → Capture → Result Seen PcapFault → Type 0
-KeepsLook held old new (Ok seen) = Looks held (progress_of old) (progress_of new) (found_of old.place.reach new.buffer.items seen)
+KeepsLook held old new (Ok seen) = Looks held (progress_of old) (progress_of new) (found_of old.place.reach (octets_of new.window) seen)
 KeepsLook held old new (Err fault) = progress_of new ≡ progress_of old
 
 abbrev pub KeepsStep : Held → Capture → Capture → Result Seen PcapFault → Type 0
-KeepsStep held old new (Ok seen) = Passes held (progress_of old) (progress_of new) (found_of old.place.reach new.buffer.items seen)
+KeepsStep held old new (Ok seen) = Passes held (progress_of old) (progress_of new) (found_passed old.place.reach new.window seen)
 KeepsStep held old new (Err fault) = progress_of new ≡ progress_of old

@@ -1,10 +1,11 @@
-ghost use Rattle.std.specs.Prelude.{◌≡◌, ◌≤◌, ◌+◌, ℕ, List, vec_len, IfOk, IfErr, OnErr, ⊤};
+ghost use Rattle.std.specs.Prelude.{◌≡◌, ◌≤◌, ◌+◌, ℕ, List, IfOk, IfErr, OnErr, ⊤};
 ghost use Rattle.std.specs.Borrow.{sem};
 ghost use denote.Follow.{follows_so};
 ghost use mathlib.Core.Option.{none};
 ghost use Rattle.rm_edge.specs.Outside.{File, Absent, Rose};
 ghost use Rattle.rm_pcap.specs.Seen.{IsAhead, IsNear, FollowsSeen};
 ghost use Rattle.rm_pcap.specs.Progress.{begun};
+ghost use Rattle.rm_pcap.specs.Window.{IsHeld, IsPassed};
 ghost use Rattle.rm_pcap.specs.Calls.{LooksAt, Steps, Fails, IsFirstFault, BeginsAs};
 
 use crate::fault::PcapFault;
@@ -13,25 +14,23 @@ use crate::frame::{Frame, Step};
 use crate::header::{HEADER, header_of};
 use crate::place::Place;
 use crate::reach::Reach;
-use crate::record::{MOST_LENGTH, RECORD_HEADER, Seen};
+use crate::record::{RECORD_HEADER, Seen};
+use crate::window::Window;
 use rm_edge::Shelf;
 use std::alloc::Global;
 
-/// How many octets a record has at most.
-const ROOM: usize = RECORD_HEADER + MOST_LENGTH as usize;
-
-/// A capture that is read record by record. It holds one record at a time.
+/// A capture that is read record by record, through a window of its file.
 ///
 /// What its calls say of the file holds where each is given a shelf and a name that hold the octets of `begin`.
 #[derive(Drop)]
 pub struct Capture {
     place: Place,
-    // The record that was seen, its header in front.
-    buffer: Vec<u8>,
+    // Its octets stand where the next record does.
+    window: Window,
     seen: Option<Seen>,
-    ghost room: { vec_len buffer ≡ 262160 },
     ghost near: { IsNear place.reach },
     ghost follows: { IsAhead place.reach seen },
+    ghost long: { IsHeld window seen },
 }
 
 impl Capture {
@@ -39,11 +38,11 @@ impl Capture {
     ghost use Rattle.rm_pcap.specs.contracts.capture.Capture.{the_row};
 
     /// Begins to read a capture whose first frame stands at a moment, in milliseconds: judges its file header, and
-    /// reserves room for one record.
+    /// reserves room for its window.
     ///
     /// Magic, Version and LinkType come in this order, also where the file ends before the octets that are judged.
     /// Read comes only where a read failed. A name without a file always fails with Read. NoMemory comes where there is no
-    /// room for a record; nothing else allocates.
+    /// room for the window; nothing else allocates.
     #[tactic(auto, unfolding(crate::specs::View::progress_of))]
     pub fn begin<S: Shelf>(
         alloc: Global,
@@ -67,7 +66,7 @@ impl Capture {
             return Err(PcapFault::Read);
         };
         let form = header_of(&header[..count])?;
-        let Ok(buffer) = vec![in alloc; 0u8; ROOM] else {
+        let Ok(window) = Window::new(alloc) else {
             return Err(PcapFault::NoMemory);
         };
         let reach = Reach {
@@ -78,7 +77,7 @@ impl Capture {
         };
         Ok(Capture {
             place: Place { form, lead, reach },
-            buffer,
+            window,
             seen: None,
         })
     }
@@ -106,9 +105,17 @@ impl Capture {
         if let Some(seen) = self.seen {
             return Ok(seen);
         }
-        let seen = self.place.see(shelf, name, &mut self.buffer)?;
-        self.seen = Some(seen);
-        Ok(seen)
+        let next = self.window.len();
+        match self.place.see(shelf, name, &mut self.window) {
+            Ok(seen) => {
+                self.seen = Some(seen);
+                Ok(seen)
+            }
+            Err(fault) => {
+                self.window.truncate(next);
+                Err(fault)
+            }
+        }
     }
 
     // Sees what stands next, and passes a record.
@@ -118,6 +125,7 @@ impl Capture {
         ensures cause { IfErr result (λ fault. fault ≡ PcapFault.Read
             → Rose (S.faults shelf.old name.now) (S.faults shelf.new name.now)) }
         ensures follows { IfOk result (FollowsSeen self.old.place.reach) }
+        ensures passed { IfOk result (IsPassed self.new.window) }
         ensures stays { IfOk result (λ seen. seen ≡ Seen.Cut → self.new.place.reach.at ≡ self.old.place.reach.at) }
         ensures passes { KeepsStep (S.held shelf.old name.now) self.old self.new result }
         ensures faults { IfErr result (Fails (S.held shelf.old name.now) (progress_of self.old)) }
@@ -126,6 +134,7 @@ impl Capture {
         match seen {
             Seen::Whole(record) => {
                 self.place.reach = record.after;
+                self.window.pass(RECORD_HEADER + record.included as usize);
                 self.seen = None;
                 Ok(seen)
             }
@@ -170,7 +179,7 @@ impl Capture {
     {
         match self.pass(shelf, name) {
             Ok(Seen::Whole(record)) => Ok(Step::Next(Frame {
-                bytes: &self.buffer[RECORD_HEADER..RECORD_HEADER + record.included as usize],
+                bytes: self.window.passed(record.included as usize),
                 original: record.original,
                 moment: record.after.last,
                 number: record.after.count,

@@ -20,6 +20,6 @@ pub enum PcapFault {
     TooMany,
     /// A read failed.
     Read,
-    /// There was no room for a record.
+    /// There was no room for the window.
     NoMemory,
 }

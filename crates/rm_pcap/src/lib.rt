@@ -14,6 +14,7 @@ mod reach;
 mod record;
 #[cfg(test)]
 mod tests;
+mod window;
 
 pub use capture::Capture;
 pub use fault::PcapFault;

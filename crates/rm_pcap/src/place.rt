@@ -1,15 +1,16 @@
 ghost use Rattle.std.specs.Prelude.{◌≡◌, ◌≤◌, ◌+◌, ℕ, List, length, drop, None, Some, IfOk, IfErr, MatchResult};
 ghost use Rattle.rm_edge.specs.Outside.{File, Absent, Rose};
 ghost use Rattle.rm_pcap.specs.Records.{fault_at, time_of, found_at};
+ghost use Rattle.rm_pcap.specs.Filling.{IsFront};
 ghost use Rattle.rm_pcap.specs.Calls.{IsFaultAt, IsBroken};
-ghost use Rattle.rm_pcap.specs.Seen.{record_of, found_of, Follows, FollowsSeen, IsNear};
+ghost use Rattle.rm_pcap.specs.Seen.{record_of, found_of, Follows, FollowsSeen, IsNear, IsLong};
 
 use crate::fault::PcapFault;
 use crate::fields::long_at;
-use crate::filling::fill;
 use crate::form::{Form, TimeUnit};
 use crate::reach::Reach;
 use crate::record::{MOST_LENGTH, MOST_RECORDS, RECORD_HEADER, Record, Seen};
+use crate::window::Window;
 use rm_edge::Shelf;
 
 /// How the octets of a capture are read, the moment of its first frame, and how far it was read.
@@ -36,6 +37,8 @@ fn time_of(form: Form, octets: &[u8]) -> u64
 }
 
 impl Place {
+    ghost use Rattle.rm_pcap.specs.Window.{octets_of};
+
     // The numbers of the record whose header comes first, or the header's first fault.
     #[tactic(auto, unfolding(crate::specs::Records::fault_at, crate::specs::Records::included_of, crate::specs::Records::original_of))]
     fn judge(self, octets: &[u8]) -> Result<Record, PcapFault>
@@ -79,28 +82,28 @@ impl Place {
         })
     }
 
-    /// Reads what stands next in the file into the buffer, a record's header in front.
+    /// Sees what stands next in the file, through a window whose octets stand there.
     pub fn see<S: Shelf>(
         self,
         shelf: &mut S,
         name: &str,
-        buffer: &mut [u8],
+        window: &mut Window,
     ) -> Result<Seen, PcapFault>
-        requires room { length buffer.old ≡ 262160 }
         requires near { IsNear self.reach }
         ensures constant { (each : List ℕ) → S.held shelf.new each ≡ S.held shelf.old each }
         ensures later { (each : List ℕ) → S.faults shelf.old each ≤ S.faults shelf.new each }
         ensures cause { IfErr result (λ fault. fault ≡ PcapFault.Read
             → Rose (S.faults shelf.old name.now) (S.faults shelf.new name.now)) }
+        ensures keeps { IsFront (octets_of window.old) (octets_of window.new) }
         ensures follows { IfOk result (λ seen. FollowsSeen self.reach seen) }
-        ensures found { (bytes : List ℕ) → S.held shelf.old name.now ≡ File bytes → IfOk result (λ seen.
-            found_of self.reach buffer.new seen ≡ found_at self.form self.lead self.reach bytes) }
-        ensures faults { IfErr result (λ fault.
-            IsBroken (S.held shelf.old name.now) self.form self.lead self.reach fault) }
+        ensures long { IfOk result (IsLong (octets_of window.new)) }
+        ensures found { (bytes : List ℕ) → S.held shelf.old name.now ≡ File bytes → IsFront (octets_of window.old) (drop self.reach.at bytes)
+            → IfOk result (λ seen. IsFront (octets_of window.new) (drop self.reach.at bytes)
+            × (found_of self.reach (octets_of window.new) seen ≡ found_at self.form self.lead self.reach bytes)) }
+        ensures faults { IfErr result (IsBroken (S.held shelf.old name.now) self.form self.lead self.reach (octets_of window.old)) }
     {
-        let (header, rest) = buffer.split_at_mut(RECORD_HEADER);
         let at = self.reach.at;
-        let Ok(count) = fill(shelf, name, at, header) else {
+        let Ok(count) = window.hold(shelf, name, at, RECORD_HEADER) else {
             return Err(PcapFault::Read);
         };
         if count == 0 {
@@ -109,17 +112,12 @@ impl Place {
         if count < RECORD_HEADER {
             return Ok(Seen::Cut);
         }
-        let record = self.judge(header)?;
-        let included = record.included as usize;
-        let Ok(count) = fill(
-            shelf,
-            name,
-            at + RECORD_HEADER as u64,
-            &mut rest[..included],
-        ) else {
+        let record = self.judge(window.octets())?;
+        let whole = RECORD_HEADER + record.included as usize;
+        let Ok(count) = window.hold(shelf, name, at, whole) else {
             return Err(PcapFault::Read);
         };
-        if count < included {
+        if count < whole {
             return Ok(Seen::Cut);
         }
         Ok(Seen::Whole(record))

@@ -450,12 +450,12 @@ fn a_peek_passes_nothing(rt: HostRuntime) -> Result<(), Fail> {
         first,
         "by what was peeked at"
     );
-    assert_eq!(rt; capture.peek(&mut empty, "capture"), Err(PcapFault::Read));
     assert_eq!(rt; capture.peek(&mut shelf, "capture"), Ok(Some(1002)));
     assert_eq!(rt;
         step(&mut capture, &mut shelf),
         Shown::Frame(2, 1002, 60, 1, Some(1))
     );
+    assert_eq!(rt; capture.peek(&mut empty, "capture"), Err(PcapFault::Read));
     assert_eq!(rt; capture.peek(&mut shelf, "capture"), Ok(None));
     assert_eq!(rt;
         step(&mut capture, &mut empty),
@@ -471,7 +471,7 @@ fn a_read_that_fails_in_a_record_is_done_again(rt: HostRuntime) -> Result<(), Fa
     append(&mut file, false, &[1, 0, 3, 60], 3)?;
     append(&mut file, false, &[1, 2000, 1, 60], 1)?;
     let mut shelf = shelf_with(rt.alloc(), &file)?;
-    // The first read is that of the file header. Of a record the header is read, and then the body.
+    // The first read is that of the file header. The second has all that is left, and the third finds the end.
     shelf.fail(3)?;
     shelf.fail(6)?;
     let begun = Capture::begin(rt.alloc(), &mut shelf, "capture", 1000);
@@ -484,11 +484,33 @@ fn a_read_that_fails_in_a_record_is_done_again(rt: HostRuntime) -> Result<(), Fa
         step(&mut capture, &mut shelf),
         Shown::Frame(1, 1000, 60, 3, Some(3))
     );
-    assert_eq!(rt; capture.peek(&mut shelf, "capture"), Err(PcapFault::Read));
     assert_eq!(rt;
         step(&mut capture, &mut shelf),
         Shown::Frame(2, 1002, 60, 1, Some(1))
     );
+    assert_eq!(rt; capture.peek(&mut shelf, "capture"), Err(PcapFault::Read));
     assert_eq!(rt; step(&mut capture, &mut shelf), Shown::End);
+    Ok(())
+}
+
+#[test]
+fn records_are_read_whole_where_the_window_ends_within_them(rt: HostRuntime) -> Result<(), Fail> {
+    let mut file = Vec::from_slice(rt.alloc(), &LOWEST_FIRST)?;
+    for octet in 1..6u8 {
+        append(&mut file, false, &[1, 0, 200_000, 60], 0)?;
+        let body = vec![in rt.alloc(); octet; 200_000]?;
+        file.extend_from_slice(&body)?;
+    }
+    for most in [100_000, usize::MAX] {
+        let mut shelf = shelf_with(rt.alloc(), &file)?;
+        shelf.pieces(most);
+        let begun = Capture::begin(rt.alloc(), &mut shelf, "capture", 1000);
+        let mut capture = begun.ok().ok_or("a fault of the header")?;
+        for octet in 1..6u8 {
+            let wanted = Shown::Frame(u32::from(octet), 1000, 200_000, 200_000, Some(octet));
+            assert_eq!(rt; step(&mut capture, &mut shelf), wanted);
+        }
+        assert_eq!(rt; step(&mut capture, &mut shelf), Shown::End);
+    }
     Ok(())
 }

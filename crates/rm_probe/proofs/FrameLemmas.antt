@@ -173,10 +173,10 @@ passed_found settings m held held' bytes old looked new probe probe' before fram
 
 -- a fault other than of a read is how the records stop
 pub broken : (held : Held) (bytes : List ℕ) (progress : Progress) (left : List Frame) (stop : Stop) (fault : PcapFault) → (fault ≡ Read → ⊥) → held ≡ File bytes
-    → IsBroken held progress.form progress.lead progress.reach fault → Leaves progress bytes left stop → stop ≡ Broken fault
+    → IsBroken held progress.form progress.lead progress.reach progress.read fault → Leaves progress bytes left stop → stop ≡ Broken fault
 broken held bytes progress left stop fault other is (inl e) leaves = absurd (other e)
 broken held bytes progress left stop fault other is (inr breaks) leaves =
-    (leaves_none progress bytes left stop (Broken fault) (sym (breaks.stands bytes is)) leaves).stop_is
+    (leaves_none progress bytes left stop (Broken fault) (sym (breaks.stands bytes is leaves.agrees.read)) leaves).stop_is
 
 -- the capture has a fault where it is now
 pub advances_fault : (m : ℕ) (held : Held) (bytes : List ℕ) (old now new : Progress) (probe probe' probe'' : Probe) (notes : List Note) (fault : PcapFault) → held ≡ File bytes → Fails held now fault
@@ -228,7 +228,7 @@ may_pass held held' probe now old looked new found found' next frame looks next_
     let there = keeps_looking held (last_given probe) probe old looked found looks keeps in
     passing_on found' (found_so.finds.again found ahead) found_so.place found_so.finds.lawful shows (subst (λ (a : Option Found). IsNotBefore (last_given probe) looked.reach a) ahead there.next) there.count
   where
-    passing_on : (found' : Found) → found' ≡ found → new ≡ passing looked found' → IsLawfulFind looked.reach found' → Shows (Next frame) found' → IsNotBefore (last_given probe) looked.reach (Some found)
+    passing_on : (found' : Found) → found' ≡ found → new ≡ passing looked found' new.read → IsLawfulFind looked.reach found' → Shows (Next frame) found' → IsNotBefore (last_given probe) looked.reach (Some found)
         → frames_given probe ≡ looked.reach.count → MayPass probe frame new now
     passing_on (StopsAt at) again place lawful shows before count = absurd shows
     passing_on (Whole passed after) again place lawful shows before count =
@@ -277,7 +277,7 @@ pub finish_last : (held' : Held) (bytes : List ℕ) (old looked new : Progress) 
 finish_last held' bytes old looked new probe probe' notes requests taken line step found at advances ahead found_so shows count last frames stop journal left stands =
     let a = advances frames stop journal left stands in
     let same : StopsAt at ≡ found = sym (found_so.finds.again (StopsAt at) ahead) in
-    let none = leaves_none looked bytes (frames_after 4294967295 frames) stop at (a.left.agrees (StopsAt at) ahead) a.left in
+    let none = leaves_none looked bytes (frames_after 4294967295 frames) stop at (a.left.agrees.ahead (StopsAt at) ahead) a.left in
     let all : taken ≡ old.reach.count + length frames = omega (arith, count, a.count, ap length none.none) in (
       lines_of_all (settings_of probe) frames journal notes a.reached none.none a.passing,
       last at (subst (λ (f : Found). Shows step f) (sym same) shows) ∙ ap (λ (k : ℕ). last_line at k requests) all ∙ ap (λ (s : Stop). last_line s (old.reach.count + length frames) requests) (sym none.stop_is),

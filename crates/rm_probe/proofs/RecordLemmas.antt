@@ -98,7 +98,7 @@ leaves_none progress bytes frames stop at found left =
 -- a capture that was begun has all its frames left
 pub leaves_all : (form : Form) (lead : ℕ) (bytes : List ℕ) (frames : List Frame) (stop : Stop)
     → AreRecords form lead (beginning lead) bytes frames stop → Leaves (begun form lead) bytes frames stop
-leaves_all form lead bytes frames stop are = record { agrees = λ was e. absurd cc; records = are }
+leaves_all form lead bytes frames stop are = record { agrees = record { ahead = λ was e. absurd cc; read = refl }; records = are }
 
 -- So many records were passed: whatever those that are left are, the file reads so.
 pub record Judging (lead : ℕ) (bytes : List ℕ) (progress : Progress) : Type 0 where
@@ -108,7 +108,7 @@ pub record Judging (lead : ℕ) (bytes : List ℕ) (progress : Progress) : Type 
 pub judging_begins : (form : Form) (lead : ℕ) (bytes : List ℕ) (progress : Progress) → header_of bytes ≡ Ok form → progress ≡ begun form lead → Judging lead bytes progress
 unfolding ReadsAs
 judging_begins form lead bytes progress header is =
-    subst (λ (p : Progress). Judging lead bytes p) (sym is) (record { agrees = λ was e. absurd cc; goes = λ frames stop are. (frames, rw header are) })
+    subst (λ (p : Progress). Judging lead bytes p) (sym is) (record { agrees = record { ahead = λ was e. absurd cc; read = refl }; goes = λ frames stop are. (frames, rw header are) })
 
 -- a header that has a fault
 pub reads_header_fault : (lead : ℕ) (bytes : List ℕ) (fault : PcapFault) → header_of bytes ≡ Err fault → ReadsAs lead bytes [] (Broken fault)
@@ -196,17 +196,17 @@ pub refused_record : (lead : ℕ) (held : Held) (before now : ℕ) (progress : P
     → OfFile held (λ bytes. Judging lead bytes progress) → JudgesCapture {T = Unit {0}} lead held before now (Err (status_of fault))
 refused_record lead held before now progress fault rose fails judging = go fault rose fails.cause
   where
-    found : (fault : PcapFault) → IsBroken held progress.form progress.lead progress.reach fault → (fault ≡ Read → ⊥) → OfFile held (CallsFor lead (status_of fault))
+    found : (fault : PcapFault) → IsBroken held progress.form progress.lead progress.reach progress.read fault → (fault ≡ Read → ⊥) → OfFile held (CallsFor lead (status_of fault))
     found fault (inl read) other = absurd (other read)
     found fault (inr breaks) other =
         of_told held (λ bytes. Judging lead bytes progress) (CallsFor lead (status_of fault))
-        (λ bytes is j. (fault, judging_stops progress lead bytes (Broken fault) (breaks.stands bytes is) j, refl)) judging
+        (λ bytes is j. (fault, judging_stops progress lead bytes (Broken fault) (breaks.stands bytes is j.agrees.read) j, refl)) judging
 
-    never : (fault : PcapFault) → IsBroken held progress.form progress.lead progress.reach fault → (fault ≡ Read → ⊥) → IsFaultAt progress.reach fault
+    never : (fault : PcapFault) → IsBroken held progress.form progress.lead progress.reach progress.read fault → (fault ≡ Read → ⊥) → IsFaultAt progress.reach fault
     never fault (inl read) other = absurd (other read)
     never fault (inr breaks) other = breaks.place
 
-    go : (fault : PcapFault) → (fault ≡ Read → Rose before now) → IsBroken held progress.form progress.lead progress.reach fault → JudgesCapture {T = Unit {0}} lead held before now (Err (status_of fault))
+    go : (fault : PcapFault) → (fault ≡ Read → Rose before now) → IsBroken held progress.form progress.lead progress.reach progress.read fault → JudgesCapture {T = Unit {0}} lead held before now (Err (status_of fault))
     go Read rose cause = rose refl
     go (Included at) rose cause = found (Included at) cause (λ e. cc)
     go (Original at) rose cause = found (Original at) cause (λ e. cc)

@@ -1,39 +1,55 @@
-use Rattle.std.proofs.Common.{ℕ, ◌∙◌, arith, inr}
+use Rattle.std.proofs.Common.{◌∙◌, arith, inr}
 use Rattle.std.proofs.lemmas.Result.{err_from_is_err_and}
-use Rattle.std.proofs.lemmas.List.{length-take}
+use Rattle.rm_pcap.specs.Window.{octets_of}
 use Rattle.rm_pcap.proofs.FoundLemmas.{found_end, found_cut, is_header, found_broken, found_short, found_whole}
 use Rattle.rm_pcap.proofs.place.Place.see.Goals as goal
 
 pub returns-then-count-eq0-clause-found : goal.returns-then-count-eq0-clause-found
-returns-then-count-eq0-clause-found g c = λ bytes is.
-    found_end c.args.self.form c.args.self.lead c.args.self.reach bytes c.fill.new.into c.in-Ok.count (omega (arith, c.fill.auto.into, c.split_at_mut-header.ensures.front_len)) (c.in-Ok.ensures.octets bytes is) c.if-count-eq0.true
+returns-then-count-eq0-clause-found g c = λ bytes is front.
+    let h = c.in-Ok.ensures.holds bytes is front in
+    let place = c.args.self in
+    (h.front, found_end place.form place.lead place.reach bytes (octets_of c.hold.new.self) h (omega (arith, c.in-Ok.ensures.count, c.if-count-eq0.true)))
 
 pub returns-then-count-lt-RECORD_HEADER-clause-found :
     goal.returns-then-count-lt-RECORD_HEADER-clause-found
-returns-then-count-lt-RECORD_HEADER-clause-found g c = λ bytes is.
-    found_cut c.args.self.form c.args.self.lead c.args.self.reach bytes c.fill.new.into c.in-Ok.count (omega (arith, c.fill.auto.into, c.split_at_mut-header.ensures.front_len)) (c.in-Ok.ensures.octets bytes is) (omega arith) c.if-count-lt-RECORD_HEADER.true
+returns-then-count-lt-RECORD_HEADER-clause-found g c = λ bytes is front.
+    let h = c.in-Ok.ensures.holds bytes is front in
+    let place = c.args.self in (
+      h.front,
+      found_cut place.form place.lead place.reach bytes (octets_of c.hold.new.self) h (omega (arith, c.in-Ok.ensures.count, c.if-count-eq0.false)) (omega (arith, c.in-Ok.ensures.count, c.if-count-lt-RECORD_HEADER.true)),
+    )
 
 pub returns-in_err-record-clause-faults : goal.returns-in_err-record-clause-faults
 returns-in_err-record-clause-faults g c =
     let p = err_from_is_err_and c.from_residual.result c.from_residual.ensures.1 in
+    let place = c.args.self in
     rw (p.1, p.2)
     (inr (record {
       place = c.in_err-record.ensures.place;
-      stands = λ bytes is.
-          let header =
-          is_header c.args.self.reach bytes c.fill.new.into c.in-Ok.count (omega (arith, c.fill.auto.into, c.split_at_mut-header.ensures.front_len)) (c.in-Ok.ensures.octets bytes is)
-          (omega (arith, c.in-Ok.ensures.most)) in
-          found_broken c.args.self.form c.args.self.lead c.args.self.reach bytes c.fill.new.into c.in_err-record.field-0.0 header c.in_err-record.ensures.judged;
+      stands = λ bytes is front.
+          let header = is_header place.reach bytes c.octets.result.now (octets_of c.hold.new.self) c.octets.ensures (c.in-Ok.ensures.holds bytes is front)
+          (omega (arith, c.in-Ok.ensures.count, c.if-count-lt-RECORD_HEADER.false)) in
+          found_broken place.form place.lead place.reach bytes c.octets.result.now c.in_err-record.field-0.0 header c.in_err-record.ensures.judged;
     }))
 
-pub returns-then-count-included-clause-found : goal.returns-then-count-included-clause-found
-returns-then-count-included-clause-found g c = λ bytes is.
-    let header = is_header c.args.self.reach bytes c.fill.new.into c.in-Ok.count (omega (arith, c.fill.auto.into, c.split_at_mut-header.ensures.front_len)) (c.in-Ok.ensures.octets bytes is) (omega (arith, c.in-Ok.ensures.most)) in
-    found_short c.args.self.form c.args.self.lead c.args.self.reach bytes c.fill.new.into c.fill-2.new.into c.in_ok-record.record c.in-Ok-fill.count header
-    c.in_ok-record.ensures.judged.0 c.in_ok-record.ensures.judged.1 (omega (arith, c.fill-2.auto.into, length-take {A = ℕ}, c.split_at_mut-header.ensures.back_len, c.requires.room, c.in_ok-record.ensures.follows.captured, c.in_ok-record.ensures.follows.most)) (c.in-Ok-fill.ensures.octets bytes (c.fill.ensures.constant c.args.name.now ∙ is)) c.if-count-included.true
+pub returns-then-count-whole-clause-found : goal.returns-then-count-whole-clause-found
+returns-then-count-whole-clause-found g c = λ bytes is front.
+    let place = c.args.self in
+    let h = c.in-Ok.ensures.holds bytes is front in
+    let more = c.in-Ok-hold.ensures.holds bytes (c.hold.ensures.constant c.args.name.now ∙ is) h.front in
+    let header = is_header place.reach bytes c.octets.result.now (octets_of c.hold.new.self) c.octets.ensures h (omega (arith, c.in-Ok.ensures.count, c.if-count-lt-RECORD_HEADER.false)) in (
+      more.front,
+      found_short place.form place.lead place.reach bytes c.octets.result.now (octets_of c.hold-2.new.self) c.in_ok-record.record header
+          c.in_ok-record.ensures.judged.0 c.in_ok-record.ensures.judged.1 more (omega (arith, c.in-Ok-hold.ensures.count, c.if-count-whole.true)),
+    )
 
 pub returns-clause-found : goal.returns-clause-found
-returns-clause-found g c = λ bytes is.
-    let header = is_header c.args.self.reach bytes c.fill.new.into c.in-Ok.count (omega (arith, c.fill.auto.into, c.split_at_mut-header.ensures.front_len)) (c.in-Ok.ensures.octets bytes is) (omega (arith, c.in-Ok.ensures.most)) in
-    found_whole c.args.self.form c.args.self.lead c.args.self.reach bytes c.fill.new.into c.fill-2.new.into _ c.in_ok-record.record c.in-Ok-fill.count (omega (arith, c.fill.auto.into, c.split_at_mut-header.ensures.front_len)) header
-    c.in_ok-record.ensures.judged.0 c.in_ok-record.ensures.judged.1 (omega (arith, c.fill-2.auto.into, length-take {A = ℕ}, c.split_at_mut-header.ensures.back_len, c.requires.room, c.in_ok-record.ensures.follows.captured, c.in_ok-record.ensures.follows.most)) (c.in-Ok-fill.ensures.octets bytes (c.fill.ensures.constant c.args.name.now ∙ is)) c.if-count-included.false
+returns-clause-found g c = λ bytes is front.
+    let place = c.args.self in
+    let h = c.in-Ok.ensures.holds bytes is front in
+    let more = c.in-Ok-hold.ensures.holds bytes (c.hold.ensures.constant c.args.name.now ∙ is) h.front in
+    let header = is_header place.reach bytes c.octets.result.now (octets_of c.hold.new.self) c.octets.ensures h (omega (arith, c.in-Ok.ensures.count, c.if-count-lt-RECORD_HEADER.false)) in (
+      more.front,
+      found_whole place.form place.lead place.reach bytes c.octets.result.now (octets_of c.hold-2.new.self) c.in_ok-record.record header
+          c.in_ok-record.ensures.judged.0 c.in_ok-record.ensures.judged.1 more.front (omega (arith, c.in-Ok-hold.ensures.count, c.if-count-whole.false)),
+    )

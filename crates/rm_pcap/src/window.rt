@@ -1,0 +1,117 @@
+ghost use Rattle.std.specs.Prelude.{◌≡◌, ◌≤◌, ◌<◌, ◌+◌, ◌-◌, ◌^◌, ℕ, List, [], length, take, drop, vec_len, IfOk};
+ghost use Rattle.rm_edge.specs.Outside.{File, HasCause};
+ghost use Rattle.rm_pcap.specs.Filling.{IsFront, Holds};
+
+use crate::filling::fill;
+use rm_edge::{Failed, Shelf};
+use std::alloc::{AllocError, Global};
+
+/// How many octets a window has room for.
+const ROOM: usize = 327_680;
+
+/// Octets of a file that were read: some that were passed, and behind them those that are next.
+#[derive(Drop)]
+pub struct Window {
+    buffer: Vec<u8>,
+    // Where the octets that are next begin, and where they end.
+    from: usize,
+    until: usize,
+    ghost room: { vec_len buffer ≡ 327680 },
+    ghost order: { from ≤ until },
+    ghost within: { until ≤ 327680 },
+}
+
+impl Window {
+    ghost use Rattle.rm_pcap.specs.Window.{octets_of, passed_of};
+
+    /// A window with no octets.
+    pub fn new(alloc: Global) -> Result<Window, AllocError>
+        ensures { IfOk result (λ window. octets_of window ≡ []) }
+    {
+        let buffer = vec![in alloc; 0u8; ROOM]?;
+        Ok(Window {
+            buffer,
+            from: 0,
+            until: 0,
+        })
+    }
+
+    /// How many octets are next.
+    pub fn len(&self) -> usize
+        ensures { result ≡ length (octets_of self.now) }
+    {
+        self.until - self.from
+    }
+
+    /// The octets that are next.
+    pub fn octets(&self) -> &[u8]
+        ensures { result.now ≡ octets_of self.now }
+    {
+        &self.buffer[self.from..self.until]
+    }
+
+    /// So many of the octets that were passed last.
+    pub fn passed(&self, count: usize) -> &[u8]
+        requires { count ≤ self.now.from }
+        ensures { result.now ≡ passed_of self.now count }
+    {
+        &self.buffer[self.from - count..self.from]
+    }
+
+    /// Passes octets.
+    pub fn pass(&mut self, count: usize)
+        requires { count ≤ length (octets_of self.old) }
+        ensures octets { octets_of self.new ≡ drop count (octets_of self.old) }
+        ensures from { count ≤ self.new.from }
+        ensures passed { (k : ℕ) → k ≤ count → passed_of self.new k ≡ take k (drop (count - k) (octets_of self.old)) }
+    {
+        self.from += count;
+    }
+
+    /// Lets go of the octets behind the first ones.
+    pub fn truncate(&mut self, count: usize)
+        requires { count ≤ length (octets_of self.old) }
+        ensures { octets_of self.new ≡ take count (octets_of self.old) }
+    {
+        self.until = self.from + count;
+    }
+
+    // Moves the octets that are next to the front.
+    fn turn(&mut self)
+        ensures octets { octets_of self.new ≡ octets_of self.old }
+        ensures from { self.new.from ≡ 0 }
+    {
+        self.buffer.copy_within(self.from..self.until, 0);
+        self.until -= self.from;
+        self.from = 0;
+    }
+
+    /// Reads the file on until so many octets are next, or it ends, and answers how many are next. The octets that are
+    /// next stand from place `at` on, and stay so.
+    pub fn hold<S: Shelf>(
+        &mut self,
+        shelf: &mut S,
+        name: &str,
+        at: u64,
+        need: usize,
+    ) -> Result<usize, Failed>
+        requires near { at + 327680 < 2 ^ 64 }
+        requires fits { need ≤ 327680 }
+        ensures constant { (each : List ℕ) → S.held shelf.new each ≡ S.held shelf.old each }
+        ensures later { (each : List ℕ) → S.faults shelf.old each ≤ S.faults shelf.new each }
+        ensures cause { HasCause (S.faults shelf.old name.now) (S.faults shelf.new name.now) result }
+        ensures keeps { IsFront (octets_of self.old) (octets_of self.new) }
+        ensures count { IfOk result (λ count. count ≡ length (octets_of self.new)) }
+        ensures holds { (bytes : List ℕ) → S.held shelf.old name.now ≡ File bytes → IsFront (octets_of self.old) (drop at bytes)
+            → IfOk result (λ count. Holds bytes at need (octets_of self.new)) }
+    {
+        let have = self.len();
+        if have >= need {
+            return Ok(have);
+        }
+        self.turn();
+        let count = fill(shelf, name, at + have as u64, &mut self.buffer[have..])?;
+        self.until = have + count;
+        Ok(self.until)
+    }
+}
