@@ -1,9 +1,0 @@
-use Rattle.std.proofs.Common.{◌≡◌, length, take}
-use Rattle.rm_pdu.specs.Message.{Message}
-use Rattle.rm_agent.specs.Drafting.{IsAsked}
-use Rattle.rm_agent.specs.Sets.{given_by}
-use Rattle.rm_agent.proofs.request.Request.given.Given as goal
-
-abbrev pub invariant-loop-place : goal.invariant-loop-place
-invariant-loop-place l =
-    ((m : Message) → IsAsked l.self m → l.given ≡ given_by (take l.place m.bindings)) × (length l.given ≡ l.place)

@@ -1,0 +1,60 @@
+-- How drafts are replies.
+use Rattle.std.proofs.Common.{◌≡◌, ◌≤◌, ℕ, List, [], ◌++◌, length, take, drop, refl, ap, subst, ◌∙◌, append_assoc}
+use Rattle.std.proofs.Math.Seq.{take-append_seam}
+use Rattle.rm_pdu.specs.Message.{Binding, Message}
+use Rattle.rm_pdu.specs.Draft.{Drafted, drafted}
+use Rattle.rm_reply.specs.declared.answers.Answers.{Answers}
+use Rattle.rm_reply.specs.Replies.{names_of, carrying, size_with, IsFront, AreRepetitions, counting, non_repeaters, IsLongest, IsBulkReply}
+use Rattle.rm_reply.specs.Drafting.{IsDrafted, Puts, Stops, PutsLongest, DraftsOne}
+use Rattle.rm_reply.proofs.BulkLemmas.{HasOne, Lengthens, front_on, front_back, front_first, stops_longest}
+
+-- the response with no bindings yet
+pub begun : (m : Message) (draft : Drafted) → draft ≡ drafted (carrying m []) → size_with m [] ≤ 1472 → IsDrafted m [] draft
+begun m draft is short = record { is = is; short = short }
+
+-- a front of a list of which some names are repeated
+abbrev pub Front : (List ℕ → Binding → Type 0) → List (List ℕ) → List (List ℕ) → ℕ → List Binding → Type 0
+Front IsOne names repeated most list = IsFront IsOne names (λ answers rest. AreRepetitions IsOne most repeated rest) list
+
+-- that is the list of the request
+bulk_of : (IsOne : List ℕ → Binding → Type 0) (names repeated : List (List ℕ)) (most : ℕ) (m : Message) (list : List Binding) (draft : Drafted) → names ≡ take (non_repeaters m) (names_of m.bindings)
+    → repeated ≡ drop (non_repeaters m) (names_of m.bindings) → most ≡ counting m.second → IsLongest (Front IsOne names repeated most) m list → draft ≡ drafted (carrying m list)
+    → DraftsOne (IsBulkReply IsOne m) draft
+bulk_of IsOne names repeated most m list draft first others times longest is =
+    let one = subst (λ (ns : List (List ℕ)). IsLongest (Front IsOne ns repeated most) m list) first longest in
+    let two = subst (λ (ns : List (List ℕ)). IsLongest (Front IsOne (take (non_repeaters m) (names_of m.bindings)) ns most) m list) others one in
+    let all = subst (λ (n : ℕ). IsLongest (Front IsOne (take (non_repeaters m) (names_of m.bindings)) (drop (non_repeaters m) (names_of m.bindings)) n) m list) times two in
+    (carrying m list, (list, all, refl), is)
+
+-- the names that aren't repeated have too much
+pub bulk_stops : (IsOne : List ℕ → Binding → Type 0) → HasOne IsOne → Lengthens → (names : List (List ℕ)) (m : Message) (draft : Drafted) → names ≡ take (non_repeaters m) (names_of m.bindings)
+    → Stops IsOne names m [] draft → DraftsOne (IsBulkReply IsOne m) draft
+bulk_stops IsOne one lengthen names m draft first stops =
+    let repeated = drop (non_repeaters m) (names_of m.bindings) in
+    let Follows : List Binding → List Binding → Type 0 = λ answers rest. AreRepetitions IsOne (counting m.second) repeated rest in
+    bulk_of IsOne names repeated (counting m.second) m stops.answers draft first refl refl
+    (record {
+      part = front_first IsOne names Follows stops.answers stops.next stops.first;
+      short = stops.is_drafted.short;
+      longest = λ more front fits. stops_longest IsOne one lengthen names Follows m [] draft stops more front fits;
+    }) stops.is_drafted.is
+
+-- they fit, and repetitions came behind them
+pub bulk_repeats : (IsOne : List ℕ → Binding → Type 0) (names repeated : List (List ℕ)) (most : ℕ) (m : Message) (answered : Answers) (draft new : Drafted) → names ≡ take (non_repeaters m) (names_of m.bindings)
+    → repeated ≡ drop (non_repeaters m) (names_of m.bindings) → most ≡ counting m.second → (puts : Puts IsOne names m [] answered draft)
+    → PutsLongest (AreRepetitions IsOne most repeated) m puts.answers new → DraftsOne (IsBulkReply IsOne m) new
+bulk_repeats IsOne names repeated most m answered draft new first others times puts repeats =
+    let Follows : List Binding → List Binding → Type 0 = λ answers rest. AreRepetitions IsOne most repeated rest in
+    bulk_of IsOne names repeated most m (puts.answers ++ repeats.added) new first others times
+    (record {
+      part = front_on IsOne names Follows puts.answers repeats.added puts.are.first puts.are.all repeats.part;
+      short = repeats.is_drafted.short;
+      longest = λ more front fits.
+          let whole = append_assoc puts.answers repeats.added more in
+          repeats.longest more (front_back IsOne names Follows puts.answers (repeats.added ++ more) puts.are.all (subst (λ (bs : List Binding). IsFront IsOne names Follows bs) whole front))
+          (subst (λ (bs : List Binding). size_with m bs ≤ 1472) whole fits);
+    }) repeats.is_drafted.is
+
+-- the octets that were written to the front
+pub written : (count : ℕ) (octets rest out : List ℕ) → count ≡ length octets → out ≡ octets ++ rest → take count out ≡ octets
+written count octets rest out is whole = ap (λ (xs : List ℕ). take count xs) whole ∙ ap (λ n. take n (octets ++ rest)) is ∙ take-append_seam octets rest

@@ -1,0 +1,18 @@
+//! The replies to requests over any group of objects (RFC 1905, section 4.2): the answers to names, and the judgement of a
+//! whole SetRequest. No group is named here.
+#![tactic(auto)]
+
+mod answers;
+mod found;
+mod given;
+mod laws;
+mod names;
+mod reply;
+mod request;
+mod responses;
+mod set;
+mod unread;
+
+pub use laws::{every_reply, one_reply};
+pub use request::{MOST_REPLY, Request};
+pub use responses::respond;

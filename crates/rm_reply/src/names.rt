@@ -1,0 +1,71 @@
+// Lists of names.
+ghost use Rattle.std.specs.Prelude.{◌≡◌, ◌<◌, ◌≤◌, [], ◌∷◌, ◌++◌, length, Some, slice_get};
+
+use arrayvec::ArrayVec;
+use rm_val::Oid;
+use std::marker::Model;
+
+/// The most names of a list.
+pub(crate) const MOST_NAMES: usize = 128;
+
+/// A place in a list of names. By default it has the empty name.
+#[derive(Drop)]
+struct Asked {
+    name: Oid,
+}
+
+impl Default for Asked {
+    fn default() -> Asked {
+        Asked { name: Oid::new() }
+    }
+}
+
+/// A list of at most 128 names, kept inline.
+#[derive(Drop)]
+pub(crate) struct Names {
+    items: ArrayVec<Asked, MOST_NAMES>,
+}
+
+impl Model for Names {
+    ghost use Rattle.std.specs.Prelude.{ℕ, List, ◌≤◌, length, map};
+    ghost use Rattle.rm_reply.specs.declared.names.Asked.{Asked};
+
+    ghost Value = { List (List ℕ) };
+
+    ghost view = { λ n. map (λ (asked : Asked). asked.name) n.items.items };
+}
+
+impl Names {
+    /// No names.
+    pub fn new() -> Names
+        ensures { result ≡ [] }
+    {
+        Names {
+            items: ArrayVec::new(),
+        }
+    }
+
+    /// How many names there are.
+    pub fn len(&self) -> usize
+        ensures value { result ≡ length self.now }
+        ensures fits { result ≤ 128 }
+    {
+        self.items.len()
+    }
+
+    /// The name at a place, counted from 0.
+    pub fn at(&self, place: usize) -> &Oid
+        requires { place < length self.now }
+        ensures { slice_get self.now place ≡ Some result.now }
+    {
+        &self.items[place].name
+    }
+
+    /// Appends a name.
+    pub fn push(&mut self, name: Oid)
+        requires { length self.old < 128 }
+        ensures { self.new ≡ self.old ++ name ∷ [] }
+    {
+        self.items.push(Asked { name });
+    }
+}

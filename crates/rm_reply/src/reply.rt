@@ -1,0 +1,88 @@
+// The replies to requests.
+ghost use Rattle.std.specs.Prelude.{◌≡◌, ◌≤◌, List, length, All, IfSome, is_some};
+ghost use Rattle.rm_val.specs.Spellable.{IsSpellable};
+ghost use Rattle.rm_pdu.specs.Message.{Binding, Message};
+ghost use Rattle.rm_reply.specs.Answered.{IsNextBinding};
+ghost use Rattle.rm_reply.specs.Replies.{IsWholeReply, IsBulkReply, AreRepetitions, IsReply, is_built};
+ghost use Rattle.rm_reply.specs.Drafting.{OfCells, IsFound, IsAsked, IsDrafted, DraftsOne, PutsLongest};
+
+use crate::found::Lookup;
+use crate::names::Names;
+use crate::request::Request;
+use crate::answers::Answers;
+use rm_pdu::{Draft, Kind, bindings_lengthen};
+use rm_status::{Group, Objects};
+use rm_val::ErrorStatus;
+
+/// The reply to a request at a moment in milliseconds (RFC 1905, section 4.2). None for a SetRequest.
+pub(crate) fn reply<G: Group + Objects>(
+    groups: &G,
+    request: &Request<'_>,
+    now: u32,
+) -> Option<Draft>
+    requires { (m : Message) × IsAsked request.now m }
+    ensures built { is_some result ≡ is_built request.now.message.kind }
+    ensures reply { OfCells (G.stands groups.now) G.cells now (λ cells. (m : Message) → IsAsked request.now m
+        → IfSome result (DraftsOne (IsReply cells G.objects m))) }
+{
+    let few = !request.is_long();
+    match request.message.kind {
+        Kind::Get if few => Some(whole(groups, Lookup::Exact, request, now)),
+        Kind::Next if few => Some(whole(groups, Lookup::Above, request, now)),
+        Kind::Bulk if few => Some(bulk(groups, request, now)),
+        Kind::Get | Kind::Next | Kind::Bulk => Some(request.begin(ErrorStatus::TooBig, 0)),
+        _ => None,
+    }
+}
+
+// The reply to a GetRequest or a GetNextRequest: the answers to all names, or tooBig.
+fn whole<G: Group + Objects>(groups: &G, lookup: Lookup, request: &Request<'_>, now: u32) -> Draft
+    requires { (m : Message) × IsAsked request.now m × (length m.bindings ≤ 128) }
+    ensures { OfCells (G.stands groups.now) G.cells now (λ cells. (m : Message) → IsAsked request.now m
+        → DraftsOne (IsWholeReply (IsFound cells G.objects lookup) m) result) }
+{
+    let mut draft = request.begin(ErrorStatus::NoError, 0);
+    let names = request.names(0, request.count());
+    match Answers::put(groups, lookup, &names, now, &mut draft) {
+        Ok(_) => draft,
+        Err(_) => request.begin(ErrorStatus::TooBig, 0),
+    }
+}
+
+// The reply to a GetBulkRequest: as many answers as fit.
+fn bulk<G: Group + Objects>(groups: &G, request: &Request<'_>, now: u32) -> Draft
+    requires { (m : Message) × IsAsked request.now m × (length m.bindings ≤ 128) }
+    ensures { OfCells (G.stands groups.now) G.cells now (λ cells. (m : Message) → IsAsked request.now m
+        → DraftsOne (IsBulkReply (IsNextBinding cells) m) result) }
+{
+    bindings_lengthen();
+    let mut draft = request.begin(ErrorStatus::NoError, 0);
+    let fixed = request.non_repeaters();
+    let names = request.names(0, fixed);
+    let Ok(_) = Answers::put(groups, Lookup::Above, &names, now, &mut draft) else {
+        return draft;
+    };
+    let repeated = request.names(fixed, request.count());
+    repeat(groups, repeated, request.repetitions(), now, &mut draft);
+    draft
+}
+
+// Puts repetitions behind the bindings of a draft, as many as are asked for and fit. The last one is wholly
+// endOfMibView if any is.
+fn repeat<G: Group + Objects>(groups: &G, names: Names, most: u32, now: u32, draft: &mut Draft)
+    requires { All IsSpellable names }
+    ensures { OfCells (G.stands groups.now) G.cells now (λ cells. (m : Message) (list : List Binding) → IsDrafted m list draft.old
+        → PutsLongest (AreRepetitions (IsNextBinding cells) most names) m list draft.new) }
+{
+    bindings_lengthen();
+    let mut last = names;
+    for _ in 0..most {
+        let Ok(answered) = Answers::put(groups, Lookup::Above, &last, now, draft) else {
+            return;
+        };
+        if answered.is_end {
+            return;
+        }
+        last = answered.names;
+    }
+}
