@@ -17,12 +17,12 @@ use Rattle.rm_pdu.specs.Message.{Message, message_octets}
 use Rattle.rm_pdu.specs.Draft.{Drafted, drafted}
 use Rattle.rm_event.specs.Firings.{crossing_event}
 use Rattle.rm_agent.specs.declared.trap.AlarmTrap.{AlarmTrap}
-use Rattle.rm_agent.specs.Replies.{too_big}
-use Rattle.rm_agent.specs.Sets.{alone_among, is_too_much, is_barred, given_by, returning, telling, Judges, wrong_alone, wrong_together, lacking, accepted}
+use Rattle.rm_reply.specs.Replies.{too_big}
+use Rattle.rm_reply.specs.Sets.{alone_among, is_too_much, is_barred, given_by, returning, telling, Judges, wrong_alone, wrong_together, lacking, accepted}
 use Rattle.rm_agent.specs.Notices.{trap_of, sends, sent_by, notice_numbered, count_one, count_notices}
-use Rattle.rm_agent.specs.Answers.{IsReplyBy}
+use Rattle.rm_reply.specs.Responses.{IsReplyBy}
 use Rattle.rm_agent.specs.Agent.{IsNextMoment, IsWritten}
-use Rattle.rm_agent.proofs.ReplyLemmas.{written}
+use Rattle.rm_agent.proofs.Written.{written}
 
 -- No frame has a notification, and no reply.
 

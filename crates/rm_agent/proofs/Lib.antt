@@ -1,12 +1,6 @@
-mod NameLemmas
-mod RowLemmas
-mod BulkLemmas
-mod ReplyLemmas
+mod Known
+mod Written
 mod ReadLemmas
-mod SetLemmas
-mod Verdicts
-mod OneReply
-mod EveryReply
 mod Watching
 mod NoticeExamples
 mod DueLemmas

@@ -11,11 +11,11 @@ use Rattle.rm_pdu.specs.declared.kind.Kind.{Kind}
 use Rattle.rm_pdu.specs.declared.kind.Kind.TheVariants.{Get, Next, Response, Set, Bulk, Inform, Trap, Report}
 use Rattle.rm_pdu.specs.Message.{Message}
 use Rattle.rm_agent.specs.declared.settings.Settings.{Settings}
-use Rattle.rm_agent.specs.Answers.{IsReplyBy}
+use Rattle.rm_reply.specs.Responses.{IsReplyBy}
 use Rattle.rm_agent.specs.Groups.{cells, objects, alone, together, Reserves}
 use Rattle.rm_agent.specs.Known.{may_write}
-use Rattle.rm_agent.specs.Replies.{too_big}
-use Rattle.rm_agent.specs.Sets.{Judges, wrong_alone, wrong_together, lacking, accepted, alone_among, given_by, returning, telling, is_too_much, is_barred}
+use Rattle.rm_reply.specs.Replies.{too_big}
+use Rattle.rm_reply.specs.Sets.{Judges, wrong_alone, wrong_together, lacking, accepted, alone_among, given_by, returning, telling, is_too_much, is_barred}
 use Rattle.rm_val.specs.declared.error.ErrorStatus.TheVariants.{NoAccess, NotWritable}
 use Rattle.rm_val.specs.Val.{Val}
 use Rattle.rm_model.specs.Cells.{is_of_column}

@@ -1,12 +1,6 @@
 -- What a datagram is answered.
 use Rattle.std.specs.Prelude.{◌≡◌, ◌≤◌, ℕ, Bool, true, List, if◌then◌else◌, Option, Some, None, length, take}
-use Rattle.rm_val.specs.Val.{Val}
-use Rattle.rm_val.specs.declared.error.ErrorStatus.{ErrorStatus}
-use Rattle.rm_model.specs.Cells.{Cells}
 use Rattle.rm_model.specs.Journal.{Journal}
-use Rattle.rm_model.specs.Judgement.{Bindings}
-use Rattle.rm_pdu.specs.declared.kind.Kind.{Kind}
-use Rattle.rm_pdu.specs.declared.kind.Kind.TheVariants.{Set}
 use Rattle.rm_pdu.specs.Message.{Message, message_octets}
 use Rattle.rm_pdu.specs.Verdict.{Verdict, too_long, malformed, other_version, not_request, message, IsVerdict}
 use Rattle.rm_pdu.specs.declared.message.Fault.{Fault}
@@ -17,8 +11,7 @@ use Rattle.rm_agent.specs.declared.answer.Reason.TheVariants.{TooLong, Malformed
 use Rattle.rm_agent.specs.declared.answer.Answer.{Answer}
 use Rattle.rm_agent.specs.declared.answer.Answer.TheVariants.{Reply, Drop}
 use Rattle.rm_agent.specs.Known.{is_known, may_write}
-use Rattle.rm_agent.specs.Replies.{IsReply}
-use Rattle.rm_agent.specs.Sets.{alone_among, IsSetReply}
+use Rattle.rm_reply.specs.Responses.{IsReplyBy}
 use Rattle.rm_agent.specs.Groups.{cells, objects, alone, together, Reserves}
 
 -- Why octets of which that is the verdict get no reply; nothing where they get one. A request is judged whole before
@@ -42,15 +35,6 @@ reason_of (OtherFault tag) = NotRequest
 abbrev pub reason_in : Answer → Option Reason
 reason_in (Reply count) = None
 reason_in (Drop reason) = Some reason
-
--- The reply to a request of a kind, and the journal after it, by what groups answer and how they judge a Set. Only a SetRequest
--- makes the journal longer.
-abbrev pub IsReplyBy : Cells → (objects : List ℕ → Bool) → (alone : List ℕ → Val → Option ErrorStatus) → (together : Bindings → ℕ → Option ErrorStatus)
-    → (reserves : Bindings → ℕ → Type 0) → (may_write : Bool) → (moment : ℕ) → Journal → Kind → Message → Message → Journal → Type 0
-IsReplyBy cells objects alone together reserves may_write moment journal Set request reply after =
-    IsSetReply (alone_among objects alone) together reserves may_write moment journal request reply after
-IsReplyBy cells objects alone together reserves may_write moment journal kind request reply after =
-    IsReply cells objects request reply × (after ≡ journal)
 
 -- the reply to a request at a moment in milliseconds after a journal, and the journal after it
 abbrev pub IsReplyAfter : Settings → Journal → ℕ → Message → Message → Journal → Type 0

@@ -1,8 +1,3 @@
-pub mod Answered
-pub mod Replies
-pub mod Given
-pub mod Sets
-pub mod Drafting
 pub mod Watched
 pub mod Known
 pub mod Groups

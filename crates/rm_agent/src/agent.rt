@@ -5,8 +5,6 @@ ghost use Rattle.rm_agent.specs.Groups.{AreStocked, clock_of, frames_of};
 
 use crate::answer::{Answer, Reason};
 use crate::notice::notice;
-use crate::request::Request;
-use crate::respond::respond;
 use crate::sampling::take;
 use crate::settings::Settings;
 use rm_alarm::{Alarms, Watched, frames_pass};
@@ -16,12 +14,10 @@ use rm_history::History;
 use rm_pcap::Frame;
 use rm_pdu::{Bindings, read_message};
 use rm_proto::facts;
+use rm_reply::{MOST_REPLY, Request, respond};
 use rm_status::{Both, System};
 use rm_val::NoMemory;
 use std::alloc::Global;
-
-/// The most octets of a reply.
-pub const MOST_REPLY: usize = 1472;
 
 // How many request-ids notifications have: they are numbers of 31 bits.
 const REQUEST_IDS: u32 = 0x8000_0000;

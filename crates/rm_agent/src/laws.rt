@@ -1,20 +1,18 @@
 // Laws of replies, and of the samples that are due. The bodies cite the laws of messages and of cells, and do nothing else.
 ghost use Rattle.std.specs.Prelude.{◌≡◌, ℕ, true, List, ◌∷◌, None};
-ghost use Rattle.rm_model.specs.Settings.{Settings as Counting};
 ghost use Rattle.rm_model.specs.Journal.{Frame, Journal, passes};
-ghost use Rattle.rm_model.specs.Finite.{AreFinite};
 ghost use Rattle.rm_pdu.specs.Message.{Message};
 ghost use Rattle.rm_pdu.specs.Verdict.{IsVerdict, message};
 ghost use Rattle.rm_agent.specs.declared.settings.Settings.{Settings};
 ghost use Rattle.rm_agent.specs.Answers.{reason_for, IsReplyAfter};
-ghost use Rattle.rm_agent.specs.Sets.{given_by};
+ghost use Rattle.rm_reply.specs.Sets.{given_by};
 ghost use Rattle.rm_agent.specs.Groups.{Reserves};
 ghost use Rattle.rm_agent.specs.Orderly.{NoneIsDue, IsOrderly};
 ghost use Rattle.rm_agent.specs.Advance.{Notification, IsAdvanced};
 
 use crate::agent::Groups;
-use rm_pdu::{Kind, bindings_lengthen, empty_messages_are_short};
-use rm_status::{Group, next_or_none};
+use rm_pdu::Kind;
+use rm_reply::{every_reply as request_has_reply, one_reply as reply_is_one};
 
 /// A law: a request has one reply at most after a journal, and leaves one journal, where it is no SetRequest that reserves
 /// storage.
@@ -24,7 +22,7 @@ pub fn one_reply()
         → IsReplyAfter settings journal now request a after → IsReplyAfter settings journal now request b later → (a ≡ b)
         × (after ≡ later) }
 {
-    bindings_lengthen();
+    reply_is_one::<Groups>();
 }
 
 /// A law: a datagram that isn't dropped has a reply.
@@ -34,10 +32,7 @@ pub fn every_reply()
         → reason_for settings (message request) ≡ None → (reply : Message) × (after : Journal)
         × IsReplyAfter settings journal now request reply after }
 {
-    bindings_lengthen();
-    empty_messages_are_short();
-    next_or_none();
-    cells_are_finite::<Groups>();
+    request_has_reply::<Groups>();
 }
 
 /// A law: from an orderly journal on, the samples that are due up to a moment come to an end.
@@ -68,9 +63,4 @@ pub fn frame_is_orderly()
 pub fn reply_is_orderly()
     ensures { (settings : Settings) (journal : Journal) (now : ℕ) (request reply : Message) (after : Journal)
         → IsOrderly journal → NoneIsDue now journal → IsReplyAfter settings journal now request reply after → IsOrderly after }
-{}
-
-// A law: the cells of a group are finitely many.
-fn cells_are_finite<G: Group>()
-    ensures { (settings : Counting) (journal : Journal) (now : ℕ) → AreFinite (G.cells settings journal now) }
 {}

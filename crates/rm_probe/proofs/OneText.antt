@@ -9,7 +9,7 @@ use Rattle.rm_pdu.specs.Verdict.{Verdict, message, IsVerdict}
 use Rattle.rm_agent.specs.declared.settings.Settings.{Settings}
 use Rattle.rm_agent.specs.declared.answer.Reason.{Reason}
 use Rattle.rm_agent.specs.Answers.{reason_for, IsReplyAfter}
-use Rattle.rm_agent.specs.Sets.{given_by}
+use Rattle.rm_reply.specs.Sets.{given_by}
 use Rattle.rm_agent.specs.Groups.{Reserves}
 use Rattle.rm_probe.specs.Lines.{TimedDatagram}
 use Rattle.rm_agent.specs.Advance.{Notification, IsAdvanced as AgentIsAdvanced}

@@ -1,6 +1,5 @@
 -- How drafts are replies.
 use Rattle.std.proofs.Common.{◌≡◌, ◌≤◌, ℕ, List, [], ◌++◌, length, take, drop, refl, ap, subst, ◌∙◌, append_assoc}
-use Rattle.std.proofs.Math.Seq.{take-append_seam}
 use Rattle.rm_pdu.specs.Message.{Binding, Message}
 use Rattle.rm_pdu.specs.Draft.{Drafted, drafted}
 use Rattle.rm_reply.specs.declared.answers.Answers.{Answers}
@@ -54,7 +53,3 @@ bulk_repeats IsOne names repeated most m answered draft new first others times p
           repeats.longest more (front_back IsOne names Follows puts.answers (repeats.added ++ more) puts.are.all (subst (λ (bs : List Binding). IsFront IsOne names Follows bs) whole front))
           (subst (λ (bs : List Binding). size_with m bs ≤ 1472) whole fits);
     }) repeats.is_drafted.is
-
--- the octets that were written to the front
-pub written : (count : ℕ) (octets rest out : List ℕ) → count ≡ length octets → out ≡ octets ++ rest → take count out ≡ octets
-written count octets rest out is whole = ap (λ (xs : List ℕ). take count xs) whole ∙ ap (λ n. take n (octets ++ rest)) is ∙ take-append_seam octets rest

@@ -6,10 +6,10 @@ ghost use Rattle.rm_reply.specs.Answered.{IsNextBinding};
 ghost use Rattle.rm_reply.specs.Replies.{IsWholeReply, IsBulkReply, AreRepetitions, IsReply, is_built};
 ghost use Rattle.rm_reply.specs.Drafting.{OfCells, IsFound, IsAsked, IsDrafted, DraftsOne, PutsLongest};
 
+use crate::answers::Answers;
 use crate::found::Lookup;
 use crate::names::Names;
 use crate::request::Request;
-use crate::answers::Answers;
 use rm_pdu::{Draft, Kind, bindings_lengthen};
 use rm_status::{Group, Objects};
 use rm_val::ErrorStatus;

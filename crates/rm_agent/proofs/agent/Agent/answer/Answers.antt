@@ -5,8 +5,9 @@ use Rattle.rm_agent.specs.declared.answer.Reason.{Reason}
 use Rattle.rm_agent.specs.declared.answer.Reason.TheVariants.{Community}
 use Rattle.rm_agent.specs.Known.{counting_by, is_known, may_write}
 use Rattle.rm_agent.specs.Groups.{cells, objects, alone, together, Reserves}
-use Rattle.rm_agent.specs.Answers.{reason_for, IsReplyBy}
-use Rattle.rm_agent.proofs.ReplyLemmas.{written}
+use Rattle.rm_reply.specs.Responses.{IsReplyBy}
+use Rattle.rm_agent.specs.Answers.{reason_for}
+use Rattle.rm_agent.proofs.Written.{written}
 use Rattle.rm_agent.proofs.CountLemmas.{same_count}
 use Rattle.rm_agent.proofs.ReadLemmas.{read_one}
 use Rattle.rm_agent.proofs.RepliesOrderly.{reply_orderly}
