@@ -41,17 +41,7 @@ right a b short = let e = length-append a b in omega arith
 has_length : (v : Val) → length (value_element v) ≤ 4294967295 → HasLength v
 has_length (octets bytes) short = inside 0x04 bytes short
 has_length (opaque_octets bytes) short = inside 0x44 bytes short
-has_length (int z) short = tt
-has_length null short = tt
-has_length (name numbers) short = tt
-has_length (ip bytes) short = tt
-has_length (counter n) short = tt
-has_length (gauge n) short = tt
-has_length (ticks n) short = tt
-has_length (big n) short = tt
-has_length no_object short = tt
-has_length no_instance short = tt
-has_length end_of_view short = tt
+has_length v short = tt
 
 binding_is : ValuesReadBack → (b : Binding) → IsWritableBinding b → length (value_element (name b.name) ++ value_element b.value) ≤ 4294967295
     → IsBinding (value_element (name b.name) ++ value_element b.value) b

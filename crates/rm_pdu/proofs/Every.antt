@@ -96,44 +96,35 @@ tagged_or_none known tag bytes = elim (known.some_element bytes) [
   | inr none ↦ inr (λ content rest first. none tag content rest first)
 ]
 
-abbrev IntOrNone : List ℕ → Type 0
-IntOrNone bytes = ((z : ℤ) × (rest : List ℕ) × ValueFirst (int z) rest bytes) ⊎ ((z : ℤ) (rest : List ℕ) → ValueFirst (int z) rest bytes → ⊥)
+module _ {A : Type 0} (make : A → Val) where
+  -- a value of some kind stands first, or none does
+  abbrev OrNone : List ℕ → Type 0
+  OrNone bytes = ((a : A) × (rest : List ℕ) × ValueFirst (make a) rest bytes) ⊎ ((a : A) (rest : List ℕ) → ValueFirst (make a) rest bytes → ⊥)
 
-int_from : Known → (v : Val) (rest bytes : List ℕ) → ValueFirst v rest bytes → IntOrNone bytes
-int_from known (int z) rest bytes first = inl (z, rest, first)
-int_from known v rest bytes first = inr (λ z other second. let e : v ≡ int z = (known.value v (int z) rest other bytes first second).0 in cc)
+  -- whether a value is of that kind
+  abbrev IsMade : Val → Type 0
+  IsMade v = ((a : A) × (v ≡ make a)) ⊎ ((a : A) → v ≡ make a → ⊥)
 
-int_or_none : Known → (bytes : List ℕ) → IntOrNone bytes
-int_or_none known bytes = elim (known.some_value bytes) [
-  | inl found ↦ int_from known found.0 found.1 bytes found.2
-  | inr none ↦ inr (λ z rest first. none (int z) rest first)
-]
+  made_or_none : ((v : Val) → IsMade v) → Known → (bytes : List ℕ) → OrNone bytes
+  made_or_none made known bytes = elim (known.some_value bytes) [
+    | inl found ↦ elim (made found.0) [
+      | inl is ↦ inl (is.0, found.1, subst (λ (v : Val). ValueFirst v found.1 bytes) is.1 found.2)
+      | inr other ↦ inr (λ a rest first. other a (known.value found.0 (make a) found.1 rest bytes found.2 first).0)
+    ]
+    | inr none ↦ inr (λ a rest first. none (make a) rest first)
+  ]
 
-abbrev OctetsOrNone : List ℕ → Type 0
-OctetsOrNone bytes = ((text rest : List ℕ) × ValueFirst (octets text) rest bytes) ⊎ ((text rest : List ℕ) → ValueFirst (octets text) rest bytes → ⊥)
+is_int : (v : Val) → IsMade int v
+is_int (int z) = inl (z, refl)
+is_int v = inr (λ z e. cc)
 
-octets_from : Known → (v : Val) (rest bytes : List ℕ) → ValueFirst v rest bytes → OctetsOrNone bytes
-octets_from known (octets text) rest bytes first = inl (text, rest, first)
-octets_from known v rest bytes first = inr (λ text other second. let e : v ≡ octets text = (known.value v (octets text) rest other bytes first second).0 in cc)
+is_octets : (v : Val) → IsMade octets v
+is_octets (octets text) = inl (text, refl)
+is_octets v = inr (λ text e. cc)
 
-octets_or_none : Known → (bytes : List ℕ) → OctetsOrNone bytes
-octets_or_none known bytes = elim (known.some_value bytes) [
-  | inl found ↦ octets_from known found.0 found.1 bytes found.2
-  | inr none ↦ inr (λ text rest first. none (octets text) rest first)
-]
-
-abbrev NameOrNone : List ℕ → Type 0
-NameOrNone bytes = ((numbers rest : List ℕ) × ValueFirst (name numbers) rest bytes) ⊎ ((numbers rest : List ℕ) → ValueFirst (name numbers) rest bytes → ⊥)
-
-name_from : Known → (v : Val) (rest bytes : List ℕ) → ValueFirst v rest bytes → NameOrNone bytes
-name_from known (name numbers) rest bytes first = inl (numbers, rest, first)
-name_from known v rest bytes first = inr (λ numbers other second. let e : v ≡ name numbers = (known.value v (name numbers) rest other bytes first second).0 in cc)
-
-name_or_none : Known → (bytes : List ℕ) → NameOrNone bytes
-name_or_none known bytes = elim (known.some_value bytes) [
-  | inl found ↦ name_from known found.0 found.1 bytes found.2
-  | inr none ↦ inr (λ numbers rest first. none (name numbers) rest first)
-]
+is_name : (v : Val) → IsMade name v
+is_name (name numbers) = inl (numbers, refl)
+is_name v = inr (λ numbers e. cc)
 
 is_one : (z : ℤ) → (z ≡ pos 1) ⊎ (z ≡ pos 1 → ⊥)
 is_one (pos n) = elim (cases_eq n 1) [ inl same ↦ inl (ap pos same) | inr other ↦ inr (λ e. other cc) ]
@@ -232,7 +223,7 @@ at_whole known requests bytes short next = elim (tagged_or_none known 0x30 bytes
 
 at_version : Known → (requests : Bool) (bytes left : List ℕ) (outer : List (List ℕ)) → length bytes ≤ 8192 → Begins requests bytes (place_at version left outer)
     → ((rest : List ℕ) → ValueFirst (int (pos 1)) rest left → Begins requests bytes (place_at community rest outer) → Found requests bytes) → Found requests bytes
-at_version known requests bytes left outer short before next = elim (int_or_none known left) [
+at_version known requests bytes left outer short before next = elim (made_or_none int is_int known left) [
   | inl h ↦ elim (is_one h.0) [
     | inl one ↦ let first = subst (λ (z : ℤ). ValueFirst (int z) h.1 left) one h.2 in next h.1 first (goes_on _ (place_at community h.1 outer) before (h.1, first, refl))
     | inr other ↦ (other_version h.0, (short, record { left = left; rest = h.1; outer = outer; begins = before; version = h.2; other = other }))
@@ -248,7 +239,7 @@ at_version known requests bytes left outer short before next = elim (int_or_none
 at_community : Known → (requests : Bool) (bytes left : List ℕ) (outer : List (List ℕ)) → length bytes ≤ 8192 → Begins requests bytes (place_at community left outer)
     → ((text rest : List ℕ) → ValueFirst (octets text) rest left → Begins requests bytes (place_at pdu rest outer) → Found requests bytes) → Found requests bytes
 unfolding is_plain
-at_community known requests bytes left outer short before next = elim (octets_or_none known left) [
+at_community known requests bytes left outer short before next = elim (made_or_none octets is_octets known left) [
   | inl h ↦ next h.0 h.1 h.2 (goes_on _ (place_at pdu h.1 outer) before (h.0, h.1, h.2, refl))
   | inr none ↦ leads_nowhere requests bytes community left outer short before refl (λ to leads. none leads.0 leads.1 leads.2)
 ]
@@ -274,7 +265,7 @@ at_pdu known requests bytes left outer short before next = elim (other_or_none r
 at_request_id : Known → (requests : Bool) (bytes left : List ℕ) (outer : List (List ℕ)) → length bytes ≤ 8192 → Begins requests bytes (place_at request_id left outer)
     → ((z : ℤ) (rest : List ℕ) → ValueFirst (int z) rest left → Begins requests bytes (place_at first_number rest outer) → Found requests bytes) → Found requests bytes
 unfolding is_plain
-at_request_id known requests bytes left outer short before next = elim (int_or_none known left) [
+at_request_id known requests bytes left outer short before next = elim (made_or_none int is_int known left) [
   | inl h ↦ next h.0 h.1 h.2 (goes_on _ (place_at first_number h.1 outer) before (h.0, h.1, h.2, refl))
   | inr none ↦ leads_nowhere requests bytes request_id left outer short before refl (λ to leads. none leads.0 leads.1 leads.2)
 ]
@@ -282,7 +273,7 @@ at_request_id known requests bytes left outer short before next = elim (int_or_n
 at_first_number : Known → (requests : Bool) (bytes left : List ℕ) (outer : List (List ℕ)) → length bytes ≤ 8192 → Begins requests bytes (place_at first_number left outer)
     → ((z : ℤ) (rest : List ℕ) → ValueFirst (int z) rest left → Begins requests bytes (place_at second_number rest outer) → Found requests bytes) → Found requests bytes
 unfolding is_plain
-at_first_number known requests bytes left outer short before next = elim (int_or_none known left) [
+at_first_number known requests bytes left outer short before next = elim (made_or_none int is_int known left) [
   | inl h ↦ next h.0 h.1 h.2 (goes_on _ (place_at second_number h.1 outer) before (h.0, h.1, h.2, refl))
   | inr none ↦ leads_nowhere requests bytes first_number left outer short before refl (λ to leads. none leads.0 leads.1 leads.2)
 ]
@@ -290,7 +281,7 @@ at_first_number known requests bytes left outer short before next = elim (int_or
 at_second_number : Known → (requests : Bool) (bytes left : List ℕ) (outer : List (List ℕ)) → length bytes ≤ 8192 → Begins requests bytes (place_at second_number left outer)
     → ((z : ℤ) (rest : List ℕ) → ValueFirst (int z) rest left → Begins requests bytes (place_at bindings rest outer) → Found requests bytes) → Found requests bytes
 unfolding is_plain
-at_second_number known requests bytes left outer short before next = elim (int_or_none known left) [
+at_second_number known requests bytes left outer short before next = elim (made_or_none int is_int known left) [
   | inl h ↦ next h.0 h.1 h.2 (goes_on _ (place_at bindings h.1 outer) before (h.0, h.1, h.2, refl))
   | inr none ↦ leads_nowhere requests bytes second_number left outer short before refl (λ to leads. none leads.0 leads.1 leads.2)
 ]
@@ -306,7 +297,7 @@ at_bindings known requests bytes left outer short before next = elim (tagged_or_
 at_binding_name : Known → (requests : Bool) (bytes left : List ℕ) (outer : List (List ℕ)) → length bytes ≤ 8192 → Begins requests bytes (place_at binding_name left outer)
     → ((numbers rest : List ℕ) → ValueFirst (name numbers) rest left → Begins requests bytes (place_at binding_value rest outer) → Found requests bytes) → Found requests bytes
 unfolding is_plain
-at_binding_name known requests bytes left outer short before next = elim (name_or_none known left) [
+at_binding_name known requests bytes left outer short before next = elim (made_or_none name is_name known left) [
   | inl h ↦ next h.0 h.1 h.2 (goes_on _ (place_at binding_value h.1 outer) before (h.0, h.1, h.2, refl))
   | inr none ↦ leads_nowhere requests bytes binding_name left outer short before refl (λ to leads. none leads.0 leads.1 leads.2)
 ]
