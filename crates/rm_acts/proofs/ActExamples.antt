@@ -4,7 +4,7 @@ use Rattle.std.specs.Prelude.{pos, replicate}
 use Rattle.rm_val.specs.Val.{name}
 use Rattle.rm_model.specs.Journal.{Act, assigns, samples, Journal}
 use Rattle.rm_model.specs.ControlRows.{cell_name}
-use Rattle.rm_model.specs.Alarms.{alarm_entry, alarm_value, base_of}
+use Rattle.rm_acts.specs.Alarms.{alarm_entry, alarm_value, base_of}
 use Rattle.rm_acts.specs.Events.{event_entry}
 use Rattle.rm_acts.specs.Channels.{channel_entry}
 use Rattle.rm_acts.specs.Fired.{fired, act_fires, present, data_control}

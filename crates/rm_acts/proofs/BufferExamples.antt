@@ -2,7 +2,7 @@
 use Rattle.std.proofs.Common.{◌≡◌, ℕ, List, [], ◌∷◌, ◌++◌, Some, refl}
 use Rattle.std.specs.Prelude.{pos, map, replicate}
 use Rattle.rm_model.specs.Journal.{Act, passes, assigns, samples, Journal}
-use Rattle.rm_model.specs.Alarms.{alarm_entry}
+use Rattle.rm_acts.specs.Alarms.{alarm_entry}
 use Rattle.rm_acts.specs.Events.{event_entry}
 use Rattle.rm_acts.specs.Channels.{channel_entry}
 use Rattle.rm_acts.specs.Buffers.{Packet, buffer_entry, kept_by, full_status, granted_of}

@@ -8,7 +8,7 @@ use Rattle.rm_model.specs.Settings.{Settings}
 use Rattle.rm_model.specs.Journal.{Act, Assignment, passes, Journal, frames_in}
 use Rattle.rm_model.specs.Cells.{Cells, cells_of}
 use Rattle.rm_model.specs.ControlRows.{cell_name}
-use Rattle.rm_model.specs.Alarms.{alarm_entry}
+use Rattle.rm_acts.specs.Alarms.{alarm_entry}
 use Rattle.rm_acts.specs.Recurring.{Sampleable, sampling}
 use Rattle.rm_acts.specs.Shown.{channels_shown, buffers_shown}
 

@@ -1,3 +1,6 @@
+pub mod CrossingLaws
+mod CrossingExamples
+mod AlarmExamples
 pub mod ShownLaws
 pub mod RecurringLaws
 mod FilterExamples

@@ -3,7 +3,7 @@ use Rattle.std.proofs.Common.{◌≡◌, [], ◌∷◌, ◌++◌, Some, refl}
 use Rattle.std.specs.Prelude.{pos}
 use Rattle.rm_val.specs.Val.{name}
 use Rattle.rm_model.specs.Journal.{assigns, samples, Journal}
-use Rattle.rm_model.specs.Alarms.{alarm_entry}
+use Rattle.rm_acts.specs.Alarms.{alarm_entry}
 use Rattle.rm_acts.specs.Events.{event_entry}
 use Rattle.rm_acts.specs.Fired.{fired, firings_of}
 use Rattle.rm_acts.proofs.ExampleActs.{pkts, settings, given, number, frames_at}

@@ -10,7 +10,8 @@ use Rattle.rm_model.specs.ControlRows.{no_rows, is_valid, is_absent}
 use Rattle.rm_model.specs.declared.row.State.{State}
 use Rattle.rm_model.specs.declared.row.State.TheVariants.{Absent, UnderCreation, Valid}
 use Rattle.rm_model.proofs.Members.{none_in, here, there, each}
-use Rattle.rm_model.proofs.Rows.{indexes_of, row_listed}
+use Rattle.rm_model.specs.Indexes.{indexes_of}
+use Rattle.rm_model.proofs.Rows.{row_listed}
 use Rattle.rm_acts.specs.Rows.{row_state, has_valid, one_number, with_number, with_numbers, named_rows, valid_rows}
 
 behind_one : (o : Option ℕ) (xs : List ℕ) (row : ℕ) → Contains xs row → Contains (cons_option o xs) row

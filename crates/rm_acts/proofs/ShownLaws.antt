@@ -7,7 +7,7 @@ use Rattle.rm_model.specs.Journal.{Act, Journal, passes, assigns, samples}
 use Rattle.rm_model.specs.Readings.{Readings}
 use Rattle.rm_model.specs.Cells.{cells_of, cell_at, instance_of}
 use Rattle.rm_model.specs.ControlRows.{no_rows, stays_valid}
-use Rattle.rm_model.specs.Alarms.{base_of, sampled}
+use Rattle.rm_acts.specs.Alarms.{base_of, sampled}
 use Rattle.rm_acts.specs.Seen.{seen_since}
 use Rattle.rm_acts.specs.Fired.{Fired, fired, act_fires}
 use Rattle.rm_acts.specs.Buffers.{buffer_table, captures, accepted_by}

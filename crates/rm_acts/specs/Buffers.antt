@@ -6,7 +6,7 @@ use Rattle.rm_model.specs.Journal.{Frame, Journal}
 use Rattle.rm_model.specs.Cells.{is_one_of}
 use Rattle.rm_model.specs.ControlTable.{ControlTable, number, text}
 use Rattle.rm_model.specs.ControlRows.{no_rows, value_of}
-use Rattle.rm_model.specs.Alarms.{up_from}
+use Rattle.rm_acts.specs.Alarms.{up_from}
 use Rattle.rm_model.specs.declared.row.StatusKind.TheVariants.{EntryStatus}
 use Rattle.rm_acts.specs.Rows.{number_in}
 use Rattle.rm_acts.specs.Seen.{Seen, seen_since}

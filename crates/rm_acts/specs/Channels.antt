@@ -6,7 +6,7 @@ use Rattle.rm_model.specs.Settings.{Settings}
 use Rattle.rm_model.specs.Journal.{Frame, Journal}
 use Rattle.rm_model.specs.ControlTable.{Column, ControlTable, number, text}
 use Rattle.rm_model.specs.ControlRows.{no_rows}
-use Rattle.rm_model.specs.Alarms.{up_from}
+use Rattle.rm_acts.specs.Alarms.{up_from}
 use Rattle.rm_model.specs.declared.row.StatusKind.TheVariants.{EntryStatus}
 use Rattle.rm_acts.specs.Rows.{number_in, valid_rows}
 use Rattle.rm_acts.specs.Seen.{seen_since}

@@ -1,13 +1,14 @@
 -- The control table of events (RFC 1757, section 5), and the event that a sample asks for.
 use Rattle.std.specs.Prelude.{ℕ, pos, List, [], ◌∷◌, Bool, true, false}
 use Rattle.rm_val.specs.Val.{Val}
+use Rattle.rm_val.specs.Contents.{natural_in}
 use Rattle.rm_model.specs.Journal.{Journal}
 use Rattle.rm_model.specs.ControlTable.{ControlTable}
 use Rattle.rm_model.specs.Sheet.{Sheet, table_of}
-use Rattle.rm_model.specs.Alarms.{alarm_column}
+use Rattle.rm_acts.specs.Alarms.{alarm_column}
 use Rattle.rm_model.specs.declared.row.StatusKind.TheVariants.{EntryStatus}
-use Rattle.rm_model.specs.declared.sampled.Sampled.{Sampled}
-use Rattle.rm_model.specs.declared.sampled.Sampled.TheVariants.{Quiet, Rising, Falling, Gone}
+use Rattle.rm_acts.specs.declared.sampled.Sampled.{Sampled}
+use Rattle.rm_acts.specs.declared.sampled.Sampled.TheVariants.{Quiet, Rising, Falling, Gone}
 use Rattle.rm_model.specs.declared.sheet.ColumnSheet.{ColumnSheet}
 use Rattle.rm_model.specs.declared.sheet.ColumnKind.{ColumnKind}
 use Rattle.rm_model.specs.declared.sheet.ColumnKind.TheVariants.{Number, Text}
@@ -16,7 +17,6 @@ use Rattle.rm_model.specs.declared.sheet.Setting.TheVariants.{Empty}
 use Rattle.rm_model.specs.declared.sheet.Setting.TheVariants as shows
 use Rattle.rm_model.specs.declared.sheet.Settable.{Settable}
 use Rattle.rm_model.specs.declared.sheet.Settable.TheVariants.{Always, UnderCreation}
-use Rattle.rm_acts.specs.Rows.{natural_of}
 
 -- every row is ready
 abbrev pub all_together : (ℕ → Val) → Bool
@@ -50,7 +50,7 @@ event_entry = event_table.entry
 -- the event that a sample of an alarm asks for, by what the sample comes to: its alarmRisingEventIndex, which is column 9, or
 -- its alarmFallingEventIndex, which is column 10; 0 is none
 abbrev pub event_asked : Journal → (alarm : ℕ) → Sampled → ℕ
-event_asked journal alarm Rising = natural_of (alarm_column journal alarm 9)
-event_asked journal alarm Falling = natural_of (alarm_column journal alarm 10)
+event_asked journal alarm Rising = natural_in (alarm_column journal alarm 9)
+event_asked journal alarm Falling = natural_in (alarm_column journal alarm 10)
 event_asked journal alarm Quiet = 0
 event_asked journal alarm Gone = 0

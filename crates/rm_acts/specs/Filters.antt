@@ -5,7 +5,7 @@ use Rattle.rm_model.specs.Settings.{Settings}
 use Rattle.rm_model.specs.Journal.{Frame, Journal}
 use Rattle.rm_model.specs.FrameFacts.{frame_facts}
 use Rattle.rm_model.specs.ControlTable.{Column, ControlTable, number, text}
-use Rattle.rm_model.specs.Alarms.{up_from}
+use Rattle.rm_acts.specs.Alarms.{up_from}
 use Rattle.rm_model.specs.declared.row.StatusKind.TheVariants.{EntryStatus}
 use Rattle.rm_acts.specs.Bits.{test_of, pass}
 use Rattle.rm_acts.specs.Rows.{number_in, text_in}

@@ -3,13 +3,14 @@
 -- journal and its firings.
 use Rattle.std.specs.Prelude.{ℕ, List, [], ◌∷◌, ◌++◌, map, filter, Bool, false, ◌&&◌, ◌||◌, nat_eq, if◌then◌else◌, Some, None}
 use Rattle.std.specs.Option.{option_map_or}
+use Rattle.rm_val.specs.Contents.{natural_in}
 use Rattle.rm_model.specs.Settings.{Settings}
 use Rattle.rm_model.specs.Journal.{Act, Frame, Journal, passes, assigns, samples, moment_of, value_given}
 use Rattle.rm_model.specs.ControlTable.{default_of}
 use Rattle.rm_model.specs.ControlRows.{no_rows, is_absent, cell_name, stays_valid}
-use Rattle.rm_model.specs.Alarms.{sampled}
+use Rattle.rm_acts.specs.Alarms.{sampled}
 use Rattle.rm_acts.specs.declared.firing.Firing.{Firing}
-use Rattle.rm_acts.specs.Rows.{natural_of, row_state, has_valid, valid_rows}
+use Rattle.rm_acts.specs.Rows.{row_state, has_valid, valid_rows}
 use Rattle.rm_acts.specs.Events.{event_table, event_asked}
 use Rattle.rm_acts.specs.Channels.{channel_entry, channel_table, turn_on_event, turn_off_event, event_of, accepts}
 
@@ -39,13 +40,13 @@ turned_by turned journal channel (firing ∷ more) value = turned_by turned jour
 
 -- its default, and what a Set makes of it: what it gives, and in a row that it makes the default
 abbrev pub unset : Turned → ℕ
-unset turned = natural_of (default_of channel_table turned.column)
+unset turned = natural_in (default_of channel_table turned.column)
 
 abbrev pub set_by : Turned → Act → Journal → (channel : ℕ) → ℕ → ℕ
 set_by turned (passes frame) earlier channel value = value
 set_by turned (samples moment alarm reading) earlier channel value = value
 set_by turned (assigns moment values) earlier channel value =
-    option_map_or natural_of (value_given values (cell_name channel_entry turned.column (channel ∷ [])))
+    option_map_or natural_in (value_given values (cell_name channel_entry turned.column (channel ∷ [])))
     (if is_absent (row_state channel_table earlier channel) then unset turned else value)
 
 -- Its value after a journal with these firings: what it was last set to since the row was made, changed by each later firing.
@@ -117,10 +118,17 @@ fired settings (act ∷ earlier) = act_fires settings act earlier (fired setting
 abbrev pub moments_in : (moment event : ℕ) → List Firing → List ℕ
 moments_in moment event some = map (λ each. moment) (filter (λ firing. nat_eq firing.event event) some)
 
--- The moments at which an event fired since its row became valid, the newest first, by a journal and its firings.
+-- The moments at which an event has fired, by those before an act and what the act has fired: an event fires only while its row is
+-- valid, and begins anew where that becomes valid.
+abbrev pub firings_with : Act → Journal → (event : ℕ) → (some : List Firing) → (before : List ℕ) → List ℕ
+firings_with act earlier event some before =
+    if stays_valid event_table no_rows act earlier (event ∷ []) then moments_in (moment_of act) event some ++ before else []
+
+-- The moments at which it fired since its row became valid, the newest first, by a journal and its firings.
 abbrev pub firings_of : Journal → Fired → (event : ℕ) → List ℕ
 firings_of [] fired event = []
-firings_of (act ∷ earlier) fired event =
-    if stays_valid event_table no_rows act earlier (event ∷ [])
-    then moments_in (moment_of act) event (of_newest fired) ++ firings_of earlier (of_earlier fired) event
-    else []
+firings_of (act ∷ earlier) fired event = firings_with act earlier event (of_newest fired) (firings_of earlier (of_earlier fired) event)
+
+-- the same by a journal
+abbrev pub firings : Settings → Journal → (event : ℕ) → List ℕ
+firings settings journal event = firings_of journal (fired settings journal) event

@@ -1,3 +1,5 @@
+pub mod Crossings
+pub mod Alarms
 pub mod Bits
 pub mod Rows
 pub mod Seen

@@ -1,20 +1,11 @@
 -- The rows of a control table whose indexes are one number, in order, and what their columns hold.
-use Rattle.std.specs.Prelude.{ℕ, pos, List, [], ◌∷◌, Bool, nat_eq, nat_lt, if◌then◌else◌, Option, Some, None, filter, filter_map}
-use Rattle.rm_val.specs.Val.{Val, int, octets}
+use Rattle.std.specs.Prelude.{ℕ, List, [], ◌∷◌, Bool, nat_eq, nat_lt, if◌then◌else◌, Option, Some, None, filter, filter_map}
+use Rattle.rm_val.specs.Contents.{natural_in, octets_in}
 use Rattle.rm_model.specs.Journal.{Journal}
 use Rattle.rm_model.specs.ControlTable.{ControlTable}
 use Rattle.rm_model.specs.ControlRows.{no_rows, is_valid, state_of, value_of}
-use Rattle.rm_model.proofs.Rows.{indexes_of}
+use Rattle.rm_model.specs.Indexes.{indexes_of}
 use Rattle.rm_model.specs.declared.row.State.{State}
-
--- the number that a value is, 0 where it is none or is negative, and the octets of a text
-abbrev pub natural_of : Val → ℕ
-natural_of (int (pos n)) = n
-natural_of value = 0
-
-abbrev pub text_of : Val → List ℕ
-text_of (octets bytes) = bytes
-text_of value = []
 
 -- the state of a row, whether it is valid, and what a column of it holds
 abbrev pub row_state : ControlTable → Journal → ℕ → State
@@ -24,10 +15,10 @@ abbrev pub has_valid : ControlTable → Journal → ℕ → Bool
 has_valid table journal row = is_valid (row_state table journal row)
 
 abbrev pub number_in : ControlTable → Journal → ℕ → (column : ℕ) → ℕ
-number_in table journal row column = natural_of (value_of table no_rows journal (row ∷ []) column)
+number_in table journal row column = natural_in (value_of table no_rows journal (row ∷ []) column)
 
 abbrev pub text_in : ControlTable → Journal → ℕ → (column : ℕ) → List ℕ
-text_in table journal row column = text_of (value_of table no_rows journal (row ∷ []) column)
+text_in table journal row column = octets_in (value_of table no_rows journal (row ∷ []) column)
 
 -- the number that an index is, if it is one
 abbrev pub one_number : List ℕ → Option ℕ

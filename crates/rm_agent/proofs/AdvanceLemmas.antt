@@ -6,11 +6,12 @@ use Rattle.std.proofs.lemmas.Bool.Decides.{nat_tests}
 use borrow.Author.Tests.{eqb-true}
 use Rattle.rm_model.specs.Journal.{Journal, samples}
 use Rattle.rm_model.specs.ControlRows.{no_rows, is_absent, is_valid}
-use Rattle.rm_model.specs.Alarms.{alarm_table, alarm_state, interval_of, due_of, IsNextDue}
+use Rattle.rm_acts.specs.Alarms.{alarm_table, alarm_state, interval_of, due_of, IsNextDue}
 use Rattle.rm_model.specs.declared.row.State.{State}
 use Rattle.rm_model.specs.declared.row.State.TheVariants.{Absent, UnderCreation, Valid}
 use Rattle.rm_model.proofs.Members.{none_in, each}
-use Rattle.rm_model.proofs.Rows.{indexes_of, row_listed}
+use Rattle.rm_model.specs.Indexes.{indexes_of}
+use Rattle.rm_model.proofs.Rows.{row_listed}
 use Rattle.rm_alarm.specs.Group.{nothing_begins}
 use Rattle.rm_alarm.specs.Left.{sum_below, span_to}
 use Rattle.rm_alarm.specs.Watched.{number_read}

@@ -7,7 +7,7 @@ use Rattle.rm_val.specs.declared.error.ErrorStatus.{ErrorStatus}
 use Rattle.rm_val.specs.declared.error.ErrorStatus.TheVariants.{NoAccess}
 use Rattle.rm_model.specs.Settings.{Settings as Counting}
 use Rattle.rm_model.specs.Journal.{Act, Frame, passes, assigns, samples, Journal}
-use Rattle.rm_model.specs.Alarms.{IsNextDue, sampled}
+use Rattle.rm_acts.specs.Alarms.{IsNextDue, sampled}
 use Rattle.rm_model.specs.Cells.{Cells}
 use Rattle.rm_model.specs.Judgement.{Bindings}
 use Rattle.rm_model.specs.declared.verdict.Verdict.{Verdict}

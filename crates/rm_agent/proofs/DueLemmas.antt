@@ -5,7 +5,7 @@ use Rattle.std.specs.Str.{bytes_eq}
 use Rattle.std.proofs.Math.Nat.{mul-suc}
 use Rattle.rm_model.specs.Journal.{Act, Assignments, assigns, Journal, samples}
 use Rattle.rm_model.specs.ControlRows.{no_rows, is_valid, next_state, stays_valid, since, activated}
-use Rattle.rm_model.specs.Alarms.{alarm_table, alarm_state, interval_of, readings_in, readings_of, due_of}
+use Rattle.rm_acts.specs.Alarms.{alarm_table, alarm_state, interval_of, readings_in, readings_of, due_of}
 use Rattle.rm_model.specs.declared.row.Ask.TheVariants.{Nothing, Destroy}
 use Rattle.rm_status.proofs.PlaceLemmas.{same_either_way}
 use Rattle.rm_status.proofs.RowsAfterLemmas.{since_starts}

@@ -6,7 +6,7 @@ use Rattle.std.specs.Option.{option_map}
 use Rattle.rm_val.specs.Val.{Val, int, name, octets}
 use Rattle.rm_model.specs.Settings.{Settings as Counting}
 use Rattle.rm_model.specs.Journal.{Assignment, Act, Journal, assigns, samples}
-use Rattle.rm_model.specs.Alarms.{alarm_entry}
+use Rattle.rm_acts.specs.Alarms.{alarm_entry}
 use Rattle.rm_model.specs.ControlRows.{cell_name}
 use Rattle.rm_event.specs.EventTable.{event_entry}
 use Rattle.rm_ber.specs.Element as elements

@@ -6,13 +6,13 @@ use Rattle.std.specs.Option.{option_map, option_and_then}
 use Rattle.rm_val.specs.Val.{Val, int, name, ticks, octets}
 use Rattle.rm_model.specs.Settings.{Settings as Counting}
 use Rattle.rm_model.specs.Journal.{Journal, samples}
-use Rattle.rm_model.specs.Alarms.{alarm_entry, alarm_table, alarm_state, number_of, name_of, sampled}
+use Rattle.rm_acts.specs.Alarms.{alarm_entry, alarm_table, alarm_state, number_of, name_of, sampled}
 use Rattle.rm_model.specs.Alike.{HasSameColumns}
 use Rattle.rm_model.specs.ControlRows.{cell_name, no_rows, is_absent, is_valid, set_value}
 use Rattle.rm_model.specs.declared.row.State.{State}
 use Rattle.rm_model.specs.declared.row.State.TheVariants.{Absent, UnderCreation, Valid}
-use Rattle.rm_model.specs.declared.sampled.Sampled.{Sampled}
-use Rattle.rm_model.specs.declared.sampled.Sampled.TheVariants.{Quiet, Rising, Falling, Gone}
+use Rattle.rm_acts.specs.declared.sampled.Sampled.{Sampled}
+use Rattle.rm_acts.specs.declared.sampled.Sampled.TheVariants.{Quiet, Rising, Falling, Gone}
 use Rattle.rm_status.specs.declared.row.Row.{Row}
 use Rattle.rm_status.specs.Values.{octets_in}
 use Rattle.rm_status.specs.Rows.{row_in, state_seen, columns_seen}

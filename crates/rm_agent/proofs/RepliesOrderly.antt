@@ -5,7 +5,7 @@ use Rattle.std.specs.Option.{option_or}
 use Rattle.rm_model.specs.Journal.{Journal}
 use Rattle.rm_model.specs.Judgement.{Bindings, name_at, value_at, second_pass, rows_after}
 use Rattle.rm_model.specs.ControlRows.{Beginning, no_rows}
-use Rattle.rm_model.specs.Alarms.{alarm_table}
+use Rattle.rm_acts.specs.Alarms.{alarm_table}
 use Rattle.rm_model.specs.declared.verdict.Verdict.{Verdict}
 use Rattle.rm_pdu.specs.declared.kind.Kind.{Kind}
 use Rattle.rm_pdu.specs.declared.kind.Kind.TheVariants.{Get, Next, Response, Set, Bulk, Inform, Trap, Report}

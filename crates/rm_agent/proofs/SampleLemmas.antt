@@ -3,13 +3,13 @@ use Rattle.std.proofs.Common.{◌≡◌, ℕ, suc, zero, ◌≤◌, [], ◌∷�
 use Rattle.std.specs.Prelude.{ℤ, is_some}
 use Rattle.rm_model.specs.Settings.{Settings as Counting}
 use Rattle.rm_model.specs.Journal.{Journal, samples}
-use Rattle.rm_model.specs.Alarms.{alarm_entry, alarm_state, sampled}
+use Rattle.rm_acts.specs.Alarms.{alarm_entry, alarm_state, sampled}
 use Rattle.rm_model.specs.Cells.{cells_of, cell_at, is_one_of}
 use Rattle.rm_model.specs.ControlRows.{cell_name, is_absent, is_valid}
 use Rattle.rm_model.specs.declared.row.State.{State}
 use Rattle.rm_model.specs.declared.row.State.TheVariants.{Absent, UnderCreation, Valid}
-use Rattle.rm_model.specs.declared.sampled.Sampled.{Sampled}
-use Rattle.rm_model.specs.declared.sampled.Sampled.TheVariants.{Quiet, Rising, Falling, Gone}
+use Rattle.rm_acts.specs.declared.sampled.Sampled.{Sampled}
+use Rattle.rm_acts.specs.declared.sampled.Sampled.TheVariants.{Quiet, Rising, Falling, Gone}
 use Rattle.rm_alarm.specs.AlarmTable.{alarm_columns, alarm_shown, alarms_table}
 use Rattle.rm_event.specs.declared.event_type.EventType.{EventType}
 use Rattle.rm_event.specs.declared.event_type.EventType.TheVariants as type

@@ -4,7 +4,7 @@ use Rattle.std.specs.Option.{option_or}
 use Rattle.rm_model.specs.Journal.{Journal}
 use Rattle.rm_model.specs.Cells.{cells_of}
 use Rattle.rm_model.specs.Settings.{Settings as Counting}
-use Rattle.rm_status.specs.Readable.{reading_of}
+use Rattle.rm_acts.specs.Recurring.{reading_of}
 use Rattle.rm_alarm.specs.Watched.{ReadsFrom}
 use Rattle.rm_ether.specs.declared.column.Column.{Column}
 use Rattle.rm_ether.specs.declared.column.Column.TheVariants as ether

@@ -1,7 +1,7 @@
 -- The samples that are due up to a moment, and their notifications.
 use Rattle.std.specs.Prelude.{◌≤◌, ℕ, List, [], ◌∷◌, ◌++◌, Option, Some, None}
 use Rattle.rm_model.specs.Journal.{Journal}
-use Rattle.rm_model.specs.Alarms.{due_of, IsNextDue}
+use Rattle.rm_acts.specs.Alarms.{due_of, IsNextDue}
 use Rattle.rm_pdu.specs.Message.{Message}
 use Rattle.rm_agent.specs.declared.settings.Settings.{Settings}
 use Rattle.rm_agent.specs.Agent.{sample_of}

@@ -2,7 +2,7 @@
 use Rattle.std.specs.Prelude.{◌≡◌, ◌≤◌, ℕ, ◌%◌, ◌^◌, List, ◌∷◌, length, take, Option, Some, None}
 use Rattle.std.specs.Option.{option_map}
 use Rattle.rm_model.specs.Journal.{Act, Journal, samples, last_moment}
-use Rattle.rm_model.specs.Alarms.{IsNextDue, due_of}
+use Rattle.rm_acts.specs.Alarms.{IsNextDue, due_of}
 use Rattle.rm_alarm.specs.Group.{due_in}
 use Rattle.rm_alarm.specs.Left.{samples_left}
 use Rattle.rm_alarm.specs.Watched.{number_read}

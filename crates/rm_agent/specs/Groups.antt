@@ -6,7 +6,7 @@ use Rattle.rm_val.specs.Val.{Val}
 use Rattle.rm_val.specs.declared.error.ErrorStatus.{ErrorStatus}
 use Rattle.rm_model.specs.Settings.{Settings as Counting}
 use Rattle.rm_model.specs.Journal.{Journal}
-use Rattle.rm_model.specs.Alarms.{alarm_entry, alarm_table}
+use Rattle.rm_acts.specs.Alarms.{alarm_entry, alarm_table}
 use Rattle.rm_model.specs.Cells.{Cells, cells_of, is_of_column}
 use Rattle.rm_model.specs.ControlRows.{no_rows}
 use Rattle.rm_model.specs.Judgement.{Bindings, second_pass, rows_after}

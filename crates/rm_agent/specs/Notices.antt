@@ -4,10 +4,10 @@ use Rattle.std.specs.Prelude.{ℕ, ◌+◌, ◌%◌, ◌/◌, ◌^◌, pos, List
 use Rattle.rm_val.specs.Val.{Val, name, ticks}
 use Rattle.rm_model.specs.Settings.{Settings as Counting}
 use Rattle.rm_model.specs.Journal.{Act, passes, assigns, samples, Journal}
-use Rattle.rm_model.specs.Alarms.{alarm_entry, sampled}
+use Rattle.rm_acts.specs.Alarms.{alarm_entry, sampled}
 use Rattle.rm_model.specs.ControlRows.{cell_name, is_valid}
-use Rattle.rm_model.specs.declared.sampled.Sampled.{Sampled}
-use Rattle.rm_model.specs.declared.sampled.Sampled.TheVariants.{Quiet, Rising, Falling, Gone}
+use Rattle.rm_acts.specs.declared.sampled.Sampled.{Sampled}
+use Rattle.rm_acts.specs.declared.sampled.Sampled.TheVariants.{Quiet, Rising, Falling, Gone}
 use Rattle.rm_status.specs.Values.{octets_in}
 use Rattle.rm_alarm.specs.AlarmTable.{alarm_shown}
 use Rattle.rm_event.specs.declared.event_type.EventType.{EventType}

@@ -3,7 +3,7 @@ use Rattle.std.specs.Prelude.{◌≡◌, ◌<◌, ◌≤◌, ℕ, nat_abs, [], �
 use Rattle.rm_val.specs.Val.{Val}
 use Rattle.rm_model.specs.Journal.{Journal, last_moment}
 use Rattle.rm_model.specs.ControlRows.{no_rows, is_valid, set_value}
-use Rattle.rm_model.specs.Alarms.{alarm_table, alarm_state, due_of, number_of}
+use Rattle.rm_acts.specs.Alarms.{alarm_table, alarm_state, due_of, number_of}
 
 -- no sample is due up to a moment
 abbrev pub NoneIsDue : ℕ → Journal → Type 0

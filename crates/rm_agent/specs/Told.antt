@@ -3,7 +3,7 @@ use Rattle.std.specs.Prelude.{◌≡◌, ℕ, pos, List, [], ◌∷◌, Bool, fa
 use Rattle.rm_val.specs.Val.{int, name}
 use Rattle.rm_model.specs.Settings.{Settings as Counting}
 use Rattle.rm_model.specs.Journal.{Journal, samples}
-use Rattle.rm_model.specs.Alarms.{due_of, number_of, name_of, sampled}
+use Rattle.rm_acts.specs.Alarms.{due_of, number_of, name_of, sampled}
 use Rattle.rm_alarm.specs.AlarmTable.{alarm_shown}
 use Rattle.rm_alarm.specs.Watched.{number_read}
 use Rattle.rm_event.specs.Firings.{crossing_event}

@@ -43,7 +43,7 @@ pub struct Agent {
 }
 
 impl Agent {
-    ghost use Rattle.rm_model.specs.Alarms.{due_of, IsNextDue};
+    ghost use Rattle.rm_acts.specs.Alarms.{due_of, IsNextDue};
     ghost use Rattle.rm_model.specs.Journal.{Journal, passes};
     ghost use Rattle.rm_pcap.specs.Progress.{frame_of};
     ghost use Rattle.rm_pdu.specs.Verdict.{Verdict, IsVerdict};

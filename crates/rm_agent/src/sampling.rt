@@ -4,7 +4,7 @@ ghost use Rattle.rm_val.specs.Val.{val_of};
 ghost use Rattle.rm_val.specs.Spellable.{HasSpelling};
 ghost use Rattle.rm_model.specs.Settings.{Settings};
 ghost use Rattle.rm_model.specs.Journal.{Act, Journal, samples, moment_of, last_moment};
-ghost use Rattle.rm_model.specs.Alarms.{alarm_state, due_of, sampled};
+ghost use Rattle.rm_acts.specs.Alarms.{alarm_state, due_of, sampled};
 ghost use Rattle.rm_model.specs.Cells.{is_one_of};
 ghost use Rattle.rm_model.specs.ControlRows.{is_valid};
 ghost use Rattle.rm_alarm.specs.AlarmTable.{alarm_columns, alarm_shown};

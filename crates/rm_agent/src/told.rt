@@ -2,7 +2,7 @@
 ghost use Rattle.std.specs.Prelude.{◌≡◌, ℕ, ◌≤◌, List, [], ◌∷◌, true};
 ghost use Rattle.rm_val.specs.Val.{val_of, name};
 ghost use Rattle.rm_val.specs.Spellable.{IsSpellable, HasSpelling};
-ghost use Rattle.rm_model.specs.Alarms.{number_of};
+ghost use Rattle.rm_acts.specs.Alarms.{number_of};
 ghost use Rattle.rm_model.specs.Cells.{is_one_of};
 ghost use Rattle.rm_alarm.specs.AlarmTable.{alarm_columns};
 
@@ -29,7 +29,7 @@ pub(crate) struct Told {
 impl Told {
     ghost use Rattle.rm_model.specs.Settings.{Settings};
     ghost use Rattle.rm_model.specs.Journal.{Journal, last_moment};
-    ghost use Rattle.rm_model.specs.Alarms.{alarm_state};
+    ghost use Rattle.rm_acts.specs.Alarms.{alarm_state};
     ghost use Rattle.rm_model.specs.ControlRows.{is_valid};
     ghost use Rattle.rm_alarm.specs.Standing.{Stands as AlarmsStand};
     ghost use Rattle.rm_agent.specs.Told.{told_of};

@@ -8,7 +8,7 @@ use Rattle.rm_model.specs.Journal.{Act, Assignments, Journal, assigns, value_giv
 use Rattle.rm_model.specs.ControlTable.{default_of}
 use Rattle.rm_model.specs.ControlRows.{no_rows, cell_name, entry_status_ask, value_ask, set_ask, next_state, is_absent, is_valid, set_value, stays_valid, activated}
 use Rattle.rm_model.specs.Judgement.{Bindings, first_pass, second_pass, is_always}
-use Rattle.rm_model.specs.Alarms.{number_of, name_of, alarm_entry, alarm_table, alarm_state, alarm_column, interval_of, variable_of, is_delta, bounds_of, readings_in, readings_of, base_of, newest_or, values_of_readings, is_counted, base_number, sample_values, due_of}
+use Rattle.rm_acts.specs.Alarms.{number_of, name_of, alarm_entry, alarm_table, alarm_state, alarm_column, interval_of, variable_of, is_delta, bounds_of, readings_in, readings_of, base_of, newest_or, values_of_readings, is_counted, base_number, sample_values, due_of}
 use Rattle.rm_model.specs.declared.row.StatusKind.TheVariants.{EntryStatus}
 use Rattle.rm_model.specs.declared.row.Ask.TheVariants.{Nothing, Create, Enable, Disable, Destroy}
 use Rattle.rm_model.specs.declared.row.State.{State}

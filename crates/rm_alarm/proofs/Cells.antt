@@ -8,7 +8,7 @@ use Rattle.rm_model.specs.Journal.{Journal}
 use Rattle.rm_model.specs.Names.{IsLeastAbove}
 use Rattle.rm_model.specs.Cells.{behind, instance_left, cells_of, cell_at, is_cell_name, IsNext, is_one_of}
 use Rattle.rm_model.specs.ControlRows.{no_rows, entry_status, is_absent, is_valid, state_of}
-use Rattle.rm_model.specs.Alarms.{alarm_entry, alarm_table, alarm_state, readings_in, values_of_readings, is_delta, is_counted, base_number, base_of, sample_values, newest_or, saturated}
+use Rattle.rm_acts.specs.Alarms.{alarm_entry, alarm_table, alarm_state, readings_in, values_of_readings, is_delta, is_counted, base_number, base_of, sample_values, newest_or, saturated}
 use Rattle.rm_model.specs.declared.row.State.{State}
 use Rattle.rm_model.specs.declared.row.State.TheVariants.{Absent, UnderCreation, Valid}
 use Rattle.rm_model.proofs.Tables.{table_next, table_end}

@@ -10,7 +10,7 @@ use Rattle.rm_model.specs.Settings.{Settings}
 use Rattle.rm_model.specs.Journal.{Journal, value_given}
 use Rattle.rm_model.specs.ControlRows.{cell_name}
 use Rattle.rm_model.specs.Judgement.{Bindings, first_pass}
-use Rattle.rm_model.specs.Alarms.{alarm_entry, alarm_table}
+use Rattle.rm_acts.specs.Alarms.{alarm_entry, alarm_table}
 use Rattle.rm_model.specs.declared.row.State.{State}
 use Rattle.rm_model.specs.declared.row.State.TheVariants.{Absent, UnderCreation, Valid}
 use Rattle.rm_status.specs.declared.row.Row.{Row}
@@ -34,7 +34,7 @@ in_some : {A : Type 0} (x y : A) → Some x ≡ Some y → x ≡ y
 in_some x y e = cc
 
 kept_same : (settings : Settings) (journal : Journal) (i : ℕ) (s : State) (row other : AlarmRow) (o : Option Course) → other.thresholds ≡ row.thresholds → IsKept settings journal i s row o → IsKept settings journal i s other o
-kept_same settings journal i Valid row other (Some course) same k = record { due = k.due; keeps = subst (λ (t : Thresholds). Keeps course.hysteresis t (Rattle.rm_model.specs.Alarms.sample_values settings journal i)) (sym same) k.keeps }
+kept_same settings journal i Valid row other (Some course) same k = record { due = k.due; keeps = subst (λ (t : Thresholds). Keeps course.hysteresis t (Rattle.rm_acts.specs.Alarms.sample_values settings journal i)) (sym same) k.keeps }
 kept_same settings journal i Valid row other None same k = k
 kept_same settings journal i UnderCreation row other o same k = k
 kept_same settings journal i Absent row other o same k = k

@@ -12,7 +12,7 @@ use Rattle.rm_status.specs.Alone.{IsWithin}
 use Rattle.rm_model.specs.Judgement.{Bindings, name_at, value_at, place_of, IsFirstFault}
 use Rattle.rm_model.specs.Alike.{AreAlike}
 use Rattle.rm_model.specs.Readings.{Readings}
-use Rattle.rm_model.specs.Alarms.{alarm_entry, alarm_table, name_of}
+use Rattle.rm_acts.specs.Alarms.{alarm_entry, alarm_table, name_of}
 use Rattle.rm_model.specs.declared.place.Place.{Place}
 use Rattle.rm_model.specs.declared.place.Place.TheVariants.{Outside, Entry, Column, Cell}
 use Rattle.rm_model.specs.declared.row.State.{State}

@@ -5,7 +5,7 @@ use Rattle.std.proofs.lemmas.Bool.Decides.{nat_tests}
 use Rattle.rm_model.specs.Settings.{Settings}
 use Rattle.rm_model.specs.Journal.{Journal}
 use Rattle.rm_model.specs.ControlRows.{no_rows, is_valid}
-use Rattle.rm_model.specs.Alarms.{alarm_table, alarm_state, due_of, IsNextDue}
+use Rattle.rm_acts.specs.Alarms.{alarm_table, alarm_state, due_of, IsNextDue}
 use Rattle.rm_model.specs.declared.row.State.{State}
 use Rattle.rm_model.specs.declared.row.State.TheVariants.{Absent, UnderCreation, Valid}
 use Rattle.rm_status.specs.declared.row.Row.{Row}

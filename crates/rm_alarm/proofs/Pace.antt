@@ -12,14 +12,14 @@ use Rattle.rm_val.specs.declared.error.ErrorStatus.TheVariants.{InconsistentValu
 use Rattle.rm_model.specs.Journal.{value_given}
 use Rattle.rm_model.specs.ControlRows.{cell_name, value_ask, set_ask, next_state}
 use Rattle.rm_model.specs.Judgement.{Bindings, name_at, place_of, first_pass, second_pass, together_fault, alone_fault, value_fault, column_kind, is_in, is_ready_with, is_again, is_crowded, row_fault, unless}
-use Rattle.rm_model.specs.Alarms.{alarm_entry, alarm_table, up_from}
+use Rattle.rm_acts.specs.Alarms.{alarm_entry, alarm_table, up_from}
 use Rattle.rm_model.specs.declared.row.StatusKind.TheVariants.{EntryStatus}
 use Rattle.rm_model.specs.declared.row.Ask.{Ask}
 use Rattle.rm_model.specs.declared.row.Ask.TheVariants.{Nothing, Create, CreateValid, Enable, Disable, Destroy}
 use Rattle.rm_model.specs.declared.place.Place.TheVariants.{Cell}
 use Rattle.rm_model.specs.declared.row.State.{State}
 use Rattle.rm_model.specs.declared.row.State.TheVariants.{Absent, UnderCreation, Valid}
-use Rattle.rm_model.specs.declared.sampled.Sampled.{Sampled}
+use Rattle.rm_acts.specs.declared.sampled.Sampled.{Sampled}
 use Rattle.rm_status.specs.declared.row.Row.{Row}
 use Rattle.rm_status.specs.Rows.{row_in, rows_before, state_seen, columns_seen, AreControlRows}
 use Rattle.rm_status.specs.Change.{changed_row}

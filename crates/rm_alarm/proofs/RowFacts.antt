@@ -10,7 +10,7 @@ use Rattle.rm_model.specs.Journal.{Journal}
 use Rattle.rm_model.specs.ControlRows.{no_rows, is_absent, set_value}
 use Rattle.rm_model.specs.Judgement.{is_row_number}
 use Rattle.rm_model.specs.Alike.{HasSameColumns}
-use Rattle.rm_model.specs.Alarms.{number_of, name_of, alarm_table, alarm_state, interval_of, variable_of, is_delta, bounds_of}
+use Rattle.rm_acts.specs.Alarms.{number_of, name_of, alarm_table, alarm_state, interval_of, variable_of, is_delta, bounds_of}
 use Rattle.rm_status.specs.declared.row.Row.{Row}
 use Rattle.rm_status.specs.Rows.{row_in, state_seen, columns_seen, AreControlRows, AllThere, with_columns}
 use Rattle.rm_status.specs.RowsAfter.{AreRowsAfter}

@@ -8,10 +8,10 @@ use Rattle.rm_model.specs.Settings.{Settings}
 use Rattle.rm_model.specs.Journal.{Act, Frame, Journal, passes, samples}
 use Rattle.rm_model.specs.ControlRows.{no_rows, is_absent, is_valid, set_value, stays_valid}
 use Rattle.rm_model.specs.Alike.{HasSameColumns}
-use Rattle.rm_model.specs.Alarms.{alarm_table, alarm_state, interval_of, is_delta, readings_in, sampled}
+use Rattle.rm_acts.specs.Alarms.{alarm_table, alarm_state, interval_of, is_delta, readings_in, sampled}
 use Rattle.rm_model.specs.declared.row.State.{State}
 use Rattle.rm_model.specs.declared.row.State.TheVariants.{Absent, UnderCreation, Valid}
-use Rattle.rm_model.specs.declared.sampled.Sampled.{Sampled}
+use Rattle.rm_acts.specs.declared.sampled.Sampled.{Sampled}
 use Rattle.rm_status.specs.declared.row.Row.{Row}
 use Rattle.rm_status.specs.Rows.{row_in, state_seen, columns_seen, state_in, columns_in, AreControlRows}
 use Rattle.rm_status.specs.RowsAfter.{AreRowsAfter}

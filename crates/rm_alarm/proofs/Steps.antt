@@ -5,9 +5,9 @@ use Rattle.std.proofs.Math.Nat.{mul-suc}
 use Rattle.rm_model.specs.Settings.{Settings}
 use Rattle.rm_model.specs.Journal.{Act, Journal, samples}
 use Rattle.rm_model.specs.ControlRows.{no_rows, is_valid, stays_valid, since, activated}
-use Rattle.rm_model.specs.Crossings.{Bounds, is_in_force, rising_of, falling_of, crossing}
-use Rattle.rm_model.specs.Alarms.{alarm_table, alarm_state, interval_of, is_delta, bounds_of, readings_in, readings_of, base_of, newest_or, values_of_readings, is_counted, base_number, difference, sample_values, sampled, due_of}
-use Rattle.rm_model.specs.declared.sampled.Sampled.{Sampled}
+use Rattle.rm_acts.specs.Crossings.{Bounds, is_in_force, rising_of, falling_of, crossing}
+use Rattle.rm_acts.specs.Alarms.{alarm_table, alarm_state, interval_of, is_delta, bounds_of, readings_in, readings_of, base_of, newest_or, values_of_readings, is_counted, base_number, difference, sample_values, sampled, due_of}
+use Rattle.rm_acts.specs.declared.sampled.Sampled.{Sampled}
 use Rattle.rm_alarm.specs.declared.course.Course.{Course}
 use Rattle.rm_alarm.specs.declared.hysteresis.Hysteresis.{Hysteresis}
 use Rattle.rm_alarm.specs.declared.thresholds.Thresholds.{Thresholds}

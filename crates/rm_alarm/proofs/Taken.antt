@@ -9,10 +9,10 @@ use Rattle.rm_model.specs.Settings.{Settings}
 use Rattle.rm_model.specs.Journal.{Act, Journal, samples}
 use Rattle.rm_model.specs.ControlRows.{no_rows, is_absent, next_state, set_value}
 use Rattle.rm_model.specs.Alike.{HasSameColumns}
-use Rattle.rm_model.specs.Alarms.{alarm_table, alarm_state}
+use Rattle.rm_acts.specs.Alarms.{alarm_table, alarm_state}
 use Rattle.rm_model.specs.declared.row.State.TheVariants.{Absent}
 use Rattle.rm_model.specs.declared.row.Ask.TheVariants.{Nothing, Destroy}
-use Rattle.rm_model.specs.declared.sampled.Sampled.{Sampled}
+use Rattle.rm_acts.specs.declared.sampled.Sampled.{Sampled}
 use Rattle.rm_status.specs.declared.row.Row.{Row}
 use Rattle.rm_status.specs.Rows.{row_in, state_seen, columns_seen, state_in, columns_in, with_columns}
 use Rattle.rm_status.specs.RowsAfter.{AreRowsAfter}

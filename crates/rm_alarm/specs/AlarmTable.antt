@@ -5,7 +5,7 @@ use Rattle.rm_model.specs.Settings.{Settings}
 use Rattle.rm_model.specs.Journal.{Journal}
 use Rattle.rm_model.specs.Cells.{Table}
 use Rattle.rm_model.specs.ControlRows.{no_rows, is_absent, state_of, value_of, index_value, entry_status}
-use Rattle.rm_model.specs.Alarms.{alarm_entry, alarm_table, alarm_value}
+use Rattle.rm_acts.specs.Alarms.{alarm_entry, alarm_table, alarm_value}
 use Rattle.rm_status.specs.Rows.{row_number}
 
 -- the numbers of the columns

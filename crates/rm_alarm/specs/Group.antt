@@ -11,11 +11,12 @@ use Rattle.rm_model.specs.Journal.{Journal, value_given}
 use Rattle.rm_model.specs.Cells.{cells_of}
 use Rattle.rm_model.specs.Finite.{AreFinite}
 use Rattle.rm_model.proofs.Finite.{table_finite}
-use Rattle.rm_model.proofs.Rows.{indexes_of, row_listed}
+use Rattle.rm_model.specs.Indexes.{indexes_of}
+use Rattle.rm_model.proofs.Rows.{row_listed}
 use Rattle.rm_model.specs.ControlTable.{default_of}
 use Rattle.rm_model.specs.ControlRows.{Beginning, cell_name, no_rows}
 use Rattle.rm_model.specs.Judgement.{Bindings, name_at, value_at, place_of, alone_fault, second_pass, IsFirstFault}
-use Rattle.rm_model.specs.Alarms.{alarm_entry, alarm_table, name_of}
+use Rattle.rm_acts.specs.Alarms.{alarm_entry, alarm_table, name_of}
 use Rattle.rm_model.specs.Readings.{Readings}
 use Rattle.rm_model.specs.declared.place.Place.{Place}
 use Rattle.rm_model.specs.declared.place.Place.TheVariants.{Cell}

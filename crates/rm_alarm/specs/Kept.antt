@@ -1,8 +1,8 @@
 -- What is kept of the samples of an alarm.
 use Rattle.std.specs.Prelude.{◌≡◌, ℕ, ◌+◌, ◌*◌, ℤ, List, [], ◌∷◌, Bool, false, if◌then◌else◌, Option, Some, None}
 use Rattle.rm_model.specs.declared.reading.Reading.{Reading}
-use Rattle.rm_model.specs.Alarms.{difference, is_counted, base_number}
-use Rattle.rm_model.specs.Crossings.{Bounds, is_in_force, rising_of, falling_of}
+use Rattle.rm_acts.specs.Alarms.{difference, is_counted, base_number}
+use Rattle.rm_acts.specs.Crossings.{Bounds, is_in_force, rising_of, falling_of}
 use Rattle.rm_alarm.specs.declared.course.Course.{Course}
 use Rattle.rm_alarm.specs.declared.hysteresis.Hysteresis.{Hysteresis}
 use Rattle.rm_alarm.specs.declared.thresholds.Thresholds.{Thresholds}

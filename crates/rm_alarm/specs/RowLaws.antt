@@ -7,7 +7,7 @@ use Rattle.rm_val.specs.declared.error.ErrorStatus.TheVariants.{WrongValue}
 use Rattle.rm_model.specs.ControlTable.{Range, number, any_name}
 use Rattle.rm_model.specs.Alike.{HasSameColumns}
 use Rattle.rm_model.specs.Judgement.{column_kind, value_fault, unless}
-use Rattle.rm_model.specs.Alarms.{number_of, name_of, any_number, up_from, alarm_table, interval_column, variable_column, sample_type_column, startup_column, rising_column, falling_column, rising_event_column, falling_event_column, owner_column}
+use Rattle.rm_acts.specs.Alarms.{number_of, name_of, any_number, up_from, alarm_table, interval_column, variable_column, sample_type_column, startup_column, rising_column, falling_column, rising_event_column, falling_event_column, owner_column}
 use Rattle.rm_status.proofs.ColumnLaws.{no_columns, one_more, set_of, text_taken}
 use Rattle.rm_alarm.specs.declared.row.AlarmRow.{AlarmRow}
 use Rattle.rm_alarm.specs.SampleType.{type_number, type_in}

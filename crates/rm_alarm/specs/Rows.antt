@@ -3,7 +3,7 @@ use Rattle.std.specs.Prelude.{ℕ, ℤ, pos, List, [], ◌∷◌, Bool, nat_eq, 
 use Rattle.std.specs.Option.{option_map, option_or}
 use Rattle.arrayvec.specs.ArrayVec.{ArrayVec}
 use Rattle.rm_val.specs.Val.{Val, int, octets, name}
-use Rattle.rm_model.specs.Alarms.{number_of, name_of, alarm_entry}
+use Rattle.rm_acts.specs.Alarms.{number_of, name_of, alarm_entry}
 use Rattle.rm_status.specs.Values.{octets_in}
 use Rattle.rm_model.specs.Journal.{value_given}
 use Rattle.rm_model.specs.ControlRows.{cell_name}

@@ -4,7 +4,7 @@ use Rattle.rm_val.specs.Val.{Val, int, null}
 use Rattle.rm_model.specs.Cells.{Table}
 use Rattle.rm_model.specs.ControlTable.{default_of}
 use Rattle.rm_model.specs.ControlRows.{entry_status}
-use Rattle.rm_model.specs.Alarms.{alarm_entry, alarm_table, saturated}
+use Rattle.rm_acts.specs.Alarms.{alarm_entry, alarm_table, saturated}
 use Rattle.rm_model.specs.declared.row.State.{State}
 use Rattle.rm_status.specs.declared.row.Row.{Row}
 use Rattle.rm_status.specs.Rows.{row_in}

@@ -4,7 +4,7 @@ use Rattle.rm_model.specs.Settings.{Settings}
 use Rattle.rm_model.specs.Journal.{Journal}
 use Rattle.rm_model.specs.ControlRows.{no_rows}
 use Rattle.rm_model.specs.Judgement.{Bindings}
-use Rattle.rm_model.specs.Alarms.{alarm_table, readings_of, base_of, newest_or, is_counted, base_number, sample_values, due_of}
+use Rattle.rm_acts.specs.Alarms.{alarm_table, readings_of, base_of, newest_or, is_counted, base_number, sample_values, due_of}
 use Rattle.rm_model.specs.declared.row.State.{State}
 use Rattle.rm_model.specs.declared.row.State.TheVariants.{Absent, UnderCreation, Valid}
 use Rattle.rm_status.specs.declared.row.Row.{Row}

@@ -2,7 +2,7 @@
 use Rattle.std.specs.Prelude.{ℤ, pos, if◌then◌else◌}
 use Rattle.std.specs.Ordering.{int_eq}
 use Rattle.rm_val.specs.Val.{Val}
-use Rattle.rm_model.specs.Alarms.{number_of}
+use Rattle.rm_acts.specs.Alarms.{number_of}
 use Rattle.rm_alarm.specs.declared.startup_alarm.StartupAlarm.{StartupAlarm}
 use Rattle.rm_alarm.specs.declared.startup_alarm.StartupAlarm.TheVariants.{Rising, Falling, RisingOrFalling}
 

@@ -1,7 +1,7 @@
 -- What a sample makes of a row.
 use Rattle.std.specs.Prelude.{◌≡◌, ℕ, ◌+◌, ◌*◌, ℤ, List, ◌∷◌, false, nat_eq, Some}
-use Rattle.rm_model.specs.Crossings.{crossing}
-use Rattle.rm_model.specs.declared.sampled.Sampled.{Sampled}
+use Rattle.rm_acts.specs.Crossings.{crossing}
+use Rattle.rm_acts.specs.declared.sampled.Sampled.{Sampled}
 use Rattle.rm_status.specs.declared.row.Row.{Row}
 use Rattle.rm_status.specs.Rows.{row_in}
 use Rattle.rm_alarm.specs.declared.course.Course.{Course}

@@ -3,25 +3,20 @@ use Rattle.std.specs.Prelude.{◌≡◌, ℕ, ◌≤◌, ℤ, List, Option}
 use Rattle.std.specs.Option.{option_map}
 use Rattle.rm_model.specs.Settings.{Settings}
 use Rattle.rm_model.specs.Journal.{Journal, last_moment}
-use Rattle.rm_model.specs.Cells.{Cells}
 use Rattle.rm_model.specs.Judgement.{Bindings}
-use Rattle.rm_model.specs.Alarms.{variable_of}
-use Rattle.rm_status.specs.Readable.{reading_of}
+use Rattle.rm_acts.specs.Alarms.{variable_of}
+use Rattle.rm_acts.specs.Recurring.{Sampleable, read}
 use Rattle.rm_alarm.specs.declared.alarms.Alarms.{Alarms}
 use Rattle.rm_alarm.specs.Standing.{Stands, AreBased, AreRead}
 use Rattle.rm_alarm.specs.Group.{AreFine}
 
--- the cells of a group, after a journal and at a moment in milliseconds, by what the probe was set to
-abbrev pub GroupCells : Type 0
-GroupCells = Settings → Journal → ℕ → Cells
-
 -- what alarms may sample are the cells of a group
-abbrev pub ReadsFrom : GroupCells → Settings → Type 0
-ReadsFrom cells settings = (journal : Journal) (now : ℕ) (name : List ℕ) → settings.readings journal now name ≡ reading_of (cells settings journal now name)
+abbrev pub ReadsFrom : Sampleable → Settings → Type 0
+ReadsFrom cells settings = (journal : Journal) (now : ℕ) (name : List ℕ) → settings.readings journal now name ≡ read (cells settings journal now) name
 
 -- The group and the alarms stand for a journal: alarms may sample the group's cells, each of the two stands for it, and the
 -- alarms have read what it gives.
-pub record AreWatched (cells : GroupCells) (stands : Type 0) (alarms : Alarms) (settings : Settings) (journal : Journal) : Type 0 where
+pub record AreWatched (cells : Sampleable) (stands : Type 0) (alarms : Alarms) (settings : Settings) (journal : Journal) : Type 0 where
   pub readings : ReadsFrom cells settings
   pub watched : stands
   pub stand : Stands alarms settings journal
@@ -29,7 +24,7 @@ pub record AreWatched (cells : GroupCells) (stands : Type 0) (alarms : Alarms) (
 
 -- Both are ready for a Set at a moment: with the alarms nothing is wrong, and they remember what their variables read after
 -- each journal that the group stands for.
-pub record ArePrepared (cells : GroupCells) (stands : Settings → Journal → Type 0) (prepared : Type 0) (alarms : Alarms) (now : ℕ) (bindings : Bindings) : Type 0 where
+pub record ArePrepared (cells : Sampleable) (stands : Settings → Journal → Type 0) (prepared : Type 0) (alarms : Alarms) (now : ℕ) (bindings : Bindings) : Type 0 where
   pub watched : prepared
   pub fine : AreFine alarms bindings
   pub read : (settings : Settings) (journal : Journal) → ReadsFrom cells settings → stands settings journal → last_moment journal ≤ now → AreRead alarms settings journal now bindings

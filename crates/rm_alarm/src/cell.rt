@@ -3,7 +3,7 @@ ghost use Rattle.std.specs.Prelude.{◌≡◌, ◌≤◌, [], ◌∷◌, Some, I
 ghost use Rattle.std.specs.Option.{option_map};
 ghost use Rattle.rm_val.specs.Val.{val_of};
 ghost use Rattle.rm_val.specs.Spellable.{IsSpellable, HasSpelling};
-ghost use Rattle.rm_model.specs.Alarms.{alarm_entry, saturated};
+ghost use Rattle.rm_acts.specs.Alarms.{alarm_entry, saturated};
 ghost use Rattle.rm_model.specs.Cells.{cells_of, cell_at};
 ghost use Rattle.rm_model.specs.ControlRows.{entry_status, cell_name};
 ghost use Rattle.rm_alarm.specs.Rows.{variable_kept};

@@ -25,7 +25,7 @@ impl Default for AlarmRow {
 }
 
 impl Columns for AlarmRow {
-    ghost use Rattle.rm_model.specs.Alarms.{alarm_table};
+    ghost use Rattle.rm_acts.specs.Alarms.{alarm_table};
     ghost use Rattle.rm_alarm.specs.Rows.{set_to, with_column, blank_row};
     ghost use Rattle.rm_alarm.specs.RowLaws.{blank_alike, set_with};
 

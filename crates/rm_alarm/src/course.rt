@@ -1,12 +1,13 @@
 // What a valid alarm keeps of its samples.
 ghost use Rattle.std.specs.Prelude.{◌≡◌, ◌+◌, ◌*◌, ℤ, List, ◌∷◌, Option};
-ghost use Rattle.rm_model.specs.Alarms.{difference};
-ghost use Rattle.rm_model.specs.Crossings.{crossing};
+ghost use Rattle.rm_acts.specs.Alarms.{difference};
+ghost use Rattle.rm_acts.specs.Crossings.{crossing};
 ghost use Rattle.rm_alarm.specs.Kept.{bounds_in, starting, value_read, Keeps};
 
 use crate::hysteresis::Hysteresis;
 use crate::thresholds::Thresholds;
-use rm_model::{Reading, Sampled};
+use rm_acts::Sampled;
+use rm_model::Reading;
 
 /// How many milliseconds a second has.
 const SECOND: u64 = 1000;

@@ -1,6 +1,6 @@
 // Which sample is due next.
 ghost use Rattle.std.specs.Prelude.{◌≡◌};
-ghost use Rattle.rm_model.specs.Alarms.{IsNextDue, due_of};
+ghost use Rattle.rm_acts.specs.Alarms.{IsNextDue, due_of};
 ghost use Rattle.rm_model.specs.Settings.{Settings};
 ghost use Rattle.rm_model.specs.Journal.{Journal};
 ghost use Rattle.rm_alarm.specs.Group.{due_in};

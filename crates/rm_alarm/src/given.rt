@@ -1,7 +1,7 @@
 // What a Set gives to a variable.
 ghost use Rattle.std.specs.Prelude.{◌≡◌};
 ghost use Rattle.std.specs.Option.{option_map};
-ghost use Rattle.rm_model.specs.Alarms.{name_of};
+ghost use Rattle.rm_acts.specs.Alarms.{name_of};
 ghost use Rattle.rm_model.specs.Journal.{value_given};
 
 use crate::values::name_of;

@@ -13,7 +13,7 @@ impl Group for Alarms {
     ghost use Rattle.rm_model.specs.Cells.{cells_of};
     ghost use Rattle.rm_model.specs.ControlRows.{no_rows};
     ghost use Rattle.rm_model.specs.Judgement.{rows_after};
-    ghost use Rattle.rm_model.specs.Alarms.{alarm_table};
+    ghost use Rattle.rm_acts.specs.Alarms.{alarm_table};
     ghost use Rattle.rm_alarm.specs.AlarmTable.{alarms_table};
     ghost use Rattle.rm_alarm.specs.Standing.{Stands};
     ghost use Rattle.rm_alarm.specs.Group.{alarm_alone, alarm_together, AreFine, HasForgotten, alarms_finite};
@@ -86,7 +86,7 @@ impl Group for Alarms {
 
 impl Objects for Alarms {
     ghost use Rattle.rm_model.specs.Cells.{is_of_column};
-    ghost use Rattle.rm_model.specs.Alarms.{alarm_entry};
+    ghost use Rattle.rm_acts.specs.Alarms.{alarm_entry};
     ghost use Rattle.rm_alarm.specs.AlarmTable.{alarm_columns};
 
     ghost objects = { is_of_column alarm_entry alarm_columns };

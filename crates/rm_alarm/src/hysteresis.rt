@@ -1,11 +1,11 @@
 // What the samples of an alarm have crossed.
 ghost use Rattle.std.specs.Prelude.{◌≡◌, ℤ, List, [], ◌∷◌};
-ghost use Rattle.rm_model.specs.Crossings.{comes_to, crossing, is_high, rising_of, falling_of};
+ghost use Rattle.rm_acts.specs.Crossings.{comes_to, crossing, is_high, rising_of, falling_of};
 ghost use Rattle.rm_alarm.specs.declared.thresholds.Thresholds.{Thresholds};
 ghost use Rattle.rm_alarm.specs.Kept.{bounds_in, nothing_crossed, Keeps};
 
 use crate::thresholds::Thresholds;
-use rm_model::Sampled;
+use rm_acts::Sampled;
 
 /// The last sample of an alarm, and which crossings are in force: since which no sample reached the other threshold.
 #[derive(Clone, Copy)]

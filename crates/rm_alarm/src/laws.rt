@@ -4,7 +4,7 @@ ghost use Rattle.rm_model.specs.Settings.{Settings};
 ghost use Rattle.rm_model.specs.Journal.{Journal, Frame, passes};
 ghost use Rattle.rm_alarm.specs.declared.alarms.Alarms.{Alarms};
 ghost use Rattle.rm_alarm.specs.Standing.{Stands, AreBased};
-ghost use Rattle.rm_model.specs.Crossings.{Threshold, Bounds, crosses, IsCrossing, rising_of, falling_of};
+ghost use Rattle.rm_acts.specs.Crossings.{Threshold, Bounds, crosses, IsCrossing, rising_of, falling_of};
 
 /// A law: a sample crosses a threshold exactly where it reaches the threshold; the one before it didn't, or it is the first
 /// one and may cross it; and between each earlier crossing of the threshold and it a sample reached the other threshold.

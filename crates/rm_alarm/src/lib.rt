@@ -30,7 +30,7 @@ pub use cell::column_name;
 pub use course::Course;
 pub use hysteresis::Hysteresis;
 pub use laws::{crossing_conditions, frames_pass, one_crossing};
-pub use rm_model::Sampled;
+pub use rm_acts::Sampled;
 pub use row::AlarmRow;
 pub use sample_type::SampleType;
 pub use startup_alarm::StartupAlarm;

@@ -3,7 +3,7 @@ ghost use Rattle.std.specs.Prelude.{◌≡◌, ℕ, ◌<◌, ◌≤◌, [], ◌�
 ghost use Rattle.std.specs.Option.{option_map};
 ghost use Rattle.rm_model.specs.Settings.{Settings};
 ghost use Rattle.rm_model.specs.Journal.{Journal, samples};
-ghost use Rattle.rm_model.specs.Alarms.{variable_of, sampled};
+ghost use Rattle.rm_acts.specs.Alarms.{variable_of, sampled};
 ghost use Rattle.rm_status.specs.declared.row.Row.{Row};
 ghost use Rattle.rm_status.specs.Rows.{row_in};
 ghost use Rattle.rm_alarm.specs.declared.row.AlarmRow.{AlarmRow as Columns};
@@ -15,7 +15,8 @@ ghost use Rattle.rm_alarm.specs.Taking.{HasTaken};
 
 use crate::alarms::Alarms;
 use crate::row::AlarmRow;
-use rm_model::{Reading, Sampled};
+use rm_acts::Sampled;
+use rm_model::Reading;
 use rm_status::{Controls, Look, StatusKind};
 
 impl Alarms {

@@ -6,7 +6,7 @@ ghost use Rattle.rm_alarm.specs.Taking.{Took};
 
 use crate::row::AlarmRow;
 use crate::sample_type::SampleType;
-use rm_model::Sampled;
+use rm_acts::Sampled;
 use rm_val::Oid;
 
 impl AlarmRow {

@@ -1,6 +1,6 @@
 // The columns of an alarm by which samples cross.
 ghost use Rattle.std.specs.Prelude.{◌≡◌};
-ghost use Rattle.rm_model.specs.Crossings.{is_high, is_low, may_rise_first, may_fall_first};
+ghost use Rattle.rm_acts.specs.Crossings.{is_high, is_low, may_rise_first, may_fall_first};
 ghost use Rattle.rm_alarm.specs.Kept.{bounds_in};
 
 use crate::startup_alarm::StartupAlarm;

@@ -1,7 +1,7 @@
 // What a column of an alarm takes, and what it is then set to.
 ghost use Rattle.std.specs.Prelude.{◌≡◌, Some};
 ghost use Rattle.rm_val.specs.Val.{val_of};
-ghost use Rattle.rm_model.specs.Alarms.{number_of, name_of};
+ghost use Rattle.rm_acts.specs.Alarms.{number_of, name_of};
 ghost use Rattle.rm_model.specs.ControlTable.{any_name};
 ghost use Rattle.rm_model.specs.Judgement.{value_fault};
 

@@ -6,7 +6,7 @@ ghost use Rattle.rm_model.specs.Journal.{Journal, samples, last_moment};
 ghost use Rattle.rm_model.specs.Cells.{cells_of, is_of_column};
 ghost use Rattle.rm_model.specs.ControlRows.{no_rows};
 ghost use Rattle.rm_model.specs.Judgement.{rows_after};
-ghost use Rattle.rm_model.specs.Alarms.{alarm_entry, alarm_table, sampled, due_of, IsNextDue};
+ghost use Rattle.rm_acts.specs.Alarms.{alarm_entry, alarm_table, sampled, due_of, IsNextDue};
 ghost use Rattle.rm_model.proofs.Finite.{both_finite};
 ghost use Rattle.rm_alarm.specs.AlarmTable.{alarm_columns, alarms_table};
 ghost use Rattle.rm_alarm.specs.Group.{alarm_alone, alarm_together, AreFine, HasForgotten, alarms_finite, due_in};
@@ -14,7 +14,7 @@ ghost use Rattle.rm_alarm.specs.Left.{samples_left};
 ghost use Rattle.rm_alarm.specs.Watched.{AreWatched, ArePrepared, number_read};
 
 use crate::alarms::Alarms;
-use rm_model::Sampled;
+use rm_acts::Sampled;
 use rm_status::{
     Assigns, Denied, Group, Look, Objects, Readable, Sight, Unsampled, Verdict, choose_nearer,
     lower_verdict,

@@ -71,7 +71,8 @@ impl Group for Ether {
     ghost use Rattle.rm_model.specs.Cells.{cells_of};
     ghost use Rattle.rm_model.specs.Judgement.{second_pass, rows_after};
     ghost use Rattle.rm_model.proofs.Finite.{table_finite};
-    ghost use Rattle.rm_model.proofs.Rows.{indexes_of, row_listed, one_row_begins};
+    ghost use Rattle.rm_model.specs.Indexes.{indexes_of};
+    ghost use Rattle.rm_model.proofs.Rows.{row_listed, one_row_begins};
     ghost use Rattle.rm_ether.specs.EtherStats.{ether_table, ether_stats, ether_beginning};
     ghost use Rattle.rm_ether.specs.Group.{Stands, frames_given, last_given, ether_alone, AreFine};
 

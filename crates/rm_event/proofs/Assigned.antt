@@ -22,7 +22,7 @@ use Rattle.rm_event.specs.EventType.{type_in}
 use Rattle.rm_event.specs.EventTable.{event_sheet, all_together, event_table, event_state, type_of}
 use Rattle.rm_event.specs.EventRows.{EventRow, typed, set_to, with_column, blank_row}
 use Rattle.rm_status.specs.Sheeted.{set_with, blank_alike}
-use Rattle.rm_event.specs.Firings.{firings}
+use Rattle.rm_acts.specs.Fired.{firings}
 use Rattle.rm_event.specs.Log.{IsLog}
 use Rattle.rm_event.specs.Logs.{log_in, HasNew, valid_in}
 use Rattle.rm_event.specs.Held.{AreOfValid}

@@ -20,7 +20,8 @@ use Rattle.rm_event.specs.declared.log.Log.{Log}
 use Rattle.rm_event.specs.EventType.{numbered, number_of, type_in, fired_as}
 use Rattle.rm_event.specs.EventTable.{event_table, event_state, event_set, type_of}
 use Rattle.rm_event.specs.EventRows.{EventRow, set_to, description_in_row, type_in_row, community_in_row}
-use Rattle.rm_event.specs.Firings.{firings, firings_with, moments_in, is_set}
+use Rattle.rm_acts.specs.Fired.{firings, firings_with, moments_in}
+use Rattle.rm_event.specs.Firings.{is_set}
 use Rattle.rm_event.specs.Log.{IsLog, HasFired}
 use Rattle.rm_event.specs.Logs.{log_in}
 use Rattle.rm_event.specs.Standing.{IsLogOf, AreLogs, fired_of, community_of}

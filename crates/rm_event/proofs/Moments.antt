@@ -9,7 +9,8 @@ use Rattle.rm_status.specs.declared.row.Row.{Row}
 use Rattle.rm_acts.specs.declared.firing.Firing.{Firing}
 use Rattle.rm_event.specs.EventTable.{event_table, event_state, event_set, type_of}
 use Rattle.rm_event.specs.EventRows.{EventRow, set_to}
-use Rattle.rm_event.specs.Firings.{moments_in, firings, firings_with, fired, is_set}
+use Rattle.rm_acts.specs.Fired.{act_fires, fired, moments_in, firings, firings_with}
+use Rattle.rm_event.specs.Firings.{is_set}
 
 -- one event more that fires
 pub moments_more : (moment event : ℕ) (some : List Firing) (index : Firing) → moments_in moment event (some ++ index ∷ []) ≡ cond (nat_eq index.event event) (moment ∷ moments_in moment event some) (moments_in moment event some)
@@ -63,7 +64,7 @@ stays_as act earlier index unset = ap (λ s. is_valid (event_state earlier index
 pub idle_firings : (settings : Settings) (journal : Journal) (event : ℕ) → is_valid (event_state journal (event ∷ [])) ≡ false → firings settings journal event ≡ []
 idle_firings settings [] event idle = refl
 idle_firings settings (act ∷ earlier) event idle =
-    ap (λ b. cond b (moments_in (moment_of act) event (fired settings act earlier) ++ firings settings earlier event) [])
+    ap (λ b. cond b (moments_in (moment_of act) event (act_fires settings act earlier (fired settings earlier)) ++ firings settings earlier event) [])
     (ap (λ b. is_valid (event_state earlier (event ∷ [])) && b) idle ∙ and_false (is_valid (event_state earlier (event ∷ []))))
 
 -- the firings in an act that is no Set, of an event whose row is valid, and of any other one

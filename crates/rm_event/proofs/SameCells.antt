@@ -20,7 +20,8 @@ use Rattle.rm_event.specs.declared.log.Log.{Log}
 use Rattle.rm_event.specs.Columns.{event_columns, log_columns, log_column}
 use Rattle.rm_event.specs.EventTable.{event_entry, event_table, event_state, event_set, type_of}
 use Rattle.rm_event.specs.EventRows.{EventRow, set_to, description_in_row}
-use Rattle.rm_event.specs.Firings.{firings, last_sent, tick_of, most_shown}
+use Rattle.rm_acts.specs.Fired.{firings}
+use Rattle.rm_event.specs.Firings.{last_sent, tick_of, most_shown}
 use Rattle.rm_event.specs.Tables.{event_other, events_table, log_entry, log_of, is_shown, time_at, is_entry, log_value, log_table}
 use Rattle.rm_event.specs.Log.{IsLog, kept_time}
 use Rattle.rm_event.specs.Logs.{log_in}

@@ -15,7 +15,8 @@ use Rattle.rm_model.specs.declared.row.State.TheVariants.{Absent, UnderCreation,
 use Rattle.rm_status.specs.Rows.{row_number}
 use Rattle.rm_model.proofs.Finite.{both_finite, table_finite}
 use Rattle.rm_model.proofs.Members.{none_in, here, there, each, in_map}
-use Rattle.rm_model.proofs.Rows.{indexes_of, row_listed}
+use Rattle.rm_model.specs.Indexes.{indexes_of}
+use Rattle.rm_model.proofs.Rows.{row_listed}
 use Rattle.rm_event.specs.EventTable.{event_table, event_state}
 use Rattle.rm_event.specs.Tables.{events_table, log_of, is_shown, is_entry, log_table}
 

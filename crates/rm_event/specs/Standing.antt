@@ -16,7 +16,7 @@ use Rattle.rm_event.specs.declared.log.Log.{Log}
 use Rattle.rm_event.specs.EventType.{fired_as}
 use Rattle.rm_event.specs.EventTable.{event_table, event_state, event_set, type_of}
 use Rattle.rm_event.specs.EventRows.{set_to}
-use Rattle.rm_event.specs.Firings.{firings, firings_with}
+use Rattle.rm_acts.specs.Fired.{firings, firings_with}
 use Rattle.rm_event.specs.Log.{IsLog}
 use Rattle.rm_event.specs.Logs.{kept, log_in}
 

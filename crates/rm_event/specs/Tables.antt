@@ -12,7 +12,8 @@ use Rattle.rm_event.specs.declared.log_column.LogColumn.{LogColumn}
 use Rattle.rm_event.specs.declared.log_column.LogColumn.TheVariants as log
 use Rattle.rm_event.specs.Columns.{event_columns, log_columns, log_column}
 use Rattle.rm_event.specs.EventTable.{event_table, event_state, event_set, type_of}
-use Rattle.rm_event.specs.Firings.{firings, last_sent, logged, tick_of, most_shown}
+use Rattle.rm_acts.specs.Fired.{firings}
+use Rattle.rm_event.specs.Firings.{last_sent, logged, tick_of, most_shown}
 
 -- what the columns show that can't be set: 1 is eventIndex, 5 eventLastTimeSent
 abbrev pub event_other : Settings → Journal → ℕ → List ℕ → Val

@@ -14,7 +14,8 @@ use Rattle.rm_model.specs.declared.row.State.{State}
 use Rattle.rm_model.specs.declared.row.State.TheVariants.{Absent, UnderCreation, Valid}
 use Rattle.rm_model.proofs.Finite.{both_finite, table_finite}
 use Rattle.rm_model.proofs.Members.{none_in, here, there, each, in_map}
-use Rattle.rm_model.proofs.Rows.{indexes_of, row_listed}
+use Rattle.rm_model.specs.Indexes.{indexes_of}
+use Rattle.rm_model.proofs.Rows.{row_listed}
 use Rattle.rm_history.specs.Buckets.{complete_at, is_shown}
 use Rattle.rm_history.specs.HistoryControl.{history_control, control_state, control_table, plan_of}
 use Rattle.rm_history.specs.EtherHistory.{is_sample, sample_table}

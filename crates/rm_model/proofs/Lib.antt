@@ -7,7 +7,4 @@ pub mod Finite
 pub mod Rows
 pub mod Alike
 pub mod Accepted
-pub mod CrossingLaws
-mod CrossingExamples
-mod AlarmExamples
 mod IndexingExamples

@@ -9,6 +9,7 @@ use Rattle.rm_val.specs.Val.{Val}
 use Rattle.rm_model.specs.Journal.{Act, passes, assigns, samples, Journal, Assignment, Assignments, value_given}
 use Rattle.rm_model.specs.Cells.{instance_of}
 use Rattle.rm_model.specs.ControlTable.{ControlTable}
+use Rattle.rm_model.specs.Indexes.{index_named, indexes_named, indexes_of}
 use Rattle.rm_model.specs.ControlRows.{Beginning, cell_name, value_ask, act_ask, next_state, is_absent, state_of}
 use Rattle.rm_model.specs.declared.row.State.{State}
 use Rattle.rm_model.specs.declared.row.State.TheVariants.{Absent, UnderCreation, Valid}
@@ -16,21 +17,6 @@ use Rattle.rm_model.specs.declared.row.Ask.{Ask}
 use Rattle.rm_model.specs.declared.row.Ask.TheVariants.{Nothing, Create, CreateValid, Enable, Disable, Destroy}
 use Rattle.rm_model.proofs.Members.{here, there}
 use Rattle.rm_model.proofs.Tables.{behind_front}
-
--- the index of the row whose status has a name, if it is the name of one
-abbrev pub index_named : ControlTable → Assignment → Option (List ℕ)
-index_named table assignment = option_map (λ at. at.index) (instance_of table.entry (table.status ∷ []) assignment.name)
-
--- the indexes of the rows whose status a Set names
-abbrev pub indexes_named : ControlTable → Assignments → List (List ℕ)
-indexes_named table values = filter_map (index_named table) values
-
--- the indexes that rows can have after a journal: those of the beginning, and those whose status a Set named
-abbrev pub indexes_of : ControlTable → List (List ℕ) → Journal → List (List ℕ)
-indexes_of table first [] = first
-indexes_of table first (assigns moment values ∷ earlier) = indexes_named table values ++ indexes_of table first earlier
-indexes_of table first (passes frame ∷ earlier) = indexes_of table first earlier
-indexes_of table first (samples moment alarm reading ∷ earlier) = indexes_of table first earlier
 
 -- whether an ask can make a row
 abbrev makes : Ask → Bool

@@ -8,12 +8,11 @@ pub mod Finite
 pub mod Interfaces
 pub mod ControlTable
 pub mod ControlRows
+pub mod Indexes
 pub mod Judgement
 pub mod Alike
 pub mod Accepted
 pub mod Reserves
-pub mod Crossings
-pub mod Alarms
 pub mod Sheet
 pub mod ControlCells
 pub mod Indexing

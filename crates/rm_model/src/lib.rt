@@ -5,15 +5,13 @@
 //! `Names` and `Cells` what GetNext finds and the cells of a table, `Finite` that these are finitely many,
 //! `ControlTable` and `ControlRows` the rows of control tables after a journal, `Judgement` what is wrong with a Set,
 //! `Accepted` what one that is accepted gives, `Alike` when rows are alike to a Set, `Interfaces` the frames that a data
-//! source names, `Crossings` when the samples of an alarm cross its thresholds, `Alarms` what the alarms of a probe sample
-//! and when, `Settings` what the probe was set to. No code keeps a journal.
+//! source names, `Settings` what the probe was set to. No code keeps a journal.
 #![tactic(auto)]
 
 mod instance;
 mod place;
 mod reading;
 mod row;
-mod sampled;
 mod sheet;
 mod verdict;
 
@@ -21,6 +19,5 @@ pub use instance::Instance;
 pub use place::Place;
 pub use reading::Reading;
 pub use row::{Ask, State, StatusKind};
-pub use sampled::Sampled;
 pub use sheet::{ColumnKind, ColumnSheet, Settable, Setting, Span};
 pub use verdict::Verdict;

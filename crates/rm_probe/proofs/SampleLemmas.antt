@@ -2,7 +2,7 @@
 use Rattle.std.proofs.Common.{◌≡◌, ℕ, ◌≤◌, List, [], ◌∷◌, ◌++◌, length, map, take, Option, Some, None, refl, sym, ap, subst, ◌∙◌, append_assoc}
 use mathlib.Core.List.{map-append}
 use Rattle.rm_model.specs.Journal.{Journal}
-use Rattle.rm_model.specs.Alarms.{due_of, IsNextDue}
+use Rattle.rm_acts.specs.Alarms.{due_of, IsNextDue}
 use Rattle.rm_pdu.specs.Message.{Message, message_octets}
 use Rattle.rm_agent.specs.declared.settings.Settings.{Settings}
 use Rattle.rm_agent.specs.Orderly.{NoneIsDue}

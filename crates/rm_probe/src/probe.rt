@@ -1,7 +1,7 @@
 // The probe.
 ghost use Rattle.std.specs.Prelude.{◌≡◌, ℕ, ◌+◌, ◌≤◌, ◌<◌, max, List, [], ◌∷◌, length, Some, IfOk, IfSome, IfNone};
 ghost use Rattle.rm_model.specs.Journal.{Journal};
-ghost use Rattle.rm_model.specs.Alarms.{due_of, IsNextDue};
+ghost use Rattle.rm_acts.specs.Alarms.{due_of, IsNextDue};
 ghost use Rattle.rm_agent.specs.Agent.{due_of_agent, IsNextMoment, samples_left_of, sample_of};
 ghost use Rattle.rm_agent.specs.Answers.{IsShort};
 ghost use Rattle.rm_agent.specs.Orderly.{NoneIsDue};

@@ -12,7 +12,6 @@ pub mod Values
 pub mod Indexes
 pub mod RowsAfter
 pub mod Bare
-pub mod Readable
 pub mod Field
 pub mod Also
 pub mod FieldLaws

@@ -7,7 +7,7 @@ ghost use Rattle.rm_model.specs.Journal.{Journal, last_moment};
 ghost use Rattle.rm_model.specs.Cells.{Cells, cells_of};
 ghost use Rattle.rm_acts.specs.Recurring.{ReadBefore};
 ghost use Rattle.rm_acts.proofs.ShownLaws.{both_before};
-ghost use Rattle.rm_status.specs.Readable.{reading_of};
+ghost use Rattle.rm_acts.specs.Recurring.{reading_of};
 ghost use Rattle.rm_status.specs.System.{system_table};
 
 use crate::both::Both;

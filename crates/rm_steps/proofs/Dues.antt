@@ -1,6 +1,6 @@
 -- The first of what falls due.
 use Rattle.std.proofs.Common.{◌≡◌, ◌⊎◌, inl, inr, ℕ, ◌<◌, ◌≤◌, Option, Some, None, refl, sym, ap, ◌∙◌, subst, arith}
-use Rattle.rm_model.specs.Alarms.{IsNextDue}
+use Rattle.rm_acts.specs.Alarms.{IsNextDue}
 use Rattle.rm_steps.specs.declared.due.Due.{Due}
 use Rattle.rm_steps.specs.Due.{ComesFirst, IsFirst, IsSooner}
 

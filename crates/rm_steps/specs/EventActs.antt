@@ -4,7 +4,8 @@ use Rattle.rm_model.specs.Settings.{Settings}
 use Rattle.rm_model.specs.Journal.{Act, Journal}
 use Rattle.rm_event.specs.declared.events.Events.{Events}
 use Rattle.rm_event.specs.EventTable.{event_state, type_of}
-use Rattle.rm_event.specs.Firings.{firings, fired, is_set}
+use Rattle.rm_acts.specs.Fired.{act_fires, fired, firings}
+use Rattle.rm_event.specs.Firings.{is_set}
 use Rattle.rm_event.specs.Logs.{kept, log_in}
 use Rattle.rm_event.specs.Standing.{Stands, IsUnderWay, IsLogOf}
 use Rattle.rm_event.proofs.Moments.{nothing_with, same_state, same_type, same_rows_after}
@@ -17,7 +18,7 @@ module _ (events : Events) (settings : Settings) (act : Act) (earlier : Journal)
         subst (λ l. IsLogOf (event_state earlier (event ∷ [])) (type_of earlier event) l (log_in (kept events.logs) event)) (sym (nothing_with settings act earlier event unset)) (stands.logs event row);
   }
 
-  pub ended : IsUnderWay events settings act earlier (fired settings act earlier) → Stands events settings (act ∷ earlier)
+  pub ended : IsUnderWay events settings act earlier (act_fires settings act earlier (fired settings earlier)) → Stands events settings (act ∷ earlier)
   ended under = record {
     rows = same_rows_after events.rows act earlier unset under.rows;
     logs = λ event row.

@@ -3,7 +3,7 @@ use Rattle.std.specs.Prelude.{pos, ℤ, FitsSigned}
 use Rattle.std.specs.Int.{w32}
 use Rattle.std.proofs.lemmas.Int.{to_z_pos, to_z-of_z}
 use Rattle.rm_val.specs.Val.{int, name, ticks}
-use Rattle.rm_model.specs.Alarms.{alarm_entry}
+use Rattle.rm_acts.specs.Alarms.{alarm_entry}
 use Rattle.rm_model.specs.ControlRows.{cell_name}
 use Rattle.rm_pdu.specs.Message.{Binding, Message, message_octets}
 use Rattle.rm_pdu.specs.Draft.{drafted, empty_message, binding_of}

@@ -1,7 +1,7 @@
 use Rattle.std.proofs.Common.{ap, sym, ◌∙◌}
 use Rattle.std.specs.Prelude.{is_some}
 use Rattle.rm_val.specs.Val.{Val}
-use Rattle.rm_model.specs.declared.sampled.Sampled.{Sampled}
+use Rattle.rm_acts.specs.declared.sampled.Sampled.{Sampled}
 use Rattle.rm_status.specs.Values.{natural_in}
 use Rattle.rm_event.specs.Firings.{event_named, crossing_event}
 use Rattle.rm_agent.specs.Notices.{trap_of}

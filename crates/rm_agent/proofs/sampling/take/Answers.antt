@@ -2,7 +2,7 @@ use Rattle.std.proofs.Common.{◌≡◌, ◌∷◌, refl, sym, ap, ◌∙◌, ar
 use Rattle.std.specs.Prelude.{is_some}
 use Rattle.rm_model.specs.Journal.{samples}
 use Rattle.rm_alarm.specs.Watched.{number_read}
-use Rattle.rm_model.specs.declared.sampled.Sampled.{Sampled}
+use Rattle.rm_acts.specs.declared.sampled.Sampled.{Sampled}
 use Rattle.rm_event.specs.Firings.{crossing_event}
 use Rattle.rm_agent.specs.Notices.{trap_of}
 use Rattle.rm_agent.specs.Told.{events_in}

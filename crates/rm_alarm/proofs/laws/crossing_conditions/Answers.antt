@@ -1,4 +1,4 @@
-use Rattle.rm_model.proofs.CrossingLaws.{crosses_where}
+use Rattle.rm_acts.proofs.CrossingLaws.{crosses_where}
 use Rattle.rm_alarm.proofs.laws.crossing_conditions.Goals as goal
 
 pub returns : goal.returns

@@ -1,5 +1,5 @@
 use Rattle.rm_model.specs.ControlRows.{no_rows}
-use Rattle.rm_model.specs.Alarms.{alarm_table}
+use Rattle.rm_acts.specs.Alarms.{alarm_table}
 use Rattle.rm_status.proofs.RowsAfterLemmas.{rows_passes}
 use Rattle.rm_alarm.specs.Rows.{set_to}
 use Rattle.rm_alarm.proofs.Samples.{kept_passes, based_passes}

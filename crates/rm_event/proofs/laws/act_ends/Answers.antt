@@ -1,6 +1,6 @@
 use Rattle.std.proofs.Common.{sym, subst, [], ◌∷◌}
 use Rattle.rm_event.specs.EventTable.{event_state, type_of}
-use Rattle.rm_event.specs.Firings.{firings}
+use Rattle.rm_acts.specs.Fired.{firings}
 use Rattle.rm_event.specs.Logs.{kept, log_in}
 use Rattle.rm_event.specs.Standing.{IsLogOf}
 use Rattle.rm_event.proofs.Moments.{same_state, same_type, same_rows_after}

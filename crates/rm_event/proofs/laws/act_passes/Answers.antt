@@ -1,7 +1,7 @@
 use Rattle.std.proofs.Common.{sym, subst, [], ◌∷◌, ◌∙◌, ap, ◌≡◌, List, ℕ}
 use Rattle.rm_acts.specs.declared.firing.Firing.{Firing}
 use Rattle.rm_event.specs.EventTable.{event_state, type_of}
-use Rattle.rm_event.specs.Firings.{firings, firings_with}
+use Rattle.rm_acts.specs.Fired.{firings, firings_with}
 use Rattle.rm_event.specs.Logs.{kept, log_in}
 use Rattle.rm_event.specs.Standing.{IsLogOf}
 use Rattle.rm_event.proofs.Moments.{same_state, same_type, same_rows_after, nothing_with}

@@ -1,5 +1,5 @@
 use Rattle.std.proofs.Common.{ℕ, Option, subst}
-use Rattle.rm_model.specs.Alarms.{due_of, IsNextDue}
+use Rattle.rm_acts.specs.Alarms.{due_of, IsNextDue}
 use Rattle.rm_agent.specs.Known.{counting_by}
 use Rattle.rm_agent.specs.Agent.{due_of_agent}
 use Rattle.rm_agent.proofs.CountLemmas.{next_is}

@@ -1,6 +1,6 @@
 use Rattle.std.proofs.Common.{refl, rules}
 use Rattle.rm_model.specs.ControlRows.{no_rows}
-use Rattle.rm_model.specs.Alarms.{alarm_table}
+use Rattle.rm_acts.specs.Alarms.{alarm_table}
 use Rattle.rm_status.proofs.RowsAfterLemmas.{rows_changed}
 use Rattle.rm_alarm.specs.Rows.{set_to, without_base}
 use Rattle.rm_alarm.proofs.Changes.{kept_changed, based_changed}

@@ -1,7 +1,7 @@
 use Rattle.std.proofs.Common.{arith}
 use Rattle.rm_alarm.specs.Due.{due_at}
 use Rattle.rm_alarm.proofs.NextDue.{begins, goes_on, ends, above_fits, due_is, next_by}
-use Rattle.rm_model.specs.Alarms.{due_of}
+use Rattle.rm_acts.specs.Alarms.{due_of}
 use Rattle.rm_alarm.proofs.alarms.Alarms.next_due.Goals as goal
 
 pub loop-index-init : goal.loop-index-init

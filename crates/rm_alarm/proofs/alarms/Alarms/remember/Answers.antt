@@ -1,7 +1,7 @@
 use Rattle.std.proofs.Common.{◌≡◌, ℕ, length, refl, sym, ap, subst, ◌∙◌, rules}
 use Rattle.rm_model.specs.ControlRows.{no_rows, Beginning}
 use Rattle.rm_model.specs.Judgement.{IsFirstFault, second_pass}
-use Rattle.rm_model.specs.Alarms.{alarm_table}
+use Rattle.rm_acts.specs.Alarms.{alarm_table}
 use Rattle.rm_model.specs.declared.row.State.{State}
 use Rattle.rm_model.specs.declared.verdict.Verdict.TheVariants.{Fine}
 use Rattle.rm_status.specs.declared.row.Row.{Row}

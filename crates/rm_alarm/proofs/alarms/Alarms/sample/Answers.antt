@@ -6,7 +6,7 @@ use mir.Val.{SFits}
 use Rattle.rm_model.specs.Journal.{Journal, samples}
 use Rattle.rm_model.specs.ControlRows.{no_rows}
 use Rattle.rm_model.specs.Readings.{Readings}
-use Rattle.rm_model.specs.Alarms.{alarm_table, variable_of, sampled}
+use Rattle.rm_acts.specs.Alarms.{alarm_table, variable_of, sampled}
 use Rattle.rm_model.specs.declared.reading.Reading.{Reading}
 use Rattle.rm_status.specs.declared.row.Row.{Row}
 use Rattle.rm_status.specs.Rows.{row_in, AreControlRows}

@@ -3,7 +3,7 @@ use Rattle.std.specs.Option.{option_or}
 use Rattle.rm_val.specs.declared.error.ErrorStatus.{ErrorStatus}
 use Rattle.rm_model.specs.ControlRows.{no_rows}
 use Rattle.rm_model.specs.Judgement.{IsFirstFault, rows_after, second_pass}
-use Rattle.rm_model.specs.Alarms.{alarm_table}
+use Rattle.rm_acts.specs.Alarms.{alarm_table}
 use Rattle.rm_model.proofs.Alike.{second_pass_alike}
 use Rattle.rm_status.specs.Rows.{rows_before}
 use Rattle.rm_alarm.specs.Group.{variable_fault, alarm_together}

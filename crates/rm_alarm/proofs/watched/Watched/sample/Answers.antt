@@ -2,7 +2,7 @@ use Rattle.std.proofs.Common.{◌≡◌, ◌∷◌, Option, ap, subst}
 use Rattle.std.specs.Prelude.{ℤ}
 use Rattle.std.specs.Option.{option_map}
 use Rattle.rm_model.specs.Journal.{samples}
-use Rattle.rm_model.specs.Alarms.{variable_of, sampled}
+use Rattle.rm_acts.specs.Alarms.{variable_of, sampled}
 use Rattle.rm_alarm.specs.Standing.{Stands, AreBased}
 use Rattle.rm_alarm.proofs.Watching.{reads}
 use Rattle.rm_alarm.proofs.watched.Watched.sample.Goals as goal

@@ -1,8 +1,8 @@
 -- What samples come to, worked out by hand from RFC 1757, section 5. The values stand newest first.
 use Rattle.std.proofs.Common.{◌≡◌, ℕ, [], ◌∷◌, refl}
 use Rattle.std.specs.Prelude.{pos, negsuc}
-use Rattle.rm_model.specs.Crossings.{Bounds, crossing}
-use Rattle.rm_model.specs.declared.sampled.Sampled.TheVariants.{Quiet, Rising, Falling}
+use Rattle.rm_acts.specs.Crossings.{Bounds, crossing}
+use Rattle.rm_acts.specs.declared.sampled.Sampled.TheVariants.{Quiet, Rising, Falling}
 
 -- rising threshold 10, falling threshold 5
 abbrev startup : ℕ → Bounds

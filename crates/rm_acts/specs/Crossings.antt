@@ -3,8 +3,8 @@
 use Rattle.std.specs.Prelude.{◌≡◌, ℤ, pos, int_le, List, [], ◌∷◌, ◌++◌, Bool, true, false, ◌&&◌, ◌||◌, not, if◌then◌else◌}
 use Rattle.std.specs.List.{list_any}
 use Rattle.std.specs.Ordering.{int_eq}
-use Rattle.rm_model.specs.declared.sampled.Sampled.{Sampled}
-use Rattle.rm_model.specs.declared.sampled.Sampled.TheVariants.{Quiet, Rising, Falling}
+use Rattle.rm_acts.specs.declared.sampled.Sampled.{Sampled}
+use Rattle.rm_acts.specs.declared.sampled.Sampled.TheVariants.{Quiet, Rising, Falling}
 
 -- One of the two thresholds of an alarm: which values reach it, which reach the other one, and whether a first sample of a
 -- value may cross it.

@@ -6,9 +6,9 @@ use Rattle.rm_val.specs.Val.{Val, int, name}
 use Rattle.rm_model.specs.Settings.{Settings}
 use Rattle.rm_model.specs.Journal.{Act, Assignment, assigns, samples, Journal}
 use Rattle.rm_model.specs.ControlRows.{cell_name}
-use Rattle.rm_model.specs.Alarms.{alarm_entry, alarm_state, base_of, difference, sample_values, alarm_value, saturated, sampled, due_of}
+use Rattle.rm_acts.specs.Alarms.{alarm_entry, alarm_state, base_of, difference, sample_values, alarm_value, saturated, sampled, due_of}
 use Rattle.rm_model.specs.declared.row.State.TheVariants.{Absent, UnderCreation}
-use Rattle.rm_model.specs.declared.sampled.Sampled.TheVariants.{Quiet, Gone, Rising, Falling}
+use Rattle.rm_acts.specs.declared.sampled.Sampled.TheVariants.{Quiet, Gone, Rising, Falling}
 
 -- etherStatsPkts.1
 abbrev pkts : List ℕ

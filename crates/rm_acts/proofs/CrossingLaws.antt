@@ -3,7 +3,7 @@ use Rattle.std.proofs.Common.{◌≡◌, ◌⊎◌, inl, inr, List, [], ◌∷�
 use Rattle.std.proofs.lemmas.Int.{ints}
 use Rattle.std.specs.Prelude.{ℤ, int_le, ◌↔◌}
 use Rattle.std.specs.List.{list_any}
-use Rattle.rm_model.specs.Crossings.{Threshold, AreUndone, IsCrossing, Bounds, comes_to, is_in_force, crosses, is_high, is_low, may_rise_first, may_fall_first, rising_of, falling_of}
+use Rattle.rm_acts.specs.Crossings.{Threshold, AreUndone, IsCrossing, Bounds, comes_to, is_in_force, crosses, is_high, is_low, may_rise_first, may_fall_first, rising_of, falling_of}
 
 no_end : (newer older : List ℤ) (value : ℤ) → [] ≡ newer ++ value ∷ older → ⊥
 no_end [] older value is = cc

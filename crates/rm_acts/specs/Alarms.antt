@@ -4,25 +4,17 @@ use Rattle.std.specs.Prelude.{◌≡◌, ◌⊎◌, ℕ, ◌+◌, ◌*◌, ◌<�
 use Rattle.std.specs.Int.{int_rem_euclid, int_min, int_max}
 use Rattle.std.specs.Ordering.{int_eq}
 use Rattle.rm_val.specs.Val.{Val, int, octets, name}
+pub use Rattle.rm_val.specs.Contents.{number_of, name_of}
 use Rattle.rm_model.specs.Settings.{Settings}
 use Rattle.rm_model.specs.Journal.{Journal, passes, assigns, samples, moment_of}
 use Rattle.rm_model.specs.ControlTable.{Range, Column, ControlTable, number, any_name, text}
 use Rattle.rm_model.specs.ControlRows.{no_rows, is_valid, state_of, value_of, stays_valid, since, activated}
-use Rattle.rm_model.specs.Crossings.{Bounds, crossing}
+use Rattle.rm_acts.specs.Crossings.{Bounds, crossing}
 use Rattle.rm_model.specs.declared.row.StatusKind.TheVariants.{EntryStatus}
 use Rattle.rm_model.specs.declared.row.State.{State}
 use Rattle.rm_model.specs.declared.reading.Reading.{Reading}
-use Rattle.rm_model.specs.declared.sampled.Sampled.{Sampled}
-use Rattle.rm_model.specs.declared.sampled.Sampled.TheVariants.{Gone}
-
--- the number that a value is, and the name that it is
-abbrev pub number_of : Val → ℤ
-number_of (int n) = n
-number_of value = pos 0
-
-abbrev pub name_of : Val → List ℕ
-name_of (name numbers) = numbers
-name_of value = []
+use Rattle.rm_acts.specs.declared.sampled.Sampled.{Sampled}
+use Rattle.rm_acts.specs.declared.sampled.Sampled.TheVariants.{Gone}
 
 -- the identifier of alarmEntry
 abbrev pub alarm_entry : List ℕ
