@@ -9,3 +9,4 @@ mod Judged
 mod Cells
 mod Pace
 mod Watching
+pub mod Dues

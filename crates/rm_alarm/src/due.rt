@@ -9,7 +9,7 @@ ghost use Rattle.rm_alarm.specs.Due.{nearer, due_at};
 
 use crate::alarms::Alarms;
 use crate::row::AlarmRow;
-use rm_status::Controls;
+use rm_status::{Controls, Due, FallsDue, SAMPLES};
 
 impl Alarms {
     /// The sample that is taken next: its moment, in milliseconds, and the number of the alarm. It is the earliest, and of
@@ -27,6 +27,26 @@ impl Alarms {
             last = index;
         }
         next
+    }
+}
+
+impl FallsDue for Alarms {
+    ghost use Rattle.std.specs.Prelude.{Some};
+    ghost use Rattle.rm_alarm.specs.Left.{samples_left};
+
+    ghost falls_due = { λ s due. (due.kind ≡ SAMPLES) × (due_in s due.number ≡ Some due.moment) };
+
+    ghost left = { samples_left };
+
+    fn next_due(&self) -> Option<Due> {
+        match self.next_due() {
+            Some((moment, number)) => Some(Due {
+                moment,
+                kind: SAMPLES,
+                number,
+            }),
+            None => None,
+        }
     }
 }
 

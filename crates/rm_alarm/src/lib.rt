@@ -29,7 +29,7 @@ pub use alarms::Alarms;
 pub use cell::column_name;
 pub use course::Course;
 pub use hysteresis::Hysteresis;
-pub use laws::{crossing_conditions, frames_pass, one_crossing};
+pub use laws::{crossing_conditions, frames_pass, one_crossing, reads_cells};
 pub use rm_acts::Sampled;
 pub use row::AlarmRow;
 pub use sample_type::SampleType;

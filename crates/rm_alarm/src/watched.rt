@@ -1,5 +1,5 @@
 // A group, and the alarms that sample its variables.
-ghost use Rattle.std.specs.Prelude.{◌≡◌, ℕ, ◌<◌, ◌≤◌, ◌∷◌, ◌||◌, Some};
+ghost use Rattle.std.specs.Prelude.{◌≡◌, ℕ, ◌<◌, ◌≤◌, [], ◌∷◌, ◌||◌, Some};
 ghost use Rattle.std.specs.Option.{option_or};
 ghost use Rattle.rm_model.specs.Settings.{Settings};
 ghost use Rattle.rm_model.specs.Journal.{Journal, samples, last_moment};
@@ -14,10 +14,11 @@ ghost use Rattle.rm_alarm.specs.Left.{samples_left};
 ghost use Rattle.rm_alarm.specs.Watched.{AreWatched, ArePrepared, number_read};
 
 use crate::alarms::Alarms;
-use rm_acts::Sampled;
+use crate::laws::frames_pass;
+use rm_acts::{Firing, Sampled};
 use rm_status::{
-    Assigns, Denied, Group, Look, Objects, Readable, Sight, Unsampled, Verdict, choose_nearer,
-    lower_verdict,
+    Assigns, Denied, Group, Look, Objects, Passing, Readable, Sight, Steps, Unsampled, Verdict,
+    choose_nearer, lower_verdict,
 };
 use rm_val::{Oid, Value};
 use std::alloc::Global;
@@ -126,6 +127,24 @@ impl<G: Objects> Objects for Watched<G> {
     }
 }
 
+// The alarms take part in an act as it begins: a frame makes no difference to them, and no firing does.
+impl<G: Readable + Steps> Steps for Watched<G> {
+    ghost under_way = { λ s settings act earlier some.
+        AreWatched G.sampleable (G.under_way s.watched settings act earlier some) s.alarms settings (act ∷ earlier) };
+
+    fn pass(&mut self, passing: &Passing<'_>) {
+        frames_pass();
+        self.watched.pass(passing);
+    }
+
+    fn take(&mut self, firing: &Firing, moment: u32) {
+        self.watched.take(firing, moment);
+    }
+
+    ghost ends = { λ s settings act earlier under.
+        record { readings = under.readings; watched = G.ends s.watched settings act earlier under.watched; stand = under.stand; based = under.based } };
+}
+
 impl<G: Readable + Unsampled> Watched<G> {
     /// The sample that is taken next: its moment, in milliseconds, and the number of the alarm. It is the earliest, and of
     /// several at one moment the one of the lowest alarm. None where no alarm is valid.
@@ -139,15 +158,15 @@ impl<G: Readable + Unsampled> Watched<G> {
     }
 
     /// Takes the sample of an alarm that is due at a moment, in milliseconds, and tells what it comes to. The row of an alarm
-    /// whose variable is gone is removed.
+    /// whose variable is gone is removed. The act is under way then: its firings are still to be taken.
     pub fn sample(&mut self, index: u32, moment: u32) -> Sampled
         requires { due_in self.old.alarms index ≡ Some moment }
         ensures watched { self.new.watched ≡ self.old.watched }
-        ensures stands { (settings : Settings) (journal : Journal)
+        ensures under_way { (settings : Settings) (journal : Journal)
             → AreWatched G.sampleable (G.stands self.old.watched settings journal) self.old.alarms settings journal
             → last_moment journal ≤ moment
-            → let after = samples moment index (number_read settings journal moment index) ∷ journal in
-            AreWatched G.sampleable (G.stands self.new.watched settings after) self.new.alarms settings after }
+            → let act = samples moment index (number_read settings journal moment index) in
+            AreWatched G.sampleable (G.under_way self.new.watched settings act journal []) self.new.alarms settings (act ∷ journal) }
         ensures result { (settings : Settings) (journal : Journal)
             → AreWatched G.sampleable (G.stands self.old.watched settings journal) self.old.alarms settings journal
             → last_moment journal ≤ moment

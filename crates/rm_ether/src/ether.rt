@@ -1,15 +1,15 @@
 // The group statistics.
 ghost use Rattle.std.specs.Prelude.{◌≡◌, ℕ, ◌+◌, ◌<◌, ◌≤◌, List, [], ◌∷◌, None};
 
-use crate::bounds::MOST_FRAMES;
 use crate::cell::{cell_of, entry};
 use crate::change::{Counting, Resting};
 use crate::column::COLUMNS;
 use crate::row::StatisticsRow;
+use rm_acts::Firing;
 use rm_proto::Facts;
 use rm_status::{
-    Assigns, Controls, Denied, Group, Look, Objects, Readable, State, StatusKind, Unsampled,
-    Verdict, is_of_column, next_name,
+    Assigns, Controls, Denied, Group, Look, MOST_FRAMES, Objects, Passing, Readable, State,
+    StatusKind, Steps, Unsampled, Verdict, is_of_column, next_name,
 };
 use rm_val::{Oid, Value};
 use std::alloc::Global;
@@ -174,8 +174,23 @@ impl Readable for Ether {
     ghost recurring = { λ keep_short one other journal alike now name. refl };
 }
 
+// Firings make no difference: the group stands for the longer journal as soon as an act begins.
+impl Steps for Ether {
+    ghost use Rattle.rm_ether.specs.Group.{Stands};
+
+    ghost under_way = { λ s settings act earlier some. Stands s settings (act ∷ earlier) };
+
+    fn pass(&mut self, passing: &Passing<'_>) {
+        self.frame(&passing.facts, passing.moment);
+    }
+
+    fn take(&mut self, _firing: &Firing, _moment: u32) {}
+
+    ghost ends = { λ s settings act earlier under. under };
+}
+
 impl Unsampled for Ether {
     ghost use Rattle.rm_ether.specs.Sampled.{ether_sampled};
 
-    ghost sampled = { λ s settings journal moment alarm reading stands later. ether_sampled settings journal moment alarm reading s stands };
+    ghost begins = { λ s settings earlier moment alarm reading stands later. ether_sampled settings earlier moment alarm reading s stands };
 }

@@ -2,7 +2,6 @@
 #![tactic(auto)]
 
 mod added;
-mod bounds;
 mod cell;
 mod change;
 mod column;
@@ -13,7 +12,6 @@ mod statistics;
 #[cfg(test)]
 mod tests;
 
-pub use bounds::{MOST_FRAMES, MOST_OCTETS};
 pub use counter::Counter;
 pub use ether::Ether;
 pub use row::StatisticsRow;

@@ -2,9 +2,9 @@
 ghost use Rattle.std.specs.Prelude.{◌≡◌, ◌+◌, ◌<◌, ◌≤◌};
 
 use crate::added::add;
-use crate::bounds::{MOST_FRAMES, MOST_OCTETS};
 use crate::counter::Counter;
 use rm_proto::Facts;
+use rm_status::{MOST_FRAMES, MOST_OCTETS};
 
 /// The sums over frames that a row of etherStats or of etherHistory counts, each modulo 2^64.
 #[derive(Clone, Copy, Default)]

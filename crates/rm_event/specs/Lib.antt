@@ -14,3 +14,4 @@ pub mod Walk
 pub mod EntryNumbers
 pub mod Shown
 pub mod Finite
+pub mod Acts

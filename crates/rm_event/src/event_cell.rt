@@ -65,7 +65,13 @@ fn instance_value<'a>(rows: &'a Controls<EventRow>, logs: &Logs, at: &Instance) 
     let row = rows.get(index)?;
     prove!(rows.len() <= 16);
     let other = other_value(index, last_sent(logs, index), at.column);
-    Some(row.cell(EVENT_STATUS, StatusKind::EntryStatus, state, other, at.column))
+    Some(row.cell(
+        EVENT_STATUS,
+        StatusKind::EntryStatus,
+        state,
+        other,
+        at.column,
+    ))
 }
 
 // When the event of a row fired last, 0 where it has no log.

@@ -1,6 +1,7 @@
 //! The group event: eventTable and logTable (RFC 1757, section 5).
 #![tactic(auto)]
 
+mod acts;
 mod assigning;
 mod cells;
 mod entries;
@@ -11,7 +12,6 @@ mod events;
 mod fired;
 mod firing;
 mod group;
-mod laws;
 mod log;
 mod log_cell;
 mod log_column;
@@ -22,4 +22,3 @@ mod tests;
 pub use event_type::EventType;
 pub use events::Events;
 pub use fired::Fired;
-pub use laws::{act_begins, act_ends, act_passes};

@@ -3,7 +3,7 @@ use Rattle.std.specs.Prelude.{◌≡◌, ℕ, ◌+◌, ◌<◌, ◌≤◌, List,
 use Rattle.std.specs.Option.{option_map_or}
 use Rattle.rm_proto.specs.declared.known.Facts.{Facts}
 use Rattle.rm_ether.specs.declared.counter.Counter.{Counter}
-use Rattle.rm_ether.specs.declared.bounds.TheConstants.{MOST_FRAMES}
+use Rattle.rm_status.specs.declared.bounds.TheConstants.{MOST_FRAMES}
 use Rattle.rm_ether.specs.Counted.{counted_from}
 use Rattle.rm_model.specs.ControlRows.{is_valid}
 use Rattle.rm_status.specs.declared.row.Row.{Row}

@@ -9,9 +9,10 @@ use crate::control_columns::STATUS;
 use crate::history::History;
 use crate::sample_cell::sample_entry;
 use crate::sample_column::SAMPLE_COLUMNS;
+use rm_acts::Firing;
 use rm_status::{
-    Assigns, Denied, Group, Look, Objects, Readable, Unsampled, Verdict, is_of_column,
-    judge_read_only, lower_verdict,
+    Assigns, Denied, Group, Look, Objects, Passing, Readable, Steps, Unsampled, Verdict,
+    is_of_column, judge_read_only, lower_verdict,
 };
 use rm_val::{Oid, Value};
 use std::alloc::Global;
@@ -124,8 +125,23 @@ impl Readable for History {
     ghost recurring = { λ keep_short one other journal alike now name. refl };
 }
 
+// Firings make no difference: the group stands for the longer journal as soon as an act begins.
+impl Steps for History {
+    ghost use Rattle.rm_history.specs.Group.{Stands};
+
+    ghost under_way = { λ s settings act earlier some. Stands s settings (act ∷ earlier) };
+
+    fn pass(&mut self, passing: &Passing<'_>) {
+        self.frame(&passing.facts, passing.moment);
+    }
+
+    fn take(&mut self, _firing: &Firing, _moment: u32) {}
+
+    ghost ends = { λ s settings act earlier under. under };
+}
+
 impl Unsampled for History {
     ghost use Rattle.rm_history.specs.Sampled.{history_sampled};
 
-    ghost sampled = { λ s settings journal moment alarm reading stands later. history_sampled settings journal moment alarm reading later s stands };
+    ghost begins = { λ s settings earlier moment alarm reading stands later. history_sampled settings earlier moment alarm reading later s stands };
 }

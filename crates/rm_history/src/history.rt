@@ -1,16 +1,15 @@
 // The group history.
 ghost use Rattle.std.specs.Prelude.{◌≡◌, ℕ, ◌+◌, ◌<◌, ◌≤◌, [], ◌∷◌, is_some, OnOk};
 ghost use Rattle.std.specs.List.{AllByRecursion};
-ghost use Rattle.rm_ether.specs.declared.bounds.TheConstants.{MOST_OCTETS, MOST_FRAMES};
+ghost use Rattle.rm_status.specs.declared.bounds.TheConstants.{MOST_OCTETS, MOST_FRAMES};
 ghost use Rattle.rm_history.specs.ControlColumns.{AreAllInRange};
 ghost use Rattle.rm_history.specs.Runs.{kept, run_in, valid_in, AreDistinct, Fits};
 ghost use Rattle.rm_history.specs.WellHeld.{all_in_range_prop, distinct_prop, all_fit_prop};
 
 use crate::control_columns::ControlColumns;
 use crate::runs::Runs;
-use rm_ether::{MOST_FRAMES, MOST_OCTETS};
 use rm_proto::Facts;
-use rm_status::{Controls, StatusKind};
+use rm_status::{Controls, MOST_FRAMES, MOST_OCTETS, StatusKind};
 use rm_val::NoMemory;
 use std::alloc::Global;
 

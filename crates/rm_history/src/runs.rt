@@ -2,16 +2,15 @@
 ghost use Rattle.std.specs.Prelude.{◌≡◌, ℕ, ◌+◌, ◌<◌, ◌≤◌, [], ◌∷◌, ◌++◌, map, length, min, true, false, None, is_some, position, nat_eq, OnOk, OnErr, IfSome, is_ok, if◌then◌else◌};
 ghost use Rattle.std.specs.Option.{option_copied};
 ghost use Rattle.std.specs.List.{AllByRecursion};
-ghost use Rattle.rm_ether.specs.declared.bounds.TheConstants.{MOST_OCTETS};
+ghost use Rattle.rm_status.specs.declared.bounds.TheConstants.{MOST_OCTETS};
 ghost use Rattle.rm_history.specs.declared.run.TheConstants.{MOST_BUCKETS};
 ghost use Rattle.rm_history.specs.Runs.{kept, run_in, AreDistinct, Fits, IsReady, Counts, EachBecomes, IsBegun, released, valid_in};
 
 use crate::control_columns::ControlColumns;
 use crate::plan::Plan;
 use crate::run::{MOST_BUCKETS, Run};
-use rm_ether::MOST_OCTETS;
 use rm_proto::Facts;
-use rm_status::{Controls, State};
+use rm_status::{Controls, MOST_OCTETS, State};
 use rm_val::NoMemory;
 use std::alloc::Global;
 

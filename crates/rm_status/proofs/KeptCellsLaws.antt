@@ -28,7 +28,7 @@ same_shown t set other n [] all is = absurd (cc)
 same_shown t set other n (c ∷ some) all is =
     elim (nat_eq c.number n) as (λ b. nat_eq c.number n ≡ b → is_some (cond b (Some c) (find (λ x. nat_eq x.number n) some)) ≡ true → unwrap_or (set n) (default_of t n) ≡ unwrap_or (other n) (default_of t n)) [
       | true ↦ λ here _. let at : c.number ≡ n = eqb-true c.number n here in
-        sym (ap (λ k. unwrap_or (set k) (default_of t k)) at) ∙ all.0.shown ∙ ap (λ k. unwrap_or (other k) (default_of t k)) at
+          sym (ap (λ k. unwrap_or (set k) (default_of t k)) at) ∙ all.0.shown ∙ ap (λ k. unwrap_or (other k) (default_of t k)) at
       | false ↦ λ _ later. same_shown t set other n some all.1 later
     ] refl is
 

@@ -26,3 +26,4 @@ pub mod RowsAfterLemmas
 pub mod Valid
 pub mod Bares
 pub mod KeptCellsLaws
+pub mod Dues

@@ -21,3 +21,5 @@ pub mod Sheeted
 pub mod KeptCells
 pub mod Via
 pub mod Pair
+pub mod Passing
+pub mod Due

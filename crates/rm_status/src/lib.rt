@@ -1,16 +1,20 @@
 //! What a group of objects does for Get, GetNext and Set, the search for the next cell of a table, and the rows of control
-//! tables: how a Set is judged on them, and what it makes of them.
+//! tables: how a Set is judged on them, and what it makes of them. How groups take a frame or a sample step by step, and what falls
+//! due.
 #![tactic(auto)]
 
+mod acts;
 mod also;
 mod assigns;
 mod beside;
 mod both;
+mod bounds;
 mod change;
 mod columns;
 mod controls;
 mod denied;
 mod described;
+mod due;
 mod field;
 mod fields;
 mod given;
@@ -26,6 +30,7 @@ mod nearer;
 mod objects;
 mod one_row;
 mod pair;
+mod passing;
 mod place;
 mod read_only;
 mod readable;
@@ -38,19 +43,21 @@ mod steps;
 mod system;
 #[cfg(test)]
 mod tests;
-mod unsampled;
 mod values;
 mod wrong;
 
+pub use acts::{Steps, Unsampled, pass_whole, take_whole};
 pub use also::{Also, Nothing};
 pub use assigns::Assigns;
 pub use beside::Beside;
 pub use both::Both;
+pub use bounds::{MOST_FRAMES, MOST_OCTETS};
 pub use change::Change;
 pub use columns::Columns;
 pub use controls::{Controls, MAX_ROWS};
 pub use denied::Denied;
 pub use described::Described;
+pub use due::{Due, FallsDue, SAMPLES};
 pub use field::Field;
 pub use fields::Fields;
 pub use group::Group;
@@ -63,6 +70,7 @@ pub use nearer::choose_nearer;
 pub use objects::{Objects, is_of_column};
 pub use one_row::OneRow;
 pub use pair::Pair;
+pub use passing::Passing;
 pub use place::place_under;
 pub use read_only::judge_read_only;
 pub use readable::{Readable, Sight, reading_of};
@@ -72,5 +80,4 @@ pub use row_indexes::RowIndexes;
 pub use search::next_name;
 pub use sheeted::Sheeted;
 pub use system::System;
-pub use unsampled::Unsampled;
 pub use values::{interface_in, natural_in, number_fault, put_text, source_fault, text_fault};

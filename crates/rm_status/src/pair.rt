@@ -18,7 +18,10 @@ impl Fields for Pair {
     ghost fields = { pair_fields };
 
     fn first(columns: &[ColumnSheet]) -> Self {
-        let columns = crate::also::Also::<i32, crate::also::Also<ArrayVec<u8, 127>, crate::also::Nothing>>::first(columns);
+        let columns = crate::also::Also::<
+            i32,
+            crate::also::Also<ArrayVec<u8, 127>, crate::also::Nothing>,
+        >::first(columns);
         Pair {
             offset: columns.first,
             pattern: columns.rest.first,

@@ -8,9 +8,10 @@ ghost use Rattle.rm_model.proofs.Finite.{one_row_finite};
 ghost use Rattle.rm_status.specs.Alone.{read_only};
 ghost use Rattle.rm_alarm.specs.MadeUp.{made_up_entry, made_up_table};
 
+use rm_acts::Firing;
 use rm_status::{
-    Assigns, Denied, Group, Look, OneRow, Readable, RowIndexes, Unsampled, Verdict, instance_of,
-    judge_read_only, next_name,
+    Assigns, Denied, Group, Look, OneRow, Passing, Readable, RowIndexes, Steps, Unsampled, Verdict,
+    instance_of, judge_read_only, next_name,
 };
 use rm_val::{Oid, Value};
 use std::alloc::Global;
@@ -72,7 +73,7 @@ impl Group for Passed {
 
     ghost clock = { λ s. 0 };
 
-    ghost frames = { λ s. 0 };
+    ghost frames = { λ s. s.frames };
 
     ghost stocked = { λ s. Unit {0} };
 
@@ -152,8 +153,21 @@ impl Readable for Passed {
     ghost recurring = { λ keep_short one other journal alike now name. refl };
 }
 
+impl Steps for Passed {
+    ghost under_way = { λ s settings act earlier some.
+        (s.is_there ≡ true) × (s.is_gauge ≡ false) × (s.frames ≡ length (frames_in (act ∷ earlier))) };
+
+    fn pass(&mut self, _passing: &Passing<'_>) {
+        self.frames += 1;
+    }
+
+    fn take(&mut self, _firing: &Firing, _moment: u32) {}
+
+    ghost ends = { λ s settings act earlier under. under };
+}
+
 impl Unsampled for Passed {
-    ghost sampled = { λ s settings journal moment alarm reading is later. is };
+    ghost begins = { λ s settings earlier moment alarm reading is later. is };
 }
 
 fn identifier() -> Oid

@@ -2,10 +2,10 @@
 ghost use Rattle.std.specs.Prelude.{◌≡◌, ◌≤◌, ◌<◌, ◌+◌};
 ghost use Rattle.rm_ether.specs.Group.{frames_given, last_given};
 
+use crate::Ether;
 use crate::tests::given::{Given, answer, interface, nothing, number, text};
 use crate::tests::{STATION, facts_of, under_entry};
-use crate::{Ether, MOST_FRAMES};
-use rm_status::{Group, interface_name};
+use rm_status::{Group, MOST_FRAMES, interface_name};
 use rm_val::{ErrorStatus, Oid, Value};
 use std::process::Abort;
 use std::test::Fail;

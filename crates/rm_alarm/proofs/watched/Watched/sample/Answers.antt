@@ -7,12 +7,12 @@ use Rattle.rm_alarm.specs.Standing.{Stands, AreBased}
 use Rattle.rm_alarm.proofs.Watching.{reads}
 use Rattle.rm_alarm.proofs.watched.Watched.sample.Goals as goal
 
-pub returns-clause-stands : goal.returns-clause-stands
-returns-clause-stands g c settings journal is later =
+pub returns-clause-under_way : goal.returns-clause-under_way
+returns-clause-under_way g c settings journal is later =
     let read = ap (option_map (λ reading. reading.value)) (reads g.G.Readable.sampleable (g.G.Readable.shown c.args.self.now.watched c.args.moment) settings journal c.args.moment (c.shows.ensures settings journal is.watched later) is.readings (variable_of journal c.args.index)) in
     record {
       readings = is.readings;
-      watched = g.met.G.Unsampled.sampled c.args.self.now.watched settings journal c.args.moment c.args.index _ is.watched later;
+      watched = g.met.G.Unsampled.begins c.args.self.now.watched settings journal c.args.moment c.args.index _ is.watched later;
       stand = subst (λ (number : Option ℤ). Stands c.sample.new.self settings (samples c.args.moment c.args.index number ∷ journal)) read
           (c.sample.ensures.stands settings journal is.stand is.based);
       based = subst (λ (number : Option ℤ). AreBased c.sample.new.self settings (samples c.args.moment c.args.index number ∷ journal)) read

@@ -1,0 +1,11 @@
+use Rattle.std.proofs.Common.{◌≡◌, ℕ, Option, Some, None, subst, sym}
+use Rattle.rm_acts.specs.Alarms.{IsNextDue}
+use Rattle.rm_alarm.specs.Group.{due_in}
+use Rattle.rm_alarm.proofs.Dues.{sample_due, no_sample_due}
+use Rattle.rm_alarm.proofs.due.AlarmsFallsDue.next_due.Goals as goal
+
+pub returns-in-Some : goal.returns-in-Some
+returns-in-Some c = sample_due (due_in c.args.self.now) c.in-Some.moment c.in-Some.index c.in-Some.ensures.next
+
+pub returns-in-None : goal.returns-in-None
+returns-in-None c = no_sample_due (due_in c.args.self.now) c.in-None.ensures.next
