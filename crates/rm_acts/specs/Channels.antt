@@ -1,11 +1,12 @@
 -- The control table of channels (RFC 1757, section 5), and the frames that a channel accepts.
-use Rattle.std.specs.Prelude.{ℕ, pos, List, [], ◌∷◌, length, Bool, true, false, ◌&&◌, not, nat_eq, if◌then◌else◌, filter}
+use Rattle.std.specs.Prelude.{◌≡◌, ℕ, pos, List, [], ◌∷◌, length, Bool, true, false, ◌&&◌, not, nat_eq, if◌then◌else◌, filter}
 use Rattle.std.specs.List.{list_any}
 use Rattle.rm_val.specs.Val.{int, octets}
 use Rattle.rm_model.specs.Settings.{Settings}
 use Rattle.rm_model.specs.Journal.{Frame, Journal}
 use Rattle.rm_model.specs.ControlTable.{Column, ControlTable, number, text}
 use Rattle.rm_model.specs.ControlRows.{no_rows}
+use Rattle.rm_model.specs.Indexes.{indexes_of}
 use Rattle.rm_acts.specs.Alarms.{up_from}
 use Rattle.rm_model.specs.declared.row.StatusKind.TheVariants.{EntryStatus}
 use Rattle.rm_acts.specs.Rows.{number_in, valid_rows}
@@ -71,3 +72,7 @@ accepts settings journal channel frame =
 abbrev pub match_count : Settings → Journal → (channel : ℕ) → ℕ
 match_count settings journal channel =
     length (filter (λ seen. accepts settings seen.before channel seen.frame) (seen_since channel_table no_rows journal (channel ∷ [])))
+
+-- there is no row of channelTable, nor was there one
+abbrev pub HasNoChannel : Journal → Type 0
+HasNoChannel journal = indexes_of channel_table [] journal ≡ []

@@ -1,27 +1,24 @@
 -- Lemmas on the number of notifications, and on their octets.
 use Rattle.std.proofs.Common.{◌≡◌, ℕ, ◌+◌, ◌%◌, ◌^◌, List, [], ◌∷◌, ◌++◌, length, take, drop, Bool, true, false, cond, Option, Some, None, refl, sym, ap, ◌∙◌, arith}
-use Rattle.std.specs.Prelude.{MatchBool}
 use Rattle.std.specs.Option.{option_map}
 use Rattle.rm_val.specs.Val.{Val}
 use Rattle.rm_val.specs.declared.error.ErrorStatus.{ErrorStatus}
-use Rattle.rm_val.specs.declared.error.ErrorStatus.TheVariants.{NoAccess}
 use Rattle.rm_model.specs.Settings.{Settings as Counting}
 use Rattle.rm_model.specs.Journal.{Act, Frame, passes, assigns, samples, Journal}
 use Rattle.rm_acts.specs.Alarms.{IsNextDue, sampled}
 use Rattle.rm_model.specs.Cells.{Cells}
 use Rattle.rm_model.specs.Judgement.{Bindings}
-use Rattle.rm_model.specs.declared.verdict.Verdict.{Verdict}
 use Rattle.rm_pdu.specs.declared.kind.Kind.{Kind}
-use Rattle.rm_pdu.specs.declared.kind.Kind.TheVariants.{Get, Next, Response, Set, Bulk, Inform, Trap, Report}
 use Rattle.rm_pdu.specs.Message.{Message, message_octets}
 use Rattle.rm_pdu.specs.Draft.{Drafted, drafted}
-use Rattle.rm_event.specs.Firings.{crossing_event}
+use Rattle.rm_acts.specs.declared.firing.Firing.{Firing}
+use Rattle.rm_acts.specs.Fired.{act_fires, fired}
+use Rattle.rm_event.specs.EventTable.{type_of}
 use Rattle.rm_agent.specs.declared.trap.AlarmTrap.{AlarmTrap}
-use Rattle.rm_reply.specs.Replies.{too_big}
-use Rattle.rm_reply.specs.Sets.{alone_among, is_too_much, is_barred, given_by, returning, telling, Judges, wrong_alone, wrong_together, lacking, accepted}
-use Rattle.rm_agent.specs.Notices.{trap_of, sends, sent_by, notice_numbered, count_one, count_notices}
+use Rattle.rm_agent.specs.Notices.{trap_of, is_sent, by_no_channel, sent_by, notice_numbered, count_one, count_notices}
 use Rattle.rm_reply.specs.Responses.{IsReplyBy}
 use Rattle.rm_agent.specs.Agent.{IsNextMoment, IsWritten}
+use Rattle.rm_agent.proofs.Leaving.{leaves}
 use Rattle.rm_agent.proofs.Written.{written}
 
 -- No frame has a notification, and no reply.
@@ -30,33 +27,11 @@ pub same_passing : (settings : Counting) (frame : Frame) (journal : Journal) (co
     → count ≡ count_notices settings (passes frame ∷ journal) % 2 ^ 31
 same_passing settings frame journal count is = omega (arith, is)
 
-module _ (counting : Counting) (alone : List ℕ → Val → Option ErrorStatus) (together : Bindings → ℕ → Option ErrorStatus) (reserves : Bindings → ℕ → Type 0) (moment : ℕ) where
-  same_judged : (journal after : Journal) (bindings : Bindings) (verdict : Verdict) → Judges alone together reserves moment journal bindings verdict after → count_notices counting after ≡ count_notices counting journal
-  same_judged journal _ bindings _ (wrong_alone status index first) = refl
-  same_judged journal _ bindings _ (wrong_together fine status index first) = refl
-  same_judged journal _ bindings _ (lacking fine first index reserved) = refl
-  same_judged journal _ bindings _ (accepted fine first) = omega arith
-
-  same_set : (journal after : Journal) (much barred : Bool) (A B : Type 0) (C : Verdict → Type 0) (bindings : Bindings)
-      → MatchBool much (A × (after ≡ journal)) (MatchBool barred (B × (after ≡ journal)) ((verdict : Verdict) × Judges alone together reserves moment journal bindings verdict after × C verdict))
-      → count_notices counting after ≡ count_notices counting journal
-  same_set journal after true barred A B C bindings is = ap (count_notices counting) is.1
-  same_set journal after false true A B C bindings is = ap (count_notices counting) is.1
-  same_set journal after false false A B C bindings is = same_judged journal after bindings is.0 is.1
-
 pub same_count : (counting : Counting) (cells : Cells) (objects : List ℕ → Bool) (alone : List ℕ → Val → Option ErrorStatus) (together : Bindings → ℕ → Option ErrorStatus) (reserves : Bindings → ℕ → Type 0)
     (may_write : Bool) (moment : ℕ) (journal : Journal) (kind : Kind) (request reply : Message) (after : Journal)
     → IsReplyBy cells objects alone together reserves may_write moment journal kind request reply after → count_notices counting after ≡ count_notices counting journal
-same_count counting cells objects alone together reserves may_write moment journal Set request reply after is =
-    same_set counting (alone_among objects alone) together reserves moment journal after (is_too_much request) (is_barred may_write request)
-    (reply ≡ too_big request) (reply ≡ returning request NoAccess 1) (λ verdict. reply ≡ telling request verdict) (given_by request.bindings) is
-same_count counting cells objects alone together reserves may_write moment journal Get request reply after is = ap (count_notices counting) is.1
-same_count counting cells objects alone together reserves may_write moment journal Next request reply after is = ap (count_notices counting) is.1
-same_count counting cells objects alone together reserves may_write moment journal Response request reply after is = ap (count_notices counting) is.1
-same_count counting cells objects alone together reserves may_write moment journal Bulk request reply after is = ap (count_notices counting) is.1
-same_count counting cells objects alone together reserves may_write moment journal Inform request reply after is = ap (count_notices counting) is.1
-same_count counting cells objects alone together reserves may_write moment journal Trap request reply after is = ap (count_notices counting) is.1
-same_count counting cells objects alone together reserves may_write moment journal Report request reply after is = ap (count_notices counting) is.1
+same_count counting cells objects alone together reserves may_write moment journal =
+    leaves cells objects alone together reserves moment journal (λ after. count_notices counting after ≡ count_notices counting journal) refl (λ bindings fine beside. omega arith) may_write
 
 -- Whether an act has a notification doesn't depend on its number.
 
@@ -65,17 +40,17 @@ either_one true a b = refl
 either_one false a b = refl
 
 module _ (settings : Counting) (act : Act) (earlier : Journal) (moment alarm number other : ℕ) where
-  by_events : (events : List ℕ) (trap : Option AlarmTrap) → count_one (sent_by settings act earlier moment alarm number events trap) ≡ count_one (sent_by settings act earlier moment alarm other events trap)
-  by_events [] trap = refl
-  by_events (event ∷ more) None = refl
-  by_events (event ∷ more) (Some trap) = either_one (sends earlier event) _ _
+  by_firing : (firing : Option Firing) (trap : Option AlarmTrap) → count_one (sent_by settings act earlier moment alarm number firing trap) ≡ count_one (sent_by settings act earlier moment alarm other firing trap)
+  by_firing None trap = refl
+  by_firing (Some firing) None = refl
+  by_firing (Some firing) (Some trap) = either_one (is_sent (type_of earlier firing.event)) _ _
 
 pub any_number : (settings : Counting) (number other : ℕ) (act : Act) (earlier : Journal) → count_one (notice_numbered settings number act earlier) ≡ count_one (notice_numbered settings other act earlier)
 any_number settings number other (passes frame) earlier = refl
 any_number settings number other (assigns moment values) earlier = refl
 any_number settings number other (samples moment alarm reading) earlier =
-    let comes = sampled settings earlier moment alarm reading in
-    by_events settings (samples moment alarm reading) earlier moment alarm number other (crossing_event earlier alarm comes) (trap_of comes)
+    let act : Act = samples moment alarm reading in
+    by_firing settings act earlier moment alarm number other (by_no_channel (act_fires settings act earlier (fired settings earlier))) (trap_of (sampled settings earlier moment alarm reading))
 
 -- The number of notifications after an act, modulo a number, by whether it has one.
 

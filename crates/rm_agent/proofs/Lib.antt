@@ -1,7 +1,8 @@
 mod Known
 mod Written
 mod ReadLemmas
-mod Watching
+mod Leaving
+mod ChannelLemmas
 mod NoticeExamples
 mod DueLemmas
 mod SampleLemmas

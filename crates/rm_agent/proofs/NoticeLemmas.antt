@@ -5,7 +5,7 @@ use Rattle.std.specs.List.{sum_by}
 use Rattle.std.specs.Option.{option_map, option_and_then}
 use Rattle.rm_val.specs.Val.{Val, int, name, ticks, octets}
 use Rattle.rm_model.specs.Settings.{Settings as Counting}
-use Rattle.rm_model.specs.Journal.{Journal, samples}
+use Rattle.rm_model.specs.Journal.{Act, Journal, samples}
 use Rattle.rm_acts.specs.Alarms.{alarm_entry, alarm_table, alarm_state, number_of, name_of, sampled}
 use Rattle.rm_model.specs.Alike.{HasSameColumns}
 use Rattle.rm_model.specs.ControlRows.{cell_name, no_rows, is_absent, is_valid, set_value}
@@ -25,7 +25,9 @@ use Rattle.rm_alarm.specs.SampleType.{type_number}
 use Rattle.rm_alarm.specs.Standing.{Stands as AlarmsStand}
 use Rattle.rm_alarm.specs.Watched.{number_read}
 use Rattle.rm_event.specs.EventTable.{event_table, event_state, event_set, type_of}
-use Rattle.rm_event.specs.Firings.{crossing_event}
+use Rattle.rm_acts.specs.declared.firing.Firing.{Firing}
+use Rattle.rm_acts.specs.Events.{event_asked}
+use Rattle.rm_acts.specs.Fired.{act_fires, fired, by_sample}
 use Rattle.rm_event.specs.Standing.{community_of}
 use Rattle.rm_pdu.specs.Message.{Binding, Message, binding_octets, message_octets}
 use Rattle.rm_pdu.specs.Draft.{Drafted, drafted, binding_of, and_binding}
@@ -34,10 +36,10 @@ use Rattle.rm_agent.specs.declared.sampling.Taken.{Taken}
 use Rattle.rm_agent.specs.declared.told.Told.{Told}
 use Rattle.rm_agent.specs.declared.trap.AlarmTrap.{AlarmTrap}
 use Rattle.rm_agent.specs.Groups.{Groups}
-use Rattle.rm_agent.specs.Notices.{up_time_name, trap_name, rising_alarm, falling_alarm, trap_of, sends, is_sent, is_trap, community_text, trap_bindings, told_bindings, numbered_trap, sent_by, notice_numbered}
-use Rattle.rm_agent.specs.Told.{told_of, stated_bindings, stated_trap, events_in, sends_any, IsTaken}
+use Rattle.rm_agent.specs.Notices.{up_time_name, trap_name, rising_alarm, falling_alarm, trap_of, is_sent, is_trap, by_no_channel, community_text, trap_bindings, told_bindings, numbered_trap, sent_by, notice_numbered}
+use Rattle.rm_agent.specs.Told.{told_of, stated_bindings, stated_trap, IsTaken}
 use Rattle.rm_agent.proofs.DueLemmas.{valid_if_due}
-use Rattle.rm_agent.proofs.SampleLemmas.{valid_after}
+use Rattle.rm_agent.proofs.SampleLemmas.{valid_after, is_sending}
 
 -- A binding that has room comes behind the others of a draft.
 
@@ -146,8 +148,8 @@ module _ (alarms : Alarms) (settings : Counting) (journal : Journal) (alarm : �
 
 -- The notification that is made of what was taken.
 
-both_true : (a b : Bool) → (a && b) ≡ true → a ≡ true
-both_true true b is = refl
+both_true : (a b : Bool) → (a && b) ≡ true → (a ≡ true) × (b ≡ true)
+both_true true b is = (refl, is)
 both_true false b is = absurd (cc)
 
 never_absent : (state : State) → is_valid state ≡ true → is_absent state ≡ false
@@ -155,57 +157,97 @@ never_absent Valid is = refl
 never_absent UnderCreation is = refl
 never_absent Absent is = absurd (cc)
 
--- an event is fired where a trap is to be sent
-pub some_event : (settings : Counting) (journal : Journal) (moment alarm : ℕ) (groups : Groups) (taken : Taken) → IsTaken settings journal moment alarm groups taken → is_trap taken.fired ≡ true → taken.event ≡ None → ⊥
-some_event settings journal moment alarm groups taken is trapped none = let never = sym trapped ∙ is.sends ∙ ap (sends_any journal) none in cc
+module _ (settings : Counting) (journal : Journal) (moment alarm : ℕ) (groups : Groups) (taken : Taken) (is : IsTaken settings journal moment alarm groups taken) where
+  abbrev event : ℕ
+  event = taken.event
 
-module _ (settings : Counting) (journal : Journal) (moment alarm : ℕ) (groups : Groups) (taken : Taken) (is : IsTaken settings journal moment alarm groups taken) (trapped : is_trap taken.fired ≡ true)
-    (event : ℕ) (fires : taken.event ≡ Some event) where
   abbrev reading : Option ℤ
   reading = number_read settings journal moment alarm
 
+  abbrev act : Act
+  act = samples moment alarm reading
+
   abbrev after : Journal
-  after = samples moment alarm reading ∷ journal
+  after = act ∷ journal
 
-  sends_one : sends journal event ≡ true
-  sends_one = ap (sends_any journal) (sym fires) ∙ sym is.sends ∙ trapped
+  abbrev firing : Firing
+  firing = record { event = event; channel = None }
 
-  its_event : crossing_event journal alarm (sampled settings journal moment alarm reading) ≡ event ∷ []
-  its_event = ap (crossing_event journal alarm) (sym is.comes) ∙ sym is.event ∙ ap events_in fires
+  -- a trap is to be sent where the event that the sample asks for is valid and sends traps
+  sending : is_trap taken.fired ≡ (is_valid (event_state journal (event ∷ [])) && is_sent (type_of journal event))
+  sending = ap is_trap is.fired ∙ is_sending (event_state journal (event ∷ [])) (type_of journal event)
 
-  there : is_absent (event_state after (event ∷ [])) ≡ false
-  there =
-      ap is_absent (state_sampled event_table no_rows refl journal moment alarm reading (event ∷ []))
-      ∙ never_absent (event_state journal (event ∷ [])) (both_true (is_valid (event_state journal (event ∷ []))) (is_sent (type_of journal event)) sends_one)
+  its_firing : by_no_channel (act_fires settings act journal (fired settings journal)) ≡ cond (is_valid (event_state journal (event ∷ []))) (Some firing) None
+  its_firing =
+      ap (λ e. by_no_channel (by_sample journal e)) (ap (event_asked journal alarm) (sym is.comes) ∙ sym is.event)
+      ∙ one (is_valid (event_state journal (event ∷ [])))
+    where
+      one : (t : Bool) → by_no_channel (cond t (firing ∷ []) []) ≡ cond t (Some firing) None
+      one true = refl
+      one false = refl
 
-  its_community : community_of after event ≡ Some (event_set journal (event ∷ []) 4)
-  its_community = ap (λ (b : Bool). cond b None (Some (event_set after (event ∷ []) 4))) there
+  -- the notification, if a trap is asked for
+  abbrev message_for : (number : ℕ) → AlarmTrap → Message
+  message_for number trap = numbered_trap number (community_text journal event) (told_bindings settings after moment alarm trap)
 
-  pub some_community : ◌≡◌ {A = Option Val} None (community_of after event) → ⊥
-  some_community none = let never = none ∙ its_community in cc
+  the_notice_of : (number : ℕ) → notice_numbered settings number act journal ≡ sent_by settings act journal moment alarm number (cond (is_valid (event_state journal (event ∷ []))) (Some firing) None) (trap_of taken.comes)
+  the_notice_of number =
+      ap (λ firing. sent_by settings act journal moment alarm number firing (trap_of (sampled settings journal moment alarm reading))) its_firing
+      ∙ ap (sent_by settings act journal moment alarm number (cond (is_valid (event_state journal (event ∷ []))) (Some firing) None)) (ap trap_of (sym is.comes))
 
-  pub community_is : (text : List ℕ) → ◌≡◌ {A = Option Val} (Some (octets text)) (community_of after event) → text ≡ community_text journal event
-  community_is text e = ap (λ value. octets_in (unwrap_or value (octets []))) (e ∙ its_community)
+  pub not_sent : (number : ℕ) → is_trap taken.fired ≡ false → ◌≡◌ {A = Option Drafted} None (option_map drafted (notice_numbered settings number act journal))
+  not_sent number quiet =
+      ap (option_map drafted)
+      (sym (the_notice_of number ∙ by_test (is_valid (event_state journal (event ∷ []))) (trap_of taken.comes) (sym sending ∙ quiet)))
+    where
+      by_test : (t : Bool) (trap : Option AlarmTrap) → (t && is_sent (type_of journal event)) ≡ false → sent_by settings act journal moment alarm number (cond t (Some firing) None) trap ≡ None
+      by_test false trap no = refl
+      by_test true None no = refl
+      by_test true (Some trap) no = ap (λ (b : Bool). cond b (Some (message_for number trap)) None) no
 
-  module _ (number : ℕ) (trap : AlarmTrap) (crossed : trap_of taken.comes ≡ Some trap) where
-    abbrev message : Message
-    message = numbered_trap number (community_text journal event) (told_bindings settings after moment alarm trap)
+  pub not_asked : (number : ℕ) → trap_of taken.comes ≡ None → ◌≡◌ {A = Option Drafted} None (option_map drafted (notice_numbered settings number act journal))
+  not_asked number none =
+      ap (option_map drafted)
+      (sym (the_notice_of number ∙ ap (sent_by settings act journal moment alarm number (cond (is_valid (event_state journal (event ∷ []))) (Some firing) None)) none ∙ nothing (cond (is_valid (event_state journal (event ∷ []))) (Some firing) None)))
+    where
+      nothing : (o : Option Firing) → sent_by settings act journal moment alarm number o None ≡ None
+      nothing None = refl
+      nothing (Some one) = refl
 
-    the_notice : notice_numbered settings number (samples moment alarm reading) journal ≡ Some message
-    the_notice =
-        let comes = sampled settings journal moment alarm reading in
-        ap (sent_by settings (samples moment alarm reading) journal moment alarm number (crossing_event journal alarm comes)) (ap trap_of (sym is.comes) ∙ crossed)
-        ∙ ap (λ (events : List ℕ). sent_by settings (samples moment alarm reading) journal moment alarm number events (Some trap)) its_event
-        ∙ ap (λ (b : Bool). cond b (Some message) None) sends_one
+  module _ (trapped : is_trap taken.fired ≡ true) where
+    sends_one : (is_valid (event_state journal (event ∷ [])) && is_sent (type_of journal event)) ≡ true
+    sends_one = sym sending ∙ trapped
 
-    pub valid : is_valid (alarm_state after alarm) ≡ true
-    valid = valid_after settings journal moment alarm reading (valid_if_due journal alarm moment is.due) (ap (λ (comes : Sampled). is_some (trap_of comes)) (sym is.comes) ∙ ap is_some crossed)
+    there : is_absent (event_state after (event ∷ [])) ≡ false
+    there =
+        ap is_absent (state_sampled event_table no_rows refl journal moment alarm reading (event ∷ []))
+        ∙ never_absent (event_state journal (event ∷ [])) (both_true (is_valid (event_state journal (event ∷ []))) (is_sent (type_of journal event)) sends_one).0
 
-    pub made : (community : List ℕ) (id : ℕ) (told : Told) (draft : Drafted) → community ≡ community_text journal event → number % 2 ^ 31 ≡ id
-        → told ≡ told_of settings after alarm trap.threshold_column → draft ≡ drafted (stated_trap community id moment alarm trap told)
-        → ◌≡◌ {A = Option Drafted} (Some draft) (option_map drafted (notice_numbered settings number (samples moment alarm reading) journal))
-    made community id told draft text numbered tells_this drafted_so =
-        let bindings = ap (stated_bindings moment alarm trap) tells_this ∙ tells groups.second.second.alarms settings after alarm is.stands.1.1.stand valid moment taken.comes trap crossed in
-        let same : stated_trap community id moment alarm trap told ≡ message =
-        λ d. record { community = text d; kind = Trap; id = pos (sym numbered d); first = pos 0; second = pos 0; bindings = bindings d } in
-        ap Some (drafted_so ∙ ap drafted same) ∙ sym (ap (option_map drafted) the_notice)
+    its_community : community_of after event ≡ Some (event_set journal (event ∷ []) 4)
+    its_community = ap (λ (b : Bool). cond b None (Some (event_set after (event ∷ []) 4))) there
+
+    pub some_community : ◌≡◌ {A = Option Val} None (community_of after event) → ⊥
+    some_community none = let never = none ∙ its_community in cc
+
+    pub community_is : (text : List ℕ) → ◌≡◌ {A = Option Val} (Some (octets text)) (community_of after event) → text ≡ community_text journal event
+    community_is text e = ap (λ value. octets_in (unwrap_or value (octets []))) (e ∙ its_community)
+
+    module _ (number : ℕ) (trap : AlarmTrap) (crossed : trap_of taken.comes ≡ Some trap) where
+      the_notice : notice_numbered settings number act journal ≡ Some (message_for number trap)
+      the_notice =
+          the_notice_of number
+          ∙ ap (λ (t : Bool). sent_by settings act journal moment alarm number (cond t (Some firing) None) (trap_of taken.comes)) (both_true (is_valid (event_state journal (event ∷ []))) (is_sent (type_of journal event)) sends_one).0
+          ∙ ap (sent_by settings act journal moment alarm number (Some firing)) crossed
+          ∙ ap (λ (b : Bool). cond b (Some (message_for number trap)) None) (both_true (is_valid (event_state journal (event ∷ []))) (is_sent (type_of journal event)) sends_one).1
+
+      pub valid : is_valid (alarm_state after alarm) ≡ true
+      valid = valid_after settings journal moment alarm reading (valid_if_due journal alarm moment is.due) (ap (λ (comes : Sampled). is_some (trap_of comes)) (sym is.comes) ∙ ap is_some crossed)
+
+      pub made : (community : List ℕ) (id : ℕ) (told : Told) (draft : Drafted) → community ≡ community_text journal event → number % 2 ^ 31 ≡ id
+          → told ≡ told_of settings after alarm trap.threshold_column → draft ≡ drafted (stated_trap community id moment alarm trap told)
+          → ◌≡◌ {A = Option Drafted} (Some draft) (option_map drafted (notice_numbered settings number act journal))
+      made community id told draft text numbered tells_this drafted_so =
+          let bindings = ap (stated_bindings moment alarm trap) tells_this ∙ tells groups.second.second.alarms settings after alarm is.stands.1.1.stand valid moment taken.comes trap crossed in
+          let same : stated_trap community id moment alarm trap told ≡ message_for number trap =
+          λ d. record { community = text d; kind = Trap; id = pos (sym numbered d); first = pos 0; second = pos 0; bindings = bindings d } in
+          ap Some (drafted_so ∙ ap drafted same) ∙ sym (ap (option_map drafted) the_notice)

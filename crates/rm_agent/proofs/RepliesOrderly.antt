@@ -1,22 +1,18 @@
 -- A reply leaves an orderly journal.
-use Rattle.std.proofs.Common.{◌≡◌, ℕ, Bool, true, false, Option, Some, None, refl, sym, subst}
-use Rattle.std.specs.Prelude.{List, MatchBool}
+use Rattle.std.proofs.Common.{◌≡◌, ℕ, Bool, Option, Some, None, refl}
+use Rattle.std.specs.Prelude.{List}
 use Rattle.std.specs.Option.{option_or}
 use Rattle.rm_model.specs.Journal.{Journal}
 use Rattle.rm_model.specs.Judgement.{Bindings, name_at, value_at, second_pass, rows_after}
 use Rattle.rm_model.specs.ControlRows.{Beginning, no_rows}
 use Rattle.rm_acts.specs.Alarms.{alarm_table}
-use Rattle.rm_model.specs.declared.verdict.Verdict.{Verdict}
 use Rattle.rm_pdu.specs.declared.kind.Kind.{Kind}
-use Rattle.rm_pdu.specs.declared.kind.Kind.TheVariants.{Get, Next, Response, Set, Bulk, Inform, Trap, Report}
 use Rattle.rm_pdu.specs.Message.{Message}
 use Rattle.rm_agent.specs.declared.settings.Settings.{Settings}
 use Rattle.rm_reply.specs.Responses.{IsReplyBy}
 use Rattle.rm_agent.specs.Groups.{cells, objects, alone, together, Reserves}
-use Rattle.rm_agent.specs.Known.{may_write}
-use Rattle.rm_reply.specs.Replies.{too_big}
-use Rattle.rm_reply.specs.Sets.{Judges, wrong_alone, wrong_together, lacking, accepted, alone_among, given_by, returning, telling, is_too_much, is_barred}
-use Rattle.rm_val.specs.declared.error.ErrorStatus.TheVariants.{NoAccess, NotWritable}
+use Rattle.rm_reply.specs.Sets.{alone_among}
+use Rattle.rm_val.specs.declared.error.ErrorStatus.TheVariants.{NotWritable}
 use Rattle.rm_val.specs.Val.{Val}
 use Rattle.rm_model.specs.Cells.{is_of_column}
 use Rattle.rm_model.specs.Judgement.{unless}
@@ -31,6 +27,7 @@ use Rattle.rm_event.specs.Group.{event_alone}
 use Rattle.rm_alarm.specs.Group.{alarm_alone, alarm_together, variable_fault}
 use Rattle.rm_agent.specs.Known.{counting_by}
 use Rattle.rm_agent.specs.Orderly.{NoneIsDue, IsOrderly}
+use Rattle.rm_agent.proofs.Leaving.{leaves}
 use Rattle.rm_agent.proofs.OrderlyLemmas.{orderly_assigns}
 
 no_first : {A : Type 0} (o p : Option A) → option_or o p ≡ None → o ≡ None
@@ -42,9 +39,6 @@ no_second None p h = h
 no_second (Some x) p h = absurd (cc)
 
 module _ (settings : Settings) (journal : Journal) (now : ℕ) (orderly : IsOrderly journal) (none : NoneIsDue now journal) where
-  stays_orderly : (after : Journal) → after ≡ journal → IsOrderly after
-  stays_orderly after same = subst IsOrderly (sym same) orderly
-
   -- where nothing is wrong, nothing is wrong with the alarms
   alone_fine : (numbers : List ℕ) (value : Val) → alone_among objects alone numbers value ≡ None → alarm_alone numbers value ≡ None
   alone_fine numbers value fine =
@@ -62,34 +56,12 @@ module _ (settings : Settings) (journal : Journal) (now : ℕ) (orderly : IsOrde
       no_first (second_pass alarm_table before bindings k) (variable_fault ((counting_by settings).readings journal now) before bindings k)
       (no_second (option_or (second_pass ether_stats (rows_after ether_stats ether_beginning journal) bindings k) (second_pass history_control (rows_after history_control no_rows journal) bindings k)) _ sampling)
 
-  abbrev JudgesTo : Bindings → Verdict → Journal → Type 0
-  JudgesTo bindings v after = Judges (alone_among objects alone) (together settings journal now) (Reserves journal) now journal bindings v after
-
-  judged_orderly : (bindings : Bindings) (v : Verdict) (after : Journal) → JudgesTo bindings v after → IsOrderly after
-  judged_orderly bindings v after (wrong_alone s i p) = orderly
-  judged_orderly bindings v after (wrong_together fine s i p) = orderly
-  judged_orderly bindings v after (lacking fine beside k p) = orderly
-  judged_orderly bindings v after (accepted fine beside) =
+  pub reply_orderly : (kind : Kind) (may_write : Bool) (request reply : Message) (after : Journal) → IsReplyBy (cells settings journal now) objects alone (together settings journal now) (Reserves journal) may_write now journal kind request reply after → IsOrderly after
+  reply_orderly kind may_write =
+      leaves (cells settings journal now) objects alone (together settings journal now) (Reserves journal) now journal IsOrderly orderly
+      (λ bindings fine beside.
       orderly_assigns journal now bindings
       (λ k within. alone_fine (name_at bindings k) (value_at bindings k) (fine k within))
       (λ k within. together_fine bindings k (beside k within))
-      orderly none
-
-  set_orderly : (may_write : Bool) (request reply : Message) (after : Journal) → IsReplyBy (cells settings journal now) objects alone (together settings journal now) (Reserves journal) may_write now journal Set request reply after → IsOrderly after
-  set_orderly may_write request reply after is = of_tests (is_too_much request) (is_barred may_write request) is
-    where
-      of_tests : (much barred : Bool) → MatchBool much ((reply ≡ too_big request) × (after ≡ journal)) (MatchBool barred ((reply ≡ returning request NoAccess 1) × (after ≡ journal)) ((v : Verdict) × JudgesTo (given_by request.bindings) v after × (reply ≡ telling request v)))
-          → IsOrderly after
-      of_tests true barred (is, stays) = stays_orderly after stays
-      of_tests false true (is, stays) = stays_orderly after stays
-      of_tests false false (v, judges, is) = judged_orderly (given_by request.bindings) v after judges
-
-  pub reply_orderly : (kind : Kind) (may_write : Bool) (request reply : Message) (after : Journal) → IsReplyBy (cells settings journal now) objects alone (together settings journal now) (Reserves journal) may_write now journal kind request reply after → IsOrderly after
-  reply_orderly Set may_write request reply after is = set_orderly may_write request reply after is
-  reply_orderly Get may_write request reply after is = stays_orderly after is.1
-  reply_orderly Next may_write request reply after is = stays_orderly after is.1
-  reply_orderly Bulk may_write request reply after is = stays_orderly after is.1
-  reply_orderly Response may_write request reply after is = stays_orderly after is.1
-  reply_orderly Inform may_write request reply after is = stays_orderly after is.1
-  reply_orderly Trap may_write request reply after is = stays_orderly after is.1
-  reply_orderly Report may_write request reply after is = stays_orderly after is.1
+      orderly none)
+      may_write kind

@@ -1,5 +1,5 @@
 -- Lemmas on the samples of alarms, and on the events that they fire.
-use Rattle.std.proofs.Common.{◌≡◌, ℕ, suc, zero, ◌≤◌, [], ◌∷◌, Bool, true, cond, ◌&&◌, not, Option, Some, None, refl, ap, ◌∙◌, arith}
+use Rattle.std.proofs.Common.{◌≡◌, ℕ, [], ◌∷◌, Bool, true, cond, ◌&&◌, not, Option, Some, None, refl, ap, ◌∙◌}
 use Rattle.std.specs.Prelude.{ℤ, is_some}
 use Rattle.rm_model.specs.Settings.{Settings as Counting}
 use Rattle.rm_model.specs.Journal.{Journal, samples}
@@ -13,9 +13,12 @@ use Rattle.rm_acts.specs.declared.sampled.Sampled.TheVariants.{Quiet, Rising, Fa
 use Rattle.rm_alarm.specs.AlarmTable.{alarm_columns, alarm_shown, alarms_table}
 use Rattle.rm_event.specs.declared.event_type.EventType.{EventType}
 use Rattle.rm_event.specs.declared.event_type.EventType.TheVariants as type
-use Rattle.rm_event.specs.Firings.{event_named, crossing_event}
+use Rattle.rm_event.specs.declared.fired.Fired.{Fired}
+use Rattle.rm_event.specs.declared.fired.Fired.TheVariants as became
+use Rattle.rm_acts.specs.Events.{event_asked}
 use Rattle.rm_event.specs.Standing.{fired_of}
 use Rattle.rm_agent.specs.Notices.{trap_of, is_sent, is_trap}
+use Rattle.rm_agent.specs.Told.{firings_by}
 
 there : (state : State) → is_valid state ≡ true → not (is_absent state) ≡ true
 there Valid valid = refl
@@ -38,10 +41,21 @@ is_sending Valid type.LogAndTrap = refl
 is_sending UnderCreation kind = refl
 is_sending Absent kind = refl
 
--- an event that there can be is named
-pub named : (index : ℕ) → 1 ≤ index → event_named index ≡ index ∷ []
-named zero some = absurd (omega arith)
-named (suc index) some = refl
+-- what a sample fires, by what becomes of the event that it asks for
+pub fires_so : (state : State) (kind : EventType) (event : ℕ) → firings_by event (fired_of state kind) ≡ cond (is_valid state) (record { event = event; channel = None } ∷ []) []
+fires_so Valid type.None event = refl
+fires_so Valid type.Log event = refl
+fires_so Valid type.SnmpTrap event = refl
+fires_so Valid type.LogAndTrap event = refl
+fires_so UnderCreation kind event = refl
+fires_so Absent kind event = refl
+
+pub fires_one : (fired : Fired) (event : ℕ) → (fired ≡ became.Absent → ⊥) → record { event = event; channel = None } ∷ [] ≡ firings_by event fired
+fires_one became.Absent event isnt = absurd (isnt refl)
+fires_one became.Silent event isnt = refl
+fires_one became.Logged event isnt = refl
+fires_one became.Trap event isnt = refl
+fires_one became.Both event isnt = refl
 
 -- a valid alarm stays so after a sample that crosses
 pub valid_after : (settings : Counting) (journal : Journal) (moment alarm : ℕ) (reading : Option ℤ) → is_valid (alarm_state journal alarm) ≡ true
@@ -49,9 +63,9 @@ pub valid_after : (settings : Counting) (journal : Journal) (moment alarm : ℕ)
 valid_after settings journal moment alarm None valid crossing = absurd (cc)
 valid_after settings journal moment alarm (Some number) valid crossing = valid
 
--- a sample fires by the columns that the alarm had before
+-- a sample asks for an event by the columns that the alarm had before
 pub same_event : (journal : Journal) (moment alarm : ℕ) (reading : Option ℤ) (comes : Sampled)
-    → crossing_event (samples moment alarm reading ∷ journal) alarm comes ≡ crossing_event journal alarm comes
+    → event_asked (samples moment alarm reading ∷ journal) alarm comes ≡ event_asked journal alarm comes
 same_event journal moment alarm reading Rising = refl
 same_event journal moment alarm reading Falling = refl
 same_event journal moment alarm reading Quiet = refl

@@ -3,6 +3,7 @@ use Rattle.std.specs.Prelude.{◌≡◌, ◌≤◌, ℕ, ◌%◌, ◌^◌, List,
 use Rattle.std.specs.Option.{option_map}
 use Rattle.rm_model.specs.Journal.{Act, Journal, samples, last_moment}
 use Rattle.rm_acts.specs.Alarms.{IsNextDue, due_of}
+use Rattle.rm_acts.specs.Channels.{HasNoChannel}
 use Rattle.rm_alarm.specs.Group.{due_in}
 use Rattle.rm_alarm.specs.Left.{samples_left}
 use Rattle.rm_alarm.specs.Watched.{number_read}
@@ -26,12 +27,13 @@ last_given agent = agent.last
 abbrev pub frames_given : Agent → ℕ
 frames_given agent = agent.frames
 
--- The agent stands for a journal: its groups do, no act is later than the last moment, the journal's samples come in order, and the
--- agent counts the notifications.
+-- The agent stands for a journal: its groups do, no act is later than the last moment, the journal's samples come in order, no Set made
+-- a channel, since the agent has no such table, and the agent counts the notifications.
 pub record Stands (agent : Agent) (journal : Journal) : Type 0 where
   pub groups : GroupsStand agent.groups (counting_by agent.settings) journal
   pub last : last_moment journal ≤ agent.last
   pub orderly : IsOrderly journal
+  pub channels : HasNoChannel journal
   pub notices : agent.notices ≡ count_notices (counting_by agent.settings) journal % 2 ^ 31
 
 -- when the next sample of each alarm is due, in milliseconds

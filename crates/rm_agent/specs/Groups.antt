@@ -1,11 +1,11 @@
 -- The groups of objects that the agent answers for: the system group, the events, etherStats, the history, and the alarms that
 -- sample variables of these two.
-use Rattle.std.specs.Prelude.{◌||◌, ◌⊎◌, ℕ, List, Bool, max, Option, None}
+use Rattle.std.specs.Prelude.{◌≡◌, ◌||◌, ◌⊎◌, ℕ, List, [], ◌∷◌, Bool, false, max, Option, None}
 use Rattle.std.specs.Option.{option_or}
 use Rattle.rm_val.specs.Val.{Val}
 use Rattle.rm_val.specs.declared.error.ErrorStatus.{ErrorStatus}
 use Rattle.rm_model.specs.Settings.{Settings as Counting}
-use Rattle.rm_model.specs.Journal.{Journal}
+use Rattle.rm_model.specs.Journal.{Act, Journal}
 use Rattle.rm_acts.specs.Alarms.{alarm_entry, alarm_table}
 use Rattle.rm_model.specs.Cells.{Cells, cells_of, is_of_column}
 use Rattle.rm_model.specs.ControlRows.{no_rows}
@@ -28,7 +28,8 @@ use Rattle.rm_alarm.specs.Watched.{AreWatched}
 use Rattle.rm_alarm.specs.declared.watched.Watched.{Watched}
 use Rattle.rm_event.specs.EventTable.{event_table}
 use Rattle.rm_event.specs.Group.{event_cells, event_objects, event_alone, IsStocked as IsEventStocked}
-use Rattle.rm_event.specs.Standing.{Stands as EventsStand}
+use Rattle.rm_event.specs.Firings.{is_set}
+use Rattle.rm_event.specs.Standing.{Stands as EventsStand, IsUnderWay as EventsUnderWay}
 use Rattle.rm_event.specs.declared.events.Events.{Events}
 use Rattle.rm_agent.specs.declared.settings.Settings.{Settings}
 use Rattle.rm_agent.specs.Watched.{watched_cells}
@@ -88,6 +89,12 @@ WatchedStand watched settings journal = AreWatched watched_cells (SourcesStand w
 abbrev pub GroupsStand : Groups → Counting → Journal → Type 0
 GroupsStand groups settings journal =
     Unit {0} × (EventsStand groups.second.first settings journal × WatchedStand groups.second.second settings journal)
+
+-- All groups are in an act after a journal, of which they have taken no firing. The groups whose variables alarms may sample, and the
+-- alarms, stand for the journal with the act in front already: no firing makes a difference to them.
+abbrev pub AreUnderWay : Groups → Counting → Act → Journal → Type 0
+AreUnderWay groups settings act earlier =
+    ((is_set act ≡ false) × EventsUnderWay groups.second.first settings act earlier []) × WatchedStand groups.second.second settings (act ∷ earlier)
 
 -- they have the storage of one row of each table whose rows take storage
 abbrev pub AreStocked : Groups → Type 0

@@ -2,9 +2,9 @@
 use Rattle.std.specs.Prelude.{ℕ, Bool, ◌||◌, List}
 use Rattle.std.specs.Str.{bytes_eq}
 use Rattle.rm_model.specs.Settings.{Settings as Counting}
-use Rattle.rm_acts.specs.Recurring.{reading_of}
+use Rattle.rm_acts.specs.Recurring.{sampling}
 use Rattle.rm_agent.specs.declared.settings.Settings.{Settings}
-use Rattle.rm_agent.specs.Watched.{watched_cells, without_readings}
+use Rattle.rm_agent.specs.Watched.{watched_cells}
 
 -- whether a community is answered: it is the read or the write community
 abbrev pub is_known : Settings → List ℕ → Bool
@@ -16,7 +16,4 @@ may_write settings community = bytes_eq community settings.write.items
 
 -- what the counters and the alarms depend on: alarms read the variables of etherStats and of the history
 abbrev pub counting_by : Settings → Counting
-counting_by settings = record {
-  keep_short = settings.keep_short;
-  readings = λ journal now name. reading_of (watched_cells (without_readings settings.keep_short) journal now name);
-}
+counting_by settings = sampling watched_cells settings.keep_short

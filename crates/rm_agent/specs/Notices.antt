@@ -1,11 +1,11 @@
 -- The notifications of alarms: a sample that crosses a threshold has its event send a trap (RFC 1757, section 5;
 -- RFC 1905, section 4.2.6).
-use Rattle.std.specs.Prelude.{ℕ, ◌+◌, ◌%◌, ◌/◌, ◌^◌, pos, List, [], ◌∷◌, Bool, true, false, ◌&&◌, if◌then◌else◌, Option, Some, None}
+use Rattle.std.specs.Prelude.{ℕ, ◌+◌, ◌%◌, ◌/◌, ◌^◌, pos, List, [], ◌∷◌, Bool, true, false, if◌then◌else◌, Option, Some, None, is_none, find}
 use Rattle.rm_val.specs.Val.{Val, name, ticks}
 use Rattle.rm_model.specs.Settings.{Settings as Counting}
 use Rattle.rm_model.specs.Journal.{Act, passes, assigns, samples, Journal}
 use Rattle.rm_acts.specs.Alarms.{alarm_entry, sampled}
-use Rattle.rm_model.specs.ControlRows.{cell_name, is_valid}
+use Rattle.rm_model.specs.ControlRows.{cell_name}
 use Rattle.rm_acts.specs.declared.sampled.Sampled.{Sampled}
 use Rattle.rm_acts.specs.declared.sampled.Sampled.TheVariants.{Quiet, Rising, Falling, Gone}
 use Rattle.rm_status.specs.Values.{octets_in}
@@ -14,8 +14,9 @@ use Rattle.rm_event.specs.declared.event_type.EventType.{EventType}
 use Rattle.rm_event.specs.declared.event_type.EventType.TheVariants as type
 use Rattle.rm_event.specs.declared.fired.Fired.{Fired}
 use Rattle.rm_event.specs.declared.fired.Fired.TheVariants as became
-use Rattle.rm_event.specs.EventTable.{event_state, event_set, type_of}
-use Rattle.rm_event.specs.Firings.{crossing_event}
+use Rattle.rm_event.specs.EventTable.{event_set, type_of}
+use Rattle.rm_acts.specs.declared.firing.Firing.{Firing}
+use Rattle.rm_acts.specs.Fired.{act_fires, fired}
 use Rattle.rm_pdu.specs.Message.{Binding, Message}
 use Rattle.rm_pdu.specs.Draft.{binding_of}
 use Rattle.rm_pdu.specs.declared.kind.Kind.TheVariants.{Trap}
@@ -49,10 +50,6 @@ is_sent type.Log = false
 is_sent type.SnmpTrap = true
 is_sent type.LogAndTrap = true
 
--- whether an event sends one after a journal: its row has to be valid
-abbrev pub sends : Journal → ℕ → Bool
-sends journal event = is_valid (event_state journal (event ∷ [])) && is_sent (type_of journal event)
-
 -- whether what became of an event is that a trap is to be sent
 abbrev pub is_trap : Fired → Bool
 is_trap became.Absent = false
@@ -85,20 +82,27 @@ abbrev pub numbered_trap : (number : ℕ) → (community : List ℕ) → List Bi
 numbered_trap number community bindings =
     record { community = community; kind = Trap; id = pos (number % 2 ^ 31); first = pos 0; second = pos 0; bindings = bindings }
 
--- The notification of a sample, by the events that it fires and the trap that it asks for: the first event sends it to its
--- community, by the journal before the sample. It tells of the alarm as it is after the sample.
-abbrev pub sent_by : Counting → Act → Journal → (moment alarm number : ℕ) → (events : List ℕ) → Option AlarmTrap → Option Message
-sent_by settings act earlier moment alarm number (event ∷ more) (Some trap) =
-    if sends earlier event then Some (numbered_trap number (community_text earlier event) (told_bindings settings (act ∷ earlier) moment alarm trap)) else None
-sent_by settings act earlier moment alarm number events trap = None
+-- the firing by no channel, if there is one: that of a sample
+abbrev pub by_no_channel : List Firing → Option Firing
+by_no_channel fires = find (λ firing. is_none firing.channel) fires
+
+-- The notification of a sample, by its firing and the trap that it asks for: the event that fires sends it to its community, by the
+-- journal before the sample. It tells of the alarm as it is after the sample.
+abbrev pub sent_by : Counting → Act → Journal → (moment alarm number : ℕ) → Option Firing → Option AlarmTrap → Option Message
+sent_by settings act earlier moment alarm number (Some firing) (Some trap) =
+    if is_sent (type_of earlier firing.event)
+    then Some (numbered_trap number (community_text earlier firing.event) (told_bindings settings (act ∷ earlier) moment alarm trap))
+    else None
+sent_by settings act earlier moment alarm number firing trap = None
 
 -- the notification with that number of an act after a journal, if there is one: only samples have some
 abbrev pub notice_numbered : Counting → ℕ → Act → Journal → Option Message
 notice_numbered settings number (passes frame) earlier = None
 notice_numbered settings number (assigns moment values) earlier = None
 notice_numbered settings number (samples moment alarm reading) earlier =
-    let comes = sampled settings earlier moment alarm reading in
-    sent_by settings (samples moment alarm reading) earlier moment alarm number (crossing_event earlier alarm comes) (trap_of comes)
+    let act : Act = samples moment alarm reading in
+    sent_by settings act earlier moment alarm number (by_no_channel (act_fires settings act earlier (fired settings earlier)))
+    (trap_of (sampled settings earlier moment alarm reading))
 
 -- how many there are
 abbrev pub count_one : Option Message → ℕ

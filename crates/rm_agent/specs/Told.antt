@@ -1,19 +1,24 @@
 -- The notification of a sample, as it is made.
-use Rattle.std.specs.Prelude.{◌≡◌, ℕ, pos, List, [], ◌∷◌, Bool, false, Option, Some, None}
+use Rattle.std.specs.Prelude.{◌≡◌, ℕ, pos, List, [], ◌∷◌, Some, None}
 use Rattle.rm_val.specs.Val.{int, name}
 use Rattle.rm_model.specs.Settings.{Settings as Counting}
 use Rattle.rm_model.specs.Journal.{Journal, samples}
 use Rattle.rm_acts.specs.Alarms.{due_of, number_of, name_of, sampled}
 use Rattle.rm_alarm.specs.AlarmTable.{alarm_shown}
 use Rattle.rm_alarm.specs.Watched.{number_read}
-use Rattle.rm_event.specs.Firings.{crossing_event}
+use Rattle.rm_acts.specs.Events.{event_asked}
+use Rattle.rm_acts.specs.declared.firing.Firing.{Firing}
+use Rattle.rm_event.specs.declared.fired.Fired.{Fired}
+use Rattle.rm_event.specs.declared.fired.Fired.TheVariants as became
+use Rattle.rm_event.specs.EventTable.{event_state, type_of}
+use Rattle.rm_event.specs.Standing.{fired_of}
 use Rattle.rm_pdu.specs.Message.{Binding, Message}
 use Rattle.rm_pdu.specs.declared.kind.Kind.TheVariants.{Trap}
 use Rattle.rm_agent.specs.declared.sampling.Taken.{Taken}
 use Rattle.rm_agent.specs.declared.told.Told.{Told}
 use Rattle.rm_agent.specs.declared.trap.AlarmTrap.{AlarmTrap}
 use Rattle.rm_agent.specs.Groups.{Groups, GroupsStand}
-use Rattle.rm_agent.specs.Notices.{trap_bindings, sends, is_trap}
+use Rattle.rm_agent.specs.Notices.{trap_bindings}
 
 -- what a trap tells of an alarm after a journal, by the column with the threshold that was crossed
 abbrev pub told_of : Counting → Journal → (alarm threshold : ℕ) → Told
@@ -34,21 +39,16 @@ abbrev pub stated_trap : (community : List ℕ) → (id moment alarm : ℕ) → 
 stated_trap community id moment alarm trap told =
     record { community = community; kind = Trap; id = pos id; first = pos 0; second = pos 0; bindings = stated_bindings moment alarm trap told }
 
--- the events that are fired: one or none
-abbrev pub events_in : Option ℕ → List ℕ
-events_in None = []
-events_in (Some event) = event ∷ []
+-- the firings by the event that a sample asks for, and what becomes of that: an event without a valid row doesn't fire
+abbrev pub firings_by : (event : ℕ) → Fired → List Firing
+firings_by event became.Absent = []
+firings_by event other = record { event = event; channel = None } ∷ []
 
--- whether a trap is sent by the event that is fired, if there is one
-abbrev pub sends_any : Journal → Option ℕ → Bool
-sends_any journal None = false
-sends_any journal (Some event) = sends journal event
-
--- What was taken is the sample of an alarm at a moment after a journal, and the event that it fires: the groups stand for the journal
--- with the sample in front.
+-- What was taken is the sample of an alarm at a moment after a journal, with its firings: the groups stand for the journal with the
+-- sample in front. It tells what the sample came to, the event that this asked for, and what became of that event.
 pub record IsTaken (settings : Counting) (journal : Journal) (moment alarm : ℕ) (groups : Groups) (taken : Taken) : Type 0 where
   pub due : due_of journal alarm ≡ Some moment
   pub stands : GroupsStand groups settings (samples moment alarm (number_read settings journal moment alarm) ∷ journal)
   pub comes : taken.comes ≡ sampled settings journal moment alarm (number_read settings journal moment alarm)
-  pub event : events_in taken.event ≡ crossing_event journal alarm taken.comes
-  pub sends : is_trap taken.fired ≡ sends_any journal taken.event
+  pub event : taken.event ≡ event_asked journal alarm taken.comes
+  pub fired : taken.fired ≡ fired_of (event_state journal (taken.event ∷ [])) (type_of journal taken.event)

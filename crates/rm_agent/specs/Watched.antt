@@ -1,7 +1,6 @@
 -- The variables that alarms may sample, by what the probe was set to.
-use Rattle.std.specs.Prelude.{ℕ, Bool}
+use Rattle.std.specs.Prelude.{ℕ}
 use Rattle.std.specs.Option.{option_or}
-use Rattle.rm_model.specs.Readings.{nothing_read}
 use Rattle.rm_model.specs.Settings.{Settings as Counting}
 use Rattle.rm_model.specs.Journal.{Journal}
 use Rattle.rm_model.specs.Cells.{Cells, cells_of}
@@ -18,7 +17,3 @@ history_cells counting journal now name =
 abbrev pub watched_cells : Counting → Journal → ℕ → Cells
 watched_cells counting journal now name =
     option_or (cells_of (ether_table counting journal) name) (history_cells counting journal now name)
-
--- what these depend on: whether a short frame counts as it was captured, and no reading
-abbrev pub without_readings : (keep_short : Bool) → Counting
-without_readings keep_short = record { keep_short = keep_short; readings = λ journal now. nothing_read }

@@ -7,15 +7,15 @@ use crate::answer::{Answer, Reason};
 use crate::notice::notice;
 use crate::sampling::take;
 use crate::settings::Settings;
-use rm_alarm::{Alarms, Watched, frames_pass};
-use rm_ether::{Ether, MOST_FRAMES};
-use rm_event::{Events, act_passes};
+use rm_alarm::{Alarms, Watched, reads_cells};
+use rm_ether::Ether;
+use rm_event::Events;
 use rm_history::History;
 use rm_pcap::Frame;
 use rm_pdu::{Bindings, read_message};
 use rm_proto::facts;
 use rm_reply::{MOST_REPLY, Request, respond};
-use rm_status::{Both, System};
+use rm_status::{Both, MOST_FRAMES, Passing, System, pass_whole};
 use rm_val::NoMemory;
 use std::alloc::Global;
 
@@ -59,6 +59,7 @@ impl Agent {
         ensures last { IfOk result (λ agent. last_given agent ≡ 0) }
         ensures frames { IfOk result (λ agent. frames_given agent ≡ 0) }
     {
+        reads_cells::<Both<Ether, History>>();
         let mut events = Events::new();
         events.reserve(alloc)?;
         let mut history = History::new();
@@ -98,13 +99,14 @@ impl Agent {
         ensures last { last_given self.new ≡ frame.now.moment }
         ensures frames { frames_given self.new ≡ frames_given self.old + 1 }
     {
-        let facts = facts(frame.bytes, frame.original, self.settings.keep_short);
-        // A frame fires no event, and makes no difference to alarms.
-        act_passes();
-        frames_pass();
-        let watched = &mut self.groups.second.second.watched;
-        watched.first.frame(&facts, frame.moment);
-        watched.second.frame(&facts, frame.moment);
+        let passing = Passing {
+            facts: facts(frame.bytes, frame.original, self.settings.keep_short),
+            octets: frame.bytes,
+            number: frame.number,
+            moment: frame.moment,
+        };
+        // Frames fire by channels, and the agent has none.
+        pass_whole(&mut self.groups, &passing, &[]);
         self.last = frame.moment;
         self.frames += 1;
     }

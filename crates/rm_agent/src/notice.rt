@@ -36,8 +36,7 @@ pub(crate) fn notice(
         return None;
     }
     let trap = trap_of(taken.comes)?;
-    let event = taken.event?;
-    let community = groups.second.first.community(event)?;
+    let community = groups.second.first.community(taken.event)?;
     let told = Told::of(
         &groups.second.second.alarms,
         alarm,

@@ -34,7 +34,7 @@ impl FallsDue for Alarms {
     ghost use Rattle.std.specs.Prelude.{Some};
     ghost use Rattle.rm_alarm.specs.Left.{samples_left};
 
-    ghost falls_due = { λ s due. (due.kind ≡ SAMPLES) × (due_in s due.number ≡ Some due.moment) };
+    ghost falls_due = { λ s due. (due.kind ≡ 1) × (due_in s due.number ≡ Some due.moment) };
 
     ghost left = { samples_left };
 

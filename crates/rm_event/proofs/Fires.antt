@@ -27,7 +27,7 @@ use Rattle.rm_event.specs.Logs.{log_in}
 use Rattle.rm_event.specs.Standing.{IsLogOf, AreLogs, fired_of, community_of}
 use Rattle.rm_event.proofs.Spares.{eq_is, same_number}
 use Rattle.rm_event.proofs.RowFacts.{valid_there, valid_columns}
-use Rattle.rm_event.proofs.Moments.{moments_more, valid_with, idle_with}
+use Rattle.rm_event.specs.Moments.{moments_more, valid_with, idle_with}
 
 type_again : (type : EventType) → numbered (number_of type) ≡ type
 type_again kind.None = refl

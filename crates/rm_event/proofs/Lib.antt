@@ -1,7 +1,6 @@
 mod OneFiring
 mod Spares
 mod RowFacts
-pub mod Moments
 mod Fires
 mod Begun
 mod Counts

@@ -29,7 +29,7 @@ use Rattle.rm_event.specs.Held.{AreOfValid}
 use Rattle.rm_event.specs.Standing.{IsLogOf, AreLogs}
 use Rattle.rm_event.specs.Shown.{sent_in, kept_other, rows_table, description_in, is_kept, entry_value, entry_in, logs_table, cells_shown}
 use Rattle.rm_event.proofs.RowFacts.{found_there, valid_there, valid_columns, valid_fits}
-use Rattle.rm_event.proofs.Moments.{idle_firings}
+use Rattle.rm_event.specs.Moments.{idle_firings}
 use Rattle.rm_event.proofs.Fires.{description_is, type_shown_is, community_is, owner_is}
 
 le_yes : (a b : ℕ) → a ≤ b → nat_le a b ≡ true

@@ -8,7 +8,7 @@ use Rattle.rm_acts.specs.Fired.{act_fires, fired, firings}
 use Rattle.rm_event.specs.Firings.{is_set}
 use Rattle.rm_event.specs.Logs.{kept, log_in}
 use Rattle.rm_event.specs.Standing.{Stands, IsUnderWay, IsLogOf}
-use Rattle.rm_event.proofs.Moments.{nothing_with, same_state, same_type, same_rows_after}
+use Rattle.rm_event.specs.Moments.{nothing_with, same_state, same_type, same_rows_after}
 
 module _ (events : Events) (settings : Settings) (act : Act) (earlier : Journal) (unset : is_set act ≡ false) where
   pub begun : Stands events settings earlier → IsUnderWay events settings act earlier []

@@ -14,4 +14,5 @@ pub mod Walk
 pub mod EntryNumbers
 pub mod Shown
 pub mod Finite
+pub mod Moments
 pub mod Acts

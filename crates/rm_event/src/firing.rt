@@ -66,6 +66,17 @@ impl Events {
         }
     }
 
+    /// What becomes of the event with that index where it is to fire. Absent where it has no valid row: it doesn't fire then.
+    pub fn becomes(&self, index: u32) -> Fired
+        ensures { (journal : Journal) → HasRows self.now journal
+            → result ≡ fired_of (event_state journal (index ∷ [])) (type_of journal index) }
+    {
+        match self.valid_type(index) {
+            Some(event_type) => event_type.fired(),
+            None => Fired::Absent,
+        }
+    }
+
     // The type of an event, if its row is valid.
     fn valid_type(&self, index: u32) -> Option<EventType>
         ensures valid { IfSome result (λ kind. (is_valid (state_in self.now.rows index) ≡ true)

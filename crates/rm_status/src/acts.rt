@@ -109,6 +109,13 @@ pub fn pass_whole<G: Steps>(group: &mut G, passing: &Passing<'_>, firings: &[Fir
     take_whole(group, firings, passing.moment);
 }
 
+/// A law: the sample of an alarm begins at a moment, in milliseconds. It does nothing.
+pub fn sample_begins<G: Unsampled>(group: &G, moment: u32)
+    ensures { (settings : Settings) (earlier : Journal) (alarm : ℕ) (reading : Option ℤ)
+        → G.stands group.now settings earlier → last_moment earlier ≤ moment
+        → G.under_way group.now settings (samples moment alarm reading) earlier [] }
+{}
+
 /// An act has begun at a moment, in milliseconds, and these are its firings.
 pub fn take_whole<G: Steps>(group: &mut G, firings: &[Firing], moment: u32)
     ensures stands { (settings : Settings) (act : Act) (earlier : Journal) → moment_of act ≡ moment

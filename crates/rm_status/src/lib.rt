@@ -46,7 +46,7 @@ mod tests;
 mod values;
 mod wrong;
 
-pub use acts::{Steps, Unsampled, pass_whole, take_whole};
+pub use acts::{Steps, Unsampled, pass_whole, sample_begins, take_whole};
 pub use also::{Also, Nothing};
 pub use assigns::Assigns;
 pub use beside::Beside;

@@ -24,6 +24,7 @@ returns-in_err-draft-clause-sampled c journal stands =
       stands = record {
         groups = taken.stands;
         last = omega (arith, c.max-self.ensures);
+        channels = stands.channels;
         orderly = orderly_samples journal (c.args.moment, alarm) next stands.orderly (number_read counting journal c.args.moment alarm);
         notices = counts_none counting act journal number c.args.self.now.notices none stands.notices;
       };
@@ -47,6 +48,7 @@ returns-clause-sampled c journal stands =
       stands = record {
         groups = taken.stands;
         last = omega (arith, c.max-self.ensures);
+        channels = stands.channels;
         orderly = orderly_samples journal (c.args.moment, alarm) next stands.orderly (number_read counting journal c.args.moment alarm);
         notices = counts_one counting act journal number c.args.self.now.notices ((c.args.self.now.notices + 1) % 2 ^ 31) c.in_ok-draft.draft made stands.notices refl;
       };

@@ -1,0 +1,70 @@
+-- No Set that is accepted makes a channel.
+use Rattle.std.proofs.Common.{◌≡◌, ◌⊎◌, inl, inr, ℕ, ◌<◌, suc, List, [], ◌∷◌, ◌++◌, length, Bool, true, false, ◌||◌, Option, None, refl, ap, ◌∙◌, arith}
+use Rattle.std.specs.Option.{option_or}
+use Rattle.rm_val.specs.Val.{Val}
+use Rattle.rm_val.specs.declared.error.ErrorStatus.{ErrorStatus}
+use Rattle.rm_val.specs.declared.error.ErrorStatus.TheVariants.{NotWritable}
+use Rattle.rm_model.specs.Accepted.{assignments_of}
+use Rattle.rm_model.specs.Cells.{behind, is_of_column}
+use Rattle.rm_model.specs.Indexes.{indexes_of}
+use Rattle.rm_model.specs.Journal.{Journal, assigns}
+use Rattle.rm_model.specs.Judgement.{Bindings, name_at, value_at, unless}
+use Rattle.rm_acts.specs.Channels.{channel_entry, channel_table, HasNoChannel}
+use Rattle.rm_acts.proofs.ChannelLaws.{of_another_entry, NamesNoChannel, none_named}
+use Rattle.rm_status.specs.Alone.{AreFineAlone}
+use Rattle.rm_status.specs.System.{system_entry, system_columns}
+use Rattle.rm_ether.specs.Columns.{ether_columns}
+use Rattle.rm_ether.specs.EtherStats.{ether_entry}
+use Rattle.rm_history.specs.Columns.{control_columns, sample_columns}
+use Rattle.rm_history.specs.HistoryControl.{control_entry}
+use Rattle.rm_history.specs.EtherHistory.{sample_entry}
+use Rattle.rm_history.specs.Group.{history_objects}
+use Rattle.rm_event.specs.Columns.{event_columns, log_columns}
+use Rattle.rm_event.specs.EventTable.{event_entry}
+use Rattle.rm_event.specs.Tables.{log_entry}
+use Rattle.rm_event.specs.Group.{event_objects}
+use Rattle.rm_alarm.specs.AlarmTable.{alarm_columns}
+use Rattle.rm_acts.specs.Alarms.{alarm_entry}
+use Rattle.rm_pdu.specs.Message.{Message}
+use Rattle.rm_pdu.specs.declared.kind.Kind.{Kind}
+use Rattle.rm_reply.specs.Responses.{IsReplyBy}
+use Rattle.rm_reply.specs.Sets.{alone_among}
+use Rattle.rm_agent.specs.declared.settings.Settings.{Settings}
+use Rattle.rm_agent.specs.Groups.{cells, objects, alone, together, Reserves}
+use Rattle.rm_agent.proofs.Leaving.{leaves}
+
+by_either : {A : Type 0} (a b : Bool) → (a ≡ true → A) → (b ≡ true → A) → (a || b) ≡ true → A
+by_either true b one other is = one refl
+by_either false b one other is = other is
+
+-- a name of an object of the agent isn't under channelEntry
+not_channel : (name : List ℕ) → objects name ≡ true → behind channel_entry name ≡ None
+not_channel name =
+    by_either (is_of_column system_entry system_columns name) _ (of_another_entry system_entry system_columns name (λ column. refl))
+    (by_either (event_objects name) _
+    (by_either (is_of_column event_entry event_columns name) _ (of_another_entry event_entry event_columns name (λ column. refl)) (of_another_entry log_entry log_columns name (λ column. refl)))
+    (by_either (is_of_column ether_entry ether_columns name || history_objects name) _
+    (by_either (is_of_column ether_entry ether_columns name) _ (of_another_entry ether_entry ether_columns name (λ column. refl))
+    (by_either (is_of_column control_entry control_columns name) _ (of_another_entry control_entry control_columns name (λ column. refl)) (of_another_entry sample_entry sample_columns name (λ column. refl))))
+    (of_another_entry alarm_entry alarm_columns name (λ column. refl))))
+
+-- a name with which nothing is wrong is that of an object
+is_object : (name : List ℕ) (value : Val) → alone_among objects alone name value ≡ None → objects name ≡ true
+is_object name value fine = of_test (objects name) (alone name value) fine
+  where
+    of_test : (there : Bool) (other : Option ErrorStatus) → option_or (unless there NotWritable) other ≡ None → there ≡ true
+    of_test true other is = refl
+    of_test false other is = absurd (cc)
+
+none_under : (bindings : Bindings) → ((k : ℕ) → k < length bindings → alone_among objects alone (name_at bindings k) (value_at bindings k) ≡ None) → NamesNoChannel bindings
+none_under [] fine = tt
+none_under (binding ∷ more) fine =
+    (not_channel binding.name (is_object binding.name binding.value (fine 0 (omega arith))), none_under more (λ k within. fine (suc k) (omega arith)))
+
+module _ (settings : Settings) (journal : Journal) (now : ℕ) (none : HasNoChannel journal) where
+  accepted : (bindings : Bindings) → AreFineAlone (alone_among objects alone) bindings → HasNoChannel (assigns now (assignments_of bindings) ∷ journal)
+  accepted bindings fine = ap (λ named. named ++ indexes_of channel_table [] journal) (none_named bindings (none_under bindings fine)) ∙ none
+
+  pub reply_makes_none : (kind : Kind) (may_write : Bool) (request reply : Message) (after : Journal) → IsReplyBy (cells settings journal now) objects alone (together settings journal now) (Reserves journal) may_write now journal kind request reply after → HasNoChannel after
+  reply_makes_none kind may_write =
+      leaves (cells settings journal now) objects alone (together settings journal now) (Reserves journal) now journal HasNoChannel none (λ bindings fine beside. accepted bindings fine) may_write kind
