@@ -5,7 +5,7 @@ use Rattle.rm_alarm.proofs.Dues.{sample_due, no_sample_due}
 use Rattle.rm_alarm.proofs.due.AlarmsFallsDue.next_due.Goals as goal
 
 pub returns-in-Some : goal.returns-in-Some
-returns-in-Some c = sample_due (due_in c.args.self.now) c.in-Some.moment c.in-Some.index c.in-Some.ensures.next
+returns-in-Some c = sample_due (due_in c.args.self.now) c.in-Some.moment c.in-Some.number c.in-Some.ensures.next
 
 pub returns-in-None : goal.returns-in-None
 returns-in-None c = no_sample_due (due_in c.args.self.now) c.in-None.ensures.next
