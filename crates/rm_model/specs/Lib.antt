@@ -3,6 +3,7 @@ pub mod Readings
 pub mod Settings
 pub mod FrameFacts
 pub mod Names
+pub mod Numbers
 pub mod Cells
 pub mod Finite
 pub mod Interfaces

@@ -1,0 +1,5 @@
+pub mod Slots
+pub mod Pools
+pub mod Each
+pub mod Follow
+pub mod Lending
