@@ -1,6 +1,5 @@
 mod Known
 mod Written
-mod ReadLemmas
 mod Leaving
 mod ChannelLemmas
 mod NoticeExamples

@@ -10,12 +10,10 @@ use std::process::Abort;
 use std::test::Fail;
 
 mod alarms;
-mod bulk;
 mod dropped;
 mod notices;
 mod sets;
 mod short;
-mod sizes;
 mod walk;
 
 // The elements of the two communities.
@@ -34,8 +32,6 @@ const NEXT: &str = "a1";
 const RESPONSE: &str = "a2";
 
 const SET: &str = "a3";
-
-const BULK: &str = "a5";
 
 const NULL: &str = "0500";
 
@@ -123,16 +119,6 @@ fn bindings(alloc: Global, all: &[(&str, &str)]) -> Result<String, Fail> {
     let mut list = String::new(alloc);
     for (name, value) in all {
         list.push_str(&binding(alloc, name, value)?)?;
-    }
-    Ok(list)
-}
-
-// The same binding so many times.
-fn times(alloc: Global, count: usize, name: &str, value: &str) -> Result<String, Fail> {
-    let one = binding(alloc, name, value)?;
-    let mut list = String::new(alloc);
-    for _ in 0..count {
-        list.push_str(&one)?;
     }
     Ok(list)
 }

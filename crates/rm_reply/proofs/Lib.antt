@@ -6,3 +6,4 @@ pub mod SetLemmas
 pub mod Verdicts
 pub mod OneReply
 pub mod EveryReply
+pub mod ReadLemmas

@@ -4,4 +4,4 @@ use Rattle.rm_agent.proofs.laws.every_reply.Goals as goal
 
 pub returns : goal.returns
 returns c settings journal now datagram request verdict answered =
-    c.request_has_reply.ensures (counting_by settings) journal now (may_write settings request.community) request verdict.2 (answered_short settings request answered)
+    c.every_reply.ensures (counting_by settings) journal now (may_write settings request.community) request verdict.2 (answered_short settings request answered)

@@ -9,8 +9,8 @@ use Rattle.rm_reply.specs.Responses.{IsReplyBy}
 use Rattle.rm_agent.specs.Answers.{reason_for}
 use Rattle.rm_agent.proofs.Written.{written}
 use Rattle.rm_agent.proofs.CountLemmas.{same_count}
-use Rattle.rm_agent.proofs.ReadLemmas.{read_one}
 use Rattle.rm_agent.proofs.ChannelLemmas.{reply_makes_none}
+use Rattle.rm_reply.proofs.ReadLemmas.{read_one}
 use Rattle.rm_agent.proofs.RepliesOrderly.{reply_orderly}
 use Rattle.rm_agent.proofs.agent.Agent.answer.Goals as goal
 
