@@ -35,7 +35,7 @@ use Rattle.rm_pdu.specs.declared.kind.Kind.TheVariants.{Trap}
 use Rattle.rm_agent.specs.declared.sampling.Taken.{Taken}
 use Rattle.rm_agent.specs.declared.told.Told.{Told}
 use Rattle.rm_agent.specs.declared.trap.AlarmTrap.{AlarmTrap}
-use Rattle.rm_agent.specs.Groups.{Groups}
+use Rattle.rm_agent.specs.Members.{Groups, alarms_of}
 use Rattle.rm_agent.specs.Notices.{up_time_name, trap_name, rising_alarm, falling_alarm, trap_of, is_sent, is_trap, by_no_channel, community_text, trap_bindings, told_bindings, numbered_trap, sent_by, notice_numbered}
 use Rattle.rm_agent.specs.Told.{told_of, stated_bindings, stated_trap, IsTaken}
 use Rattle.rm_agent.proofs.DueLemmas.{valid_if_due}
@@ -247,7 +247,7 @@ module _ (settings : Counting) (journal : Journal) (moment alarm : ℕ) (groups 
           → told ≡ told_of settings after alarm trap.threshold_column → draft ≡ drafted (stated_trap community id moment alarm trap told)
           → ◌≡◌ {A = Option Drafted} (Some draft) (option_map drafted (notice_numbered settings number act journal))
       made community id told draft text numbered tells_this drafted_so =
-          let bindings = ap (stated_bindings moment alarm trap) tells_this ∙ tells groups.second.second.alarms settings after alarm is.stands.1.1.stand valid moment taken.comes trap crossed in
+          let bindings = ap (stated_bindings moment alarm trap) tells_this ∙ tells (alarms_of groups) settings after alarm is.stands.1.1.stand valid moment taken.comes trap crossed in
           let same : stated_trap community id moment alarm trap told ≡ message_for number trap =
           λ d. record { community = text d; kind = Trap; id = pos (sym numbered d); first = pos 0; second = pos 0; bindings = bindings d } in
           ap Some (drafted_so ∙ ap drafted same) ∙ sym (ap (option_map drafted) the_notice)

@@ -11,6 +11,7 @@ use Rattle.rm_pdu.specs.Message.{Message, message_octets}
 use Rattle.rm_agent.specs.declared.settings.Settings.{Settings}
 use Rattle.rm_agent.specs.declared.agent.Agent.{Agent}
 use Rattle.rm_agent.specs.Known.{counting_by}
+use Rattle.rm_agent.specs.Members.{alarms_of}
 use Rattle.rm_agent.specs.Groups.{GroupsStand}
 use Rattle.rm_agent.specs.Notices.{count_notices, notice_of}
 use Rattle.rm_agent.specs.Orderly.{IsOrderly}
@@ -38,7 +39,7 @@ pub record Stands (agent : Agent) (journal : Journal) : Type 0 where
 
 -- when the next sample of each alarm is due, in milliseconds
 abbrev pub due_of_agent : Agent → ℕ → Option ℕ
-due_of_agent agent alarm = due_in agent.groups.second.second.alarms alarm
+due_of_agent agent alarm = due_in (alarms_of agent.groups) alarm
 
 -- the moment of the sample that is taken next, by when those of the alarms are due
 abbrev pub IsNextMoment : (ℕ → Option ℕ) → Option ℕ → Type 0
@@ -46,7 +47,7 @@ IsNextMoment due moment = (next : Option (ℕ × ℕ)) × IsNextDue due next × 
 
 -- no more samples than this are due up to a moment
 abbrev pub samples_left_of : Agent → ℕ → ℕ
-samples_left_of agent latest = samples_left agent.groups.second.second.alarms latest
+samples_left_of agent latest = samples_left (alarms_of agent.groups) latest
 
 -- the sample that an alarm takes at a moment after a journal
 abbrev pub sample_of : Settings → Journal → (moment alarm : ℕ) → Act

@@ -1,3 +1,4 @@
+pub mod Members
 pub mod Watched
 pub mod Known
 pub mod Groups

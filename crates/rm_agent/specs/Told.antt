@@ -17,7 +17,8 @@ use Rattle.rm_pdu.specs.declared.kind.Kind.TheVariants.{Trap}
 use Rattle.rm_agent.specs.declared.sampling.Taken.{Taken}
 use Rattle.rm_agent.specs.declared.told.Told.{Told}
 use Rattle.rm_agent.specs.declared.trap.AlarmTrap.{AlarmTrap}
-use Rattle.rm_agent.specs.Groups.{Groups, GroupsStand}
+use Rattle.rm_agent.specs.Members.{Groups}
+use Rattle.rm_agent.specs.Groups.{GroupsStand}
 use Rattle.rm_agent.specs.Notices.{trap_bindings}
 
 -- what a trap tells of an alarm after a journal, by the column with the threshold that was crossed

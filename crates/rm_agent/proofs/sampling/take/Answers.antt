@@ -6,7 +6,6 @@ use Rattle.rm_acts.specs.Fired.{by_sample}
 use Rattle.rm_acts.specs.declared.sampled.Sampled.{Sampled}
 use Rattle.rm_alarm.specs.Watched.{number_read}
 use Rattle.rm_event.specs.EventTable.{event_state, type_of}
-use Rattle.rm_agent.specs.Groups.{WatchedStand}
 use Rattle.rm_agent.specs.Notices.{trap_of}
 use Rattle.rm_agent.specs.Told.{firings_by}
 use Rattle.rm_agent.proofs.DueLemmas.{valid_if_due}

@@ -1,0 +1,161 @@
+-- The groups of objects that the agent answers for: the system group, the events, etherStats, the history, and the alarms that
+-- sample variables of these two. What holds of a group is a record; two groups are one, and their record is made of both.
+use Rattle.std.specs.Prelude.{◌||◌, ◌⊎◌, ℕ, List, Bool, max, Option, None}
+use Rattle.std.specs.Option.{option_or}
+use Rattle.rm_val.specs.Val.{Val}
+use Rattle.rm_val.specs.declared.error.ErrorStatus.{ErrorStatus}
+use Rattle.rm_model.specs.Settings.{Settings}
+use Rattle.rm_model.specs.Journal.{Journal}
+use Rattle.rm_acts.specs.Alarms.{alarm_entry, alarm_table}
+use Rattle.rm_model.specs.Cells.{Cells, cells_of, is_of_column}
+use Rattle.rm_model.specs.ControlRows.{no_rows}
+use Rattle.rm_model.specs.Judgement.{Bindings, second_pass, rows_after}
+use Rattle.rm_model.specs.Reserves.{Reserves as ReservesRow}
+use Rattle.rm_status.specs.Alone.{read_only}
+use Rattle.rm_status.specs.System.{system_entry, system_columns, system_table}
+use Rattle.rm_status.specs.declared.both.Both.{Both}
+use Rattle.rm_status.specs.declared.system.System.{System}
+use Rattle.rm_ether.specs.Columns.{ether_columns}
+use Rattle.rm_ether.specs.EtherStats.{ether_entry, ether_stats, ether_beginning, ether_table}
+use Rattle.rm_ether.specs.Group.{Stands as EtherStands, frames_given as ether_frames, last_given as ether_last, ether_alone}
+use Rattle.rm_ether.specs.declared.ether.Ether.{Ether}
+use Rattle.rm_history.specs.HistoryControl.{history_control, control_table}
+use Rattle.rm_history.specs.EtherHistory.{sample_table}
+use Rattle.rm_history.specs.Group.{Stands as HistoryStands, IsStocked as IsHistoryStocked, frames_given as history_frames, last_given as history_last, history_alone, history_objects}
+use Rattle.rm_history.specs.declared.history.History.{History}
+use Rattle.rm_alarm.specs.AlarmTable.{alarm_columns, alarms_table}
+use Rattle.rm_alarm.specs.Group.{alarm_alone, alarm_together}
+use Rattle.rm_alarm.specs.Watched.{AreWatched}
+use Rattle.rm_alarm.specs.declared.alarms.Alarms.{Alarms}
+use Rattle.rm_alarm.specs.declared.watched.Watched.{Watched}
+use Rattle.rm_event.specs.EventTable.{event_table}
+use Rattle.rm_event.specs.Group.{event_cells, event_objects, event_alone, IsStocked as IsEventStocked}
+use Rattle.rm_event.specs.Standing.{Stands as EventsStand}
+use Rattle.rm_event.specs.declared.events.Events.{Events}
+
+-- The groups as they stand in one another: a pair is a group, and so are the alarms over the groups whose variables they sample.
+abbrev pub Sources : Type 0
+Sources = Both Ether History
+
+abbrev pub Groups : Type 0
+Groups = Both System (Both Events (Watched Sources))
+
+-- each group by its name, and the alarms with the groups whose variables they sample
+abbrev pub events_of : Groups → Events
+events_of groups = groups.second.first
+
+abbrev pub watched_of : Groups → Watched Sources
+watched_of groups = groups.second.second
+
+abbrev pub alarms_of : Groups → Alarms
+alarms_of groups = (watched_of groups).alarms
+
+-- A group of objects: what it keeps, and what it answers and refuses after a journal, by what the probe was set to.
+pub record OfObjects (Keeps : Type 0) : Type 1 where
+  -- what it keeps is what the journal gives
+  pub stands : Keeps → Settings → Journal → Type 0
+  -- the least moment at which it may be given a Set, in milliseconds
+  pub clock : Keeps → ℕ
+  -- how many frames it was given
+  pub frames : Keeps → ℕ
+  -- it has the storage of one row of each of its tables whose rows take storage
+  pub stocked : Keeps → Type 0
+  -- its variables that have a value, at a moment in milliseconds
+  pub cells : Settings → Journal → ℕ → Cells
+  -- whether a name begins with the identifier of one of its objects
+  pub objects : List ℕ → Bool
+  -- what is wrong with a binding alone
+  pub alone : List ℕ → Val → Option ErrorStatus
+  -- what is wrong with the binding at a place together with the others of its row, at a moment in milliseconds
+  pub together : Settings → Journal → ℕ → Bindings → ℕ → Option ErrorStatus
+  -- there may be no memory for the row that the binding with that number, from 1, makes valid
+  pub reserves : Journal → Bindings → ℕ → Type 0
+
+-- Two groups as one. Where both have a variable of a name, or find something wrong with a binding, the first one's counts.
+abbrev pub both : {One Other : Type 0} → OfObjects One → OfObjects Other → OfObjects (Both One Other)
+both one other = record {
+  stands = λ keeps settings journal. one.stands keeps.first settings journal × other.stands keeps.second settings journal;
+  clock = λ keeps. max (one.clock keeps.first) (other.clock keeps.second);
+  frames = λ keeps. max (one.frames keeps.first) (other.frames keeps.second);
+  stocked = λ keeps. one.stocked keeps.first × other.stocked keeps.second;
+  cells = λ settings journal now name. option_or (one.cells settings journal now name) (other.cells settings journal now name);
+  objects = λ name. one.objects name || other.objects name;
+  alone = λ name value. option_or (one.alone name value) (other.alone name value);
+  together = λ settings journal now bindings place. option_or (one.together settings journal now bindings place) (other.together settings journal now bindings place);
+  reserves = λ journal bindings index. one.reserves journal bindings index ⊎ other.reserves journal bindings index;
+}
+
+-- A group and the alarms that sample its variables. An alarm that becomes valid is judged by what its variable reads then.
+abbrev pub with_alarms : {Keeps : Type 0} → OfObjects Keeps → OfObjects (Watched Keeps)
+with_alarms group = record {
+  stands = λ keeps settings journal. AreWatched group.cells (group.stands keeps.watched settings journal) keeps.alarms settings journal;
+  clock = λ keeps. group.clock keeps.watched;
+  frames = λ keeps. group.frames keeps.watched;
+  stocked = λ keeps. group.stocked keeps.watched;
+  cells = λ settings journal now name. option_or (group.cells settings journal now name) (cells_of (alarms_table settings journal) name);
+  objects = λ name. group.objects name || is_of_column alarm_entry alarm_columns name;
+  alone = λ name value. option_or (group.alone name value) (alarm_alone name value);
+  together = λ settings journal now bindings place.
+      option_or (group.together settings journal now bindings place) (alarm_together (settings.readings journal now) (rows_after alarm_table no_rows journal) bindings place);
+  reserves = group.reserves;
+}
+
+abbrev pub system : OfObjects System
+system = record {
+  stands = λ keeps settings journal. Unit {0};
+  clock = λ keeps. 0;
+  frames = λ keeps. 0;
+  stocked = λ keeps. Unit {0};
+  cells = λ settings journal now. cells_of (system_table now);
+  objects = is_of_column system_entry system_columns;
+  alone = read_only (is_of_column system_entry system_columns);
+  together = λ settings journal now bindings place. None;
+  reserves = λ journal bindings index. ⊥;
+}
+
+abbrev pub events : OfObjects Events
+events = record {
+  stands = EventsStand;
+  clock = λ keeps. 0;
+  frames = λ keeps. 0;
+  stocked = IsEventStocked;
+  cells = λ settings journal now. event_cells settings journal;
+  objects = event_objects;
+  alone = event_alone;
+  together = λ settings journal now. second_pass event_table (rows_after event_table no_rows journal);
+  reserves = λ journal. ReservesRow event_table (rows_after event_table no_rows journal);
+}
+
+abbrev pub ether : OfObjects Ether
+ether = record {
+  stands = EtherStands;
+  clock = ether_last;
+  frames = ether_frames;
+  stocked = λ keeps. Unit {0};
+  cells = λ settings journal now. cells_of (ether_table settings journal);
+  objects = is_of_column ether_entry ether_columns;
+  alone = ether_alone;
+  together = λ settings journal now. second_pass ether_stats (rows_after ether_stats ether_beginning journal);
+  reserves = λ journal bindings index. ⊥;
+}
+
+abbrev pub history : OfObjects History
+history = record {
+  stands = HistoryStands;
+  clock = history_last;
+  frames = history_frames;
+  stocked = IsHistoryStocked;
+  cells = λ settings journal now name. option_or (cells_of (control_table journal) name) (cells_of (sample_table settings journal now) name);
+  objects = history_objects;
+  alone = history_alone;
+  together = λ settings journal now. second_pass history_control (rows_after history_control no_rows journal);
+  reserves = λ journal. ReservesRow history_control (rows_after history_control no_rows journal);
+}
+
+-- those whose variables alarms may sample
+abbrev pub sources : OfObjects Sources
+sources = both ether history
+
+-- all groups as one
+abbrev pub all_groups : OfObjects Groups
+all_groups = both system (both events (with_alarms sources))
