@@ -201,9 +201,9 @@ module _ (settings : Counting) (journal : Journal) (moment alarm : ℕ) (groups 
       (sym (the_notice_of number ∙ by_test (is_valid (event_state journal (event ∷ []))) (trap_of taken.comes) (sym sending ∙ quiet)))
     where
       by_test : (t : Bool) (trap : Option AlarmTrap) → (t && is_sent (type_of journal event)) ≡ false → sent_by settings act journal moment alarm number (cond t (Some firing) None) trap ≡ None
-      by_test false trap no = refl
-      by_test true None no = refl
-      by_test true (Some trap) no = ap (λ (b : Bool). cond b (Some (message_for number trap)) None) no
+      by_test false trap _ = refl
+      by_test true None _ = refl
+      by_test true (Some trap) none = ap (λ (b : Bool). cond b (Some (message_for number trap)) None) none
 
   pub not_asked : (number : ℕ) → trap_of taken.comes ≡ None → ◌≡◌ {A = Option Drafted} None (option_map drafted (notice_numbered settings number act journal))
   not_asked number none =

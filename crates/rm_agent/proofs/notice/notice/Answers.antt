@@ -1,19 +1,23 @@
 use Rattle.std.proofs.Common.{◌∷◌, sym, ◌∙◌, arith}
 use Rattle.rm_model.specs.Journal.{samples}
 use Rattle.rm_alarm.specs.Watched.{number_read}
-use Rattle.rm_agent.proofs.NoticeLemmas.{some_event, some_community, community_is, valid, made}
+use Rattle.rm_agent.proofs.NoticeLemmas.{not_sent, not_asked, some_community, community_is, valid, made}
 use Rattle.rm_agent.proofs.notice.notice.Goals as goal
+
+pub returns-then-not-is_trap : goal.returns-then-not-is_trap
+returns-then-not-is_trap c settings journal number is numbered =
+    not_sent settings journal c.args.moment c.args.alarm c.args.groups.now c.args.taken.now is number (sym c.is_trap.ensures ∙ c.if-not-is_trap.true)
+
+pub returns-in_err-trap : goal.returns-in_err-trap
+returns-in_err-trap c settings journal number is numbered =
+    c.from_residual.ensures
+    ∙ not_asked settings journal c.args.moment c.args.alarm c.args.groups.now c.args.taken.now is number (sym c.trap_of.ensures ∙ c.in_err-trap.was)
 
 pub returns-in_err-community : goal.returns-in_err-community
 returns-in_err-community c settings journal number is numbered =
     let after = samples c.args.moment c.args.alarm (number_read settings journal c.args.moment c.args.alarm) ∷ journal in
     let trapped = sym c.is_trap.ensures ∙ c.if-not-is_trap.false in
-    absurd (some_community settings journal c.args.moment c.args.alarm c.args.groups.now c.args.taken.now is trapped c.in_ok-event.event c.in_ok-event.was (c.in_err-community.ensures.value after is.stands.1.0.rows))
-
-pub returns-in_err-event : goal.returns-in_err-event
-returns-in_err-event c settings journal number is numbered =
-    let trapped = sym c.is_trap.ensures ∙ c.if-not-is_trap.false in
-    absurd (some_event settings journal c.args.moment c.args.alarm c.args.groups.now c.args.taken.now is trapped c.in_err-event.was)
+    absurd (some_community settings journal c.args.moment c.args.alarm c.args.groups.now c.args.taken.now is trapped (c.in_err-community.ensures.value after is.stands.1.0.rows))
 
 pub returns : goal.returns
 returns c settings journal number is numbered =
@@ -21,8 +25,8 @@ returns c settings journal number is numbered =
     let trapped = sym c.is_trap.ensures ∙ c.if-not-is_trap.false in
     let trap = c.in_ok-trap.trap in
     let crossed = sym c.trap_of.ensures ∙ c.in_ok-trap.was in
-    let community = community_is settings journal c.args.moment c.args.alarm c.args.groups.now c.args.taken.now is trapped c.in_ok-event.event c.in_ok-event.was c.in_ok-community.community.now (c.in_ok-community.ensures.value after is.stands.1.0.rows) in
-    let valid = valid settings journal c.args.moment c.args.alarm c.args.groups.now c.args.taken.now is trapped c.in_ok-event.event c.in_ok-event.was number trap crossed in
+    let community = community_is settings journal c.args.moment c.args.alarm c.args.groups.now c.args.taken.now is trapped c.in_ok-community.community.now (c.in_ok-community.ensures.value after is.stands.1.0.rows) in
+    let valid = valid settings journal c.args.moment c.args.alarm c.args.groups.now c.args.taken.now is trapped number trap crossed in
     let told = c.of-told.ensures.told settings after is.stands.1.1.stand (omega arith) valid in
-    made settings journal c.args.moment c.args.alarm c.args.groups.now c.args.taken.now is trapped c.in_ok-event.event c.in_ok-event.was number trap crossed c.in_ok-community.community.now c.args.id c.of-told.result c.draft_of.result
+    made settings journal c.args.moment c.args.alarm c.args.groups.now c.args.taken.now is trapped number trap crossed c.in_ok-community.community.now c.args.id c.of-told.result c.draft_of.result
     community numbered told c.draft_of.ensures
