@@ -4,26 +4,20 @@ ghost use Rattle.std.specs.Option.{option_map};
 ghost use Rattle.rm_agent.specs.Groups.{AreStocked, clock_of, frames_of};
 
 use crate::answer::{Answer, Reason};
+use crate::groups::{Groups, all_groups, next_due};
 use crate::notice::notice;
 use crate::sampling::take;
 use crate::settings::Settings;
-use rm_alarm::{Alarms, Watched, reads_cells};
-use rm_ether::Ether;
-use rm_event::Events;
-use rm_history::History;
 use rm_pcap::Frame;
 use rm_pdu::{Bindings, read_message};
 use rm_proto::facts;
 use rm_reply::{MOST_REPLY, Request, respond};
-use rm_status::{Both, MOST_FRAMES, Passing, System, pass_whole};
+use rm_status::{MOST_FRAMES, Passing, pass_whole};
 use rm_val::NoMemory;
 use std::alloc::Global;
 
 // How many request-ids notifications have: they are numbers of 31 bits.
 const REQUEST_IDS: u32 = 0x8000_0000;
-
-/// The groups of objects that the agent answers for, one behind the other.
-pub(crate) type Groups = Both<System, Both<Events, Watched<Both<Ether, History>>>>;
 
 /// The agent: what it was set to, and the groups of objects that it answers for.
 #[derive(Drop)]
@@ -59,26 +53,9 @@ impl Agent {
         ensures last { IfOk result (λ agent. last_given agent ≡ 0) }
         ensures frames { IfOk result (λ agent. frames_given agent ≡ 0) }
     {
-        reads_cells::<Both<Ether, History>>();
-        let mut events = Events::new();
-        events.reserve(alloc)?;
-        let mut history = History::new();
-        history.reserve(alloc)?;
         Ok(Agent {
             settings,
-            groups: Both {
-                first: System,
-                second: Both {
-                    first: events,
-                    second: Watched {
-                        watched: Both {
-                            first: Ether::new(),
-                            second: history,
-                        },
-                        alarms: Alarms::new(),
-                    },
-                },
-            },
+            groups: all_groups(alloc)?,
             last: 0,
             frames: 0,
             notices: 0,
@@ -157,7 +134,7 @@ impl Agent {
         ensures none { (journal : Journal) (to : ℕ) → Stands self.now journal → IfSome result (λ moment. to < moment)
             → NoneIsDue to journal }
     {
-        moment_of(self.groups.second.second.next_due())
+        moment_of(next_due(&self.groups))
     }
 
     /// Takes the sample of an alarm that comes next, which is due at this moment, in milliseconds, and fires its event. Of several
@@ -188,7 +165,7 @@ impl Agent {
         ensures next { IsNextDue (due_of_agent self.now) (Some (moment, result)) }
         ensures journal { (journal : Journal) → Stands self.now journal → IsNextDue (due_of journal) (Some (moment, result)) }
     {
-        let (_moment, alarm) = self.groups.second.second.next_due().unwrap();
+        let (_moment, alarm) = next_due(&self.groups).unwrap();
         alarm
     }
 }

@@ -10,7 +10,7 @@ ghost use Rattle.rm_agent.specs.Groups.{Reserves};
 ghost use Rattle.rm_agent.specs.Orderly.{NoneIsDue, IsOrderly};
 ghost use Rattle.rm_agent.specs.Advance.{Notification, IsAdvanced};
 
-use crate::agent::Groups;
+use crate::groups::Groups;
 use rm_pdu::Kind;
 use rm_reply::{every_reply as request_has_reply, one_reply as reply_is_one};
 

@@ -3,6 +3,7 @@
 
 mod agent;
 mod answer;
+mod groups;
 mod laws;
 mod notice;
 mod sampling;

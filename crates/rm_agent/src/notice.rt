@@ -9,7 +9,7 @@ ghost use Rattle.rm_pdu.specs.Draft.{drafted};
 ghost use Rattle.rm_agent.specs.Notices.{is_trap, notice_numbered, up_time_name, trap_name};
 ghost use Rattle.rm_agent.specs.Told.{IsTaken, stated_trap};
 
-use crate::agent::Groups;
+use crate::groups::Groups;
 use crate::sampling::Taken;
 use crate::told::Told;
 use crate::trap::{AlarmTrap, trap_of};

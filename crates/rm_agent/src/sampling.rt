@@ -13,16 +13,17 @@ ghost use Rattle.rm_alarm.specs.AlarmTable.{alarm_columns, alarm_shown};
 ghost use Rattle.rm_alarm.specs.Group.{due_in};
 ghost use Rattle.rm_alarm.specs.Left.{samples_left};
 ghost use Rattle.rm_alarm.specs.Standing.{Stands as AlarmsStand};
+ghost use Rattle.rm_agent.specs.Members.{alarms_of};
 ghost use Rattle.rm_agent.specs.Groups.{GroupsStand, AreUnderWay, AreStocked, clock_of, frames_of};
 ghost use Rattle.rm_agent.specs.Notices.{trap_of};
 ghost use Rattle.rm_agent.specs.Told.{IsTaken, firings_by};
 
-use crate::agent::Groups;
+use crate::groups::{Groups, alarms, events, sample, take_each};
 use rm_acts::Firing;
 use rm_alarm::column::{FALLING_EVENT_INDEX, RISING_EVENT_INDEX};
 use rm_alarm::{Alarms, Sampled, column_name};
 use rm_event::Fired;
-use rm_status::{Group, natural_in, sample_begins, take_whole};
+use rm_status::{Group, natural_in};
 use rm_val::Value;
 
 /// What a sample came to, the event that it asked for, which is 0 for none, and what became of that event.
@@ -35,19 +36,18 @@ pub(crate) struct Taken {
 
 /// Takes the sample of an alarm that is due at a moment, in milliseconds, and its firing. An event without a valid row doesn't fire.
 pub(crate) fn take(groups: &mut Groups, index: u32, moment: u32) -> Taken
-    requires { due_in groups.old.second.second.alarms index ≡ Some moment }
+    requires { due_in (alarms_of groups.old) index ≡ Some moment }
     ensures taken { (settings : Settings) (journal : Journal) → GroupsStand groups.old settings journal → last_moment journal ≤ moment
         → due_of journal index ≡ Some moment → IsTaken settings journal moment index groups.new result }
     ensures clock { clock_of groups.new ≡ clock_of groups.old }
     ensures frames { frames_of groups.new ≡ frames_of groups.old }
     ensures stocked { AreStocked groups.old → AreStocked groups.new }
     ensures fewer { (latest : ℕ) → moment ≤ latest
-        → samples_left groups.new.second.second.alarms latest < samples_left groups.old.second.second.alarms latest }
+        → samples_left (alarms_of groups.new) latest < samples_left (alarms_of groups.old) latest }
 {
-    sample_begins(&groups.second.first, moment);
-    let comes = groups.second.second.sample(index, moment);
-    let event = event_asked(&groups.second.second.alarms, index, moment, comes);
-    let fired = groups.second.first.becomes(event);
+    let comes = sample(groups, index, moment);
+    let event = event_asked(alarms(groups), index, moment, comes);
+    let fired = events(groups).becomes(event);
     take_firing(groups, event, fired, moment);
     Taken {
         comes,
@@ -63,7 +63,7 @@ fn take_firing(groups: &mut Groups, event: u32, fired: Fired, moment: u32)
     ensures clock { clock_of groups.new ≡ clock_of groups.old }
     ensures frames { frames_of groups.new ≡ frames_of groups.old }
     ensures stocked { AreStocked groups.old → AreStocked groups.new }
-    ensures alarms { groups.new.second.second.alarms ≡ groups.old.second.second.alarms }
+    ensures alarms { alarms_of groups.new ≡ alarms_of groups.old }
 {
     let firing = Firing {
         event,
@@ -73,19 +73,6 @@ fn take_firing(groups: &mut Groups, event: u32, fired: Fired, moment: u32)
         Fired::Absent => take_each(groups, &[], moment),
         _ => take_each(groups, &[firing], moment),
     }
-}
-
-// Takes the firings of an act that is under way at a moment, in milliseconds.
-fn take_each(groups: &mut Groups, firings: &[Firing], moment: u32)
-    ensures stands { (settings : Settings) (act : Act) (earlier : Journal) → moment_of act ≡ moment → AreUnderWay groups.old settings act earlier
-        → firings.now ≡ act_fires settings act earlier (all_fired settings earlier) → GroupsStand groups.new settings (act ∷ earlier) }
-    ensures clock { clock_of groups.new ≡ clock_of groups.old }
-    ensures frames { frames_of groups.new ≡ frames_of groups.old }
-    ensures stocked { AreStocked groups.old → AreStocked groups.new }
-    ensures alarms { groups.new.second.second.alarms ≡ groups.old.second.second.alarms }
-{
-    take_whole(&mut groups.second.first, firings, moment);
-    take_whole(&mut groups.second.second.watched, firings, moment);
 }
 
 /// What a column of a valid alarm shows at a moment in milliseconds.

@@ -5,6 +5,10 @@ use Rattle.rm_acts.specs.Events.{event_asked}
 use Rattle.rm_acts.specs.Fired.{by_sample}
 use Rattle.rm_acts.specs.declared.sampled.Sampled.{Sampled}
 use Rattle.rm_alarm.specs.Watched.{number_read}
+use Rattle.rm_alarm.specs.Standing.{Stands as AlarmsStand}
+use Rattle.rm_alarm.specs.declared.alarms.Alarms.{Alarms}
+use Rattle.rm_event.specs.Standing.{HasRows}
+use Rattle.rm_event.specs.declared.events.Events.{Events}
 use Rattle.rm_event.specs.EventTable.{event_state, type_of}
 use Rattle.rm_agent.specs.Notices.{trap_of}
 use Rattle.rm_agent.specs.Told.{firings_by}
@@ -18,21 +22,22 @@ returns-clause-taken c settings journal stands later due =
     let moment = c.args.moment in
     let reading = number_read settings journal moment index in
     let act : Act = samples moment index reading in
-    let comes = c.sample-comes.ensures.result settings journal stands.1.1 later in
-    let watched = c.sample-comes.ensures.under_way settings journal stands.1.1 later in
+    let comes = c.sample-comes.ensures.result settings journal stands later in
+    let under = c.sample-comes.ensures.under_way settings journal stands later in
+    let stand : AlarmsStand c.alarms.result.now settings (act ∷ journal) = subst (λ (a : Alarms). AlarmsStand a settings (act ∷ journal)) (sym c.alarms.ensures) under.1.stand in
+    let rows : HasRows c.events.result.now journal = subst (λ (e : Events). HasRows e journal) (sym (c.events.ensures ∙ c.sample-comes.ensures.events)) stands.1.0.rows in
     let event : c.event_asked-event.result ≡ event_asked journal index c.sample-comes.result =
-    c.event_asked-event.ensures settings (act ∷ journal) watched.stand (omega arith)
+    c.event_asked-event.ensures settings (act ∷ journal) stand (omega arith)
     (λ crossing. valid_after settings journal moment index reading (valid_if_due journal index moment due) (ap (λ (s : Sampled). is_some (trap_of s)) (sym comes) ∙ crossing))
     ∙ same_event journal moment index reading c.sample-comes.result in
-    let becomes = c.becomes-fired.ensures journal stands.1.0.rows in
+    let becomes = c.becomes-fired.ensures journal rows in
     let fires : firings_by c.event_asked-event.result c.becomes-fired.result ≡ by_sample journal (event_asked journal index c.sample-comes.result) =
     ap (firings_by c.event_asked-event.result) becomes
     ∙ fires_so (event_state journal (c.event_asked-event.result ∷ [])) (type_of journal c.event_asked-event.result) c.event_asked-event.result
     ∙ ap (by_sample journal) event in
     record {
       due = due;
-      stands = c.take_firing.ensures.stands settings act journal refl
-          (c.sample_begins.ensures settings journal index reading stands.1.0 later, watched)
+      stands = c.take_firing.ensures.stands settings act journal refl under
           (fires ∙ ap (λ (s : Sampled). by_sample journal (event_asked journal index s)) comes);
       comes = comes;
       event = event;

@@ -8,4 +8,4 @@ use Rattle.rm_agent.proofs.agent.Agent.due_alarm.Goals as goal
 pub returns-clause-journal : goal.returns-clause-journal
 returns-clause-journal c journal stands =
     let whole = next_is (due_of_agent c.args.self.now) c.next_due.result c.unwrap-moment.result c.args.moment c.requires c.next_due.ensures.next c.unwrap-moment.ensures in
-    subst (λ (next : Option (ℕ × ℕ)). IsNextDue (due_of journal) next) whole (c.next_due.ensures.journal (counting_by c.args.self.now.settings) journal stands.groups.1.1)
+    subst (λ (next : Option (ℕ × ℕ)). IsNextDue (due_of journal) next) whole (c.next_due.ensures.journal (counting_by c.args.self.now.settings) journal stands.groups)

@@ -9,9 +9,9 @@ returns-clause-next c = (c.next_due.result, c.next_due.ensures.next, c.moment_of
 
 pub returns-clause-journal : goal.returns-clause-journal
 returns-clause-journal c journal stands =
-    (c.next_due.result, c.next_due.ensures.journal (counting_by c.args.self.now.settings) journal stands.groups.1.1, c.moment_of.ensures)
+    (c.next_due.result, c.next_due.ensures.journal (counting_by c.args.self.now.settings) journal stands.groups, c.moment_of.ensures)
 
 pub returns-clause-none : goal.returns-clause-none
 returns-clause-none c journal to stands later =
-    none_until to journal c.next_due.result (c.next_due.ensures.journal (counting_by c.args.self.now.settings) journal stands.groups.1.1)
+    none_until to journal c.next_due.result (c.next_due.ensures.journal (counting_by c.args.self.now.settings) journal stands.groups)
     (subst (λ (moment : Option ℕ). IfSome moment (λ at. to < at)) c.moment_of.ensures later)

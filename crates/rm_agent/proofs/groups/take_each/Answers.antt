@@ -1,4 +1,4 @@
-use Rattle.rm_agent.proofs.sampling.take_each.Goals as goal
+use Rattle.rm_agent.proofs.groups.take_each.Goals as goal
 
 pub returns-clause-stands : goal.returns-clause-stands
 returns-clause-stands c settings act earlier at under all = (

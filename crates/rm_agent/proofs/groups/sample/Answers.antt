@@ -1,0 +1,13 @@
+use Rattle.rm_alarm.specs.Watched.{number_read}
+use Rattle.rm_agent.proofs.groups.sample.Goals as goal
+
+pub returns-clause-under_way : goal.returns-clause-under_way
+returns-clause-under_way c settings journal stands later =
+    let index = c.args.index in
+    let moment = c.args.moment in (
+      c.sample_begins.ensures settings journal index (number_read settings journal moment index) stands.1.0 later,
+      c.sample.ensures.under_way settings journal stands.1.1 later,
+    )
+
+pub returns-clause-result : goal.returns-clause-result
+returns-clause-result c settings journal stands later = c.sample.ensures.result settings journal stands.1.1 later

@@ -1,0 +1,109 @@
+// The groups of objects that the agent answers for. Only here is it said how they stand in one another.
+ghost use Rattle.std.specs.Prelude.{◌≡◌, ℕ, ◌≤◌, ◌<◌, [], ◌∷◌, Bool, Some, IfOk};
+ghost use Rattle.rm_model.specs.Settings.{Settings};
+ghost use Rattle.rm_model.specs.Journal.{Act, Journal, samples, moment_of, last_moment};
+ghost use Rattle.rm_acts.specs.Alarms.{due_of, IsNextDue, sampled};
+ghost use Rattle.rm_acts.specs.Fired.{act_fires, fired};
+ghost use Rattle.rm_acts.specs.Recurring.{sampling};
+ghost use Rattle.rm_alarm.specs.Group.{due_in};
+ghost use Rattle.rm_alarm.specs.Left.{samples_left};
+ghost use Rattle.rm_alarm.specs.Watched.{number_read};
+ghost use Rattle.rm_agent.specs.Members.{events_of, alarms_of};
+ghost use Rattle.rm_agent.specs.Watched.{watched_cells};
+ghost use Rattle.rm_agent.specs.Groups.{GroupsStand, AreUnderWay, AreStocked, clock_of, frames_of};
+
+use rm_acts::Firing;
+use rm_alarm::{Alarms, Sampled, Watched, reads_cells};
+use rm_ether::Ether;
+use rm_event::Events;
+use rm_history::History;
+use rm_status::{Both, System, sample_begins, take_whole};
+use rm_val::NoMemory;
+use std::alloc::Global;
+
+/// All groups of objects that the agent answers for.
+pub(crate) type Groups = Both<System, Both<Events, Watched<Sources>>>;
+
+/// The groups whose variables alarms may sample.
+type Sources = Both<Ether, History>;
+
+/// The groups before the first act. They take the storage of one row of each table whose rows take storage while they are valid.
+/// NoMemory where there is none.
+pub(crate) fn all_groups(alloc: Global) -> Result<Groups, NoMemory>
+    ensures stands { IfOk result (λ groups. (keep_short : Bool) → GroupsStand groups (sampling watched_cells keep_short) []) }
+    ensures clock { IfOk result (λ groups. clock_of groups ≡ 0) }
+    ensures frames { IfOk result (λ groups. frames_of groups ≡ 0) }
+    ensures stocked { IfOk result (λ groups. AreStocked groups) }
+{
+    reads_cells::<Sources>();
+    let mut events = Events::new();
+    events.reserve(alloc)?;
+    let mut history = History::new();
+    history.reserve(alloc)?;
+    Ok(Both {
+        first: System,
+        second: Both {
+            first: events,
+            second: Watched {
+                watched: Both {
+                    first: Ether::new(),
+                    second: history,
+                },
+                alarms: Alarms::new(),
+            },
+        },
+    })
+}
+
+/// The events.
+pub(crate) fn events(groups: &Groups) -> &Events
+    ensures { result.now ≡ events_of groups.now }
+{
+    &groups.second.first
+}
+
+/// The alarms.
+pub(crate) fn alarms(groups: &Groups) -> &Alarms
+    ensures { result.now ≡ alarms_of groups.now }
+{
+    &groups.second.second.alarms
+}
+
+/// The sample that is taken next: its moment, in milliseconds, and the number of the alarm. None where no alarm is valid.
+pub(crate) fn next_due(groups: &Groups) -> Option<(u64, u32)>
+    ensures next { IsNextDue (due_in (alarms_of groups.now)) result }
+    ensures journal { (settings : Settings) (journal : Journal) → GroupsStand groups.now settings journal → IsNextDue (due_of journal) result }
+{
+    groups.second.second.next_due()
+}
+
+/// Takes the sample of an alarm that is due at a moment, in milliseconds, and tells what it comes to. All groups are then in that
+/// act, and its firings are to be taken.
+pub(crate) fn sample(groups: &mut Groups, index: u32, moment: u32) -> Sampled
+    requires { due_in (alarms_of groups.old) index ≡ Some moment }
+    ensures under_way { (settings : Settings) (journal : Journal) → GroupsStand groups.old settings journal → last_moment journal ≤ moment
+        → AreUnderWay groups.new settings (samples moment index (number_read settings journal moment index)) journal }
+    ensures result { (settings : Settings) (journal : Journal) → GroupsStand groups.old settings journal → last_moment journal ≤ moment
+        → result ≡ sampled settings journal moment index (number_read settings journal moment index) }
+    ensures events { events_of groups.new ≡ events_of groups.old }
+    ensures clock { clock_of groups.new ≡ clock_of groups.old }
+    ensures frames { frames_of groups.new ≡ frames_of groups.old }
+    ensures stocked { AreStocked groups.old → AreStocked groups.new }
+    ensures fewer { (latest : ℕ) → moment ≤ latest → samples_left (alarms_of groups.new) latest < samples_left (alarms_of groups.old) latest }
+{
+    sample_begins(&groups.second.first, moment);
+    groups.second.second.sample(index, moment)
+}
+
+/// Takes the firings of an act that is under way at a moment, in milliseconds. Alarms take none.
+pub(crate) fn take_each(groups: &mut Groups, firings: &[Firing], moment: u32)
+    ensures stands { (settings : Settings) (act : Act) (earlier : Journal) → moment_of act ≡ moment → AreUnderWay groups.old settings act earlier
+        → firings.now ≡ act_fires settings act earlier (fired settings earlier) → GroupsStand groups.new settings (act ∷ earlier) }
+    ensures clock { clock_of groups.new ≡ clock_of groups.old }
+    ensures frames { frames_of groups.new ≡ frames_of groups.old }
+    ensures stocked { AreStocked groups.old → AreStocked groups.new }
+    ensures alarms { alarms_of groups.new ≡ alarms_of groups.old }
+{
+    take_whole(&mut groups.second.first, firings, moment);
+    take_whole(&mut groups.second.second.watched, firings, moment);
+}
