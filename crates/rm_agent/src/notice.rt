@@ -9,7 +9,7 @@ ghost use Rattle.rm_pdu.specs.Draft.{drafted};
 ghost use Rattle.rm_agent.specs.Notices.{is_trap, notice_numbered, up_time_name, trap_name};
 ghost use Rattle.rm_agent.specs.Told.{IsTaken, stated_trap};
 
-use crate::groups::Groups;
+use crate::groups::{Groups, alarms, events};
 use crate::sampling::Taken;
 use crate::told::Told;
 use crate::trap::{AlarmTrap, trap_of};
@@ -36,13 +36,8 @@ pub(crate) fn notice(
         return None;
     }
     let trap = trap_of(taken.comes)?;
-    let community = groups.second.first.community(taken.event)?;
-    let told = Told::of(
-        &groups.second.second.alarms,
-        alarm,
-        trap.threshold_column,
-        moment,
-    );
+    let community = events(groups).community(taken.event)?;
+    let told = Told::of(alarms(groups), alarm, trap.threshold_column, moment);
     Some(draft_of(community, id, moment, alarm, &trap, &told))
 }
 

@@ -1,6 +1,10 @@
-use Rattle.std.proofs.Common.{◌∷◌, sym, ◌∙◌, arith}
+use Rattle.std.proofs.Common.{◌∷◌, sym, subst, ◌∙◌, arith}
 use Rattle.rm_model.specs.Journal.{samples}
 use Rattle.rm_alarm.specs.Watched.{number_read}
+use Rattle.rm_alarm.specs.Standing.{Stands as AlarmsStand}
+use Rattle.rm_alarm.specs.declared.alarms.Alarms.{Alarms}
+use Rattle.rm_event.specs.Standing.{HasRows}
+use Rattle.rm_event.specs.declared.events.Events.{Events}
 use Rattle.rm_agent.proofs.NoticeLemmas.{not_sent, not_asked, some_community, community_is, valid, made}
 use Rattle.rm_agent.proofs.notice.notice.Goals as goal
 
@@ -17,7 +21,8 @@ pub returns-in_err-community : goal.returns-in_err-community
 returns-in_err-community c settings journal number is numbered =
     let after = samples c.args.moment c.args.alarm (number_read settings journal c.args.moment c.args.alarm) ∷ journal in
     let trapped = sym c.is_trap.ensures ∙ c.if-not-is_trap.false in
-    absurd (some_community settings journal c.args.moment c.args.alarm c.args.groups.now c.args.taken.now is trapped (c.in_err-community.ensures.value after is.stands.1.0.rows))
+    let rows : HasRows c.events.result.now after = subst (λ (e : Events). HasRows e after) (sym c.events.ensures) is.stands.1.0.rows in
+    absurd (some_community settings journal c.args.moment c.args.alarm c.args.groups.now c.args.taken.now is trapped (c.in_err-community.ensures.value after rows))
 
 pub returns : goal.returns
 returns c settings journal number is numbered =
@@ -25,8 +30,10 @@ returns c settings journal number is numbered =
     let trapped = sym c.is_trap.ensures ∙ c.if-not-is_trap.false in
     let trap = c.in_ok-trap.trap in
     let crossed = sym c.trap_of.ensures ∙ c.in_ok-trap.was in
-    let community = community_is settings journal c.args.moment c.args.alarm c.args.groups.now c.args.taken.now is trapped c.in_ok-community.community.now (c.in_ok-community.ensures.value after is.stands.1.0.rows) in
+    let rows : HasRows c.events.result.now after = subst (λ (e : Events). HasRows e after) (sym c.events.ensures) is.stands.1.0.rows in
+    let stand : AlarmsStand c.alarms.result.now settings after = subst (λ (a : Alarms). AlarmsStand a settings after) (sym c.alarms.ensures) is.stands.1.1.stand in
+    let community = community_is settings journal c.args.moment c.args.alarm c.args.groups.now c.args.taken.now is trapped c.in_ok-community.community.now (c.in_ok-community.ensures.value after rows) in
     let valid = valid settings journal c.args.moment c.args.alarm c.args.groups.now c.args.taken.now is trapped number trap crossed in
-    let told = c.of-told.ensures.told settings after is.stands.1.1.stand (omega arith) valid in
+    let told = c.of-told.ensures.told settings after stand (omega arith) valid in
     made settings journal c.args.moment c.args.alarm c.args.groups.now c.args.taken.now is trapped number trap crossed c.in_ok-community.community.now c.args.id c.of-told.result c.draft_of.result
     community numbered told c.draft_of.ensures
