@@ -2,21 +2,15 @@
 ghost use Rattle.std.specs.Prelude.{◌≡◌, ◌+◌, ◌≤◌, ◌++◌, List, [], codes, decimal, length};
 ghost use Rattle.hex.specs.Hex.{encode_lower};
 ghost use Rattle.rm_agent.specs.Answers.{IsShort};
-ghost use Rattle.rm_probe.specs.Text.{reason_text, answer_text, last_line};
-ghost use Rattle.rm_probe.specs.Notes.{Note, Sent, trap_line};
-ghost use Rattle.rm_probe.specs.Probe.{settings_of, last_given, frames_given};
-ghost use Rattle.rm_probe.specs.Steps.{Answers, timed};
+ghost use Rattle.rm_probe.specs.Text.{reason_text, answer_text, answer_line, last_line};
+ghost use Rattle.rm_probe.specs.Notes.{trap_line};
 ghost use Rattle.rm_pcap.specs.Records.{Stop, Stops};
 ghost use Rattle.rm_pcap.specs.Progress.{Shows};
 
-use crate::lines::Request;
-use crate::notes::Notes;
-use crate::probe::Probe;
 use arrayvec::ArrayVec;
 use itoa::Buffer;
 use rm_agent::{Answer, MOST_REPLY, Reason};
 use rm_pcap::Step;
-use std::alloc::Global;
 
 /// The octets of a line, its line feed included.
 pub type Line = ArrayVec<u8, 3072>;
@@ -101,30 +95,24 @@ pub fn trap_line(moment: u32, message: &[u8], line: &mut Line)
     push(line, b"\n");
 }
 
-/// Takes the samples that are due up to the moment of a datagram, answers it, and writes its line into an empty line.
-#[tactic(auto, unfolding(crate::specs::Text::IsAnswer))]
-pub fn push_line<N: Notes>(
+/// Writes the line of a datagram into an empty line: the moment in milliseconds at which it comes, its number, and what is
+/// answered, a reply being at the front of `out`.
+pub fn answer_line(
+    moment: u32,
+    number: u64,
+    answer: Answer,
+    out: &[u8; MOST_REPLY],
     line: &mut Line,
-    alloc: Global,
-    probe: &mut Probe,
-    request: Request<'_>,
-    notes: &mut N,
 )
     requires empty { line.old.items ≡ [] }
-    requires later { last_given probe.old ≤ request.moment }
-    ensures answers { (more : List Note) × Sent N.since notes.old notes.new more
-        × Answers probe.old probe.new request.entry.number (timed request.entry) more line.new.items }
-    ensures settings { settings_of probe.new ≡ settings_of probe.old }
-    ensures last { last_given probe.new ≡ request.entry.moment }
-    ensures frames { frames_given probe.new ≡ frames_given probe.old }
+    requires short { IsShort answer }
+    ensures { line.new.items ≡ answer_line moment number (answer_text answer out.now) }
 {
-    push_number(line, u64::from(request.moment));
+    push_number(line, u64::from(moment));
     push(line, b" ");
-    push_number(line, request.number);
+    push_number(line, number);
     push(line, b" ");
-    let mut out = [0; MOST_REPLY];
-    let answer = probe.datagram(alloc, request.datagram, request.moment, &mut out, notes);
-    push_answer(line, answer, &out);
+    push_answer(line, answer, out);
     push(line, b"\n");
 }
 

@@ -8,8 +8,8 @@ ghost use Rattle.rm_pcap.specs.declared.fault.PcapFault.TheVariants.{Read};
 ghost use Rattle.rm_probe.specs.Capture.{IsCapture, IsFaultless};
 ghost use Rattle.rm_probe.specs.Lines.{TimedDatagram, AreRequests, requests_of};
 ghost use Rattle.rm_probe.specs.Notes.{Note, Sent};
-ghost use Rattle.rm_probe.specs.Probe.{settings_of, last_given, IsFresh, Stands};
-ghost use Rattle.rm_probe.specs.Steps.{Advances, Finishes, HasBegun, IsLastLine, IsNextLine, IsOfRecord, Keeps, Leaves, Writes, WritesLine, done, timed};
+ghost use Rattle.rm_probe.specs.Probe.{settings_of, last_given, frames_given, IsFresh, Stands};
+ghost use Rattle.rm_probe.specs.Steps.{Advances, Answers, Finishes, HasBegun, IsLastLine, IsNextLine, IsOfRecord, Keeps, Leaves, Writes, WritesLine, done, timed};
 ghost use Rattle.rm_probe.specs.Ends.{IsSilent};
 ghost use Rattle.rm_probe.specs.declared.status.Status.TheVariants.{BadRequests, ReadFault, WriteFault, NoMemory};
 
@@ -20,6 +20,7 @@ use crate::notes::Notes;
 use crate::output::Output;
 use crate::probe::Probe;
 use crate::status::Status;
+use rm_agent::MOST_REPLY;
 use rm_edge::{Shelf, Sink};
 use rm_pcap::{Capture, PcapFault, Step};
 use std::alloc::Global;
@@ -126,7 +127,7 @@ impl Replaying {
     {
         self.advance(shelf, name, request.moment, out)?;
         let mut line = Line::new();
-        line::push_line(&mut line, alloc, &mut self.probe, request, out);
+        answer(alloc, &mut self.probe, request, &mut line, out);
         match out.put(&line) {
             Ok(()) => Ok(()),
             Err(_) => Err(Status::WriteFault),
@@ -213,36 +214,28 @@ impl Replaying {
             }
         }
     }
+}
 
-    /// Writes the lines of a whole run into a sink, as `write_lines` does.
-    fn write<F: Shelf, K: Sink>(
-        mut self,
-        alloc: Global,
-        shelf: &mut F,
-        name: &str,
-        requests: &[u8],
-        buffer: &mut [u8],
-        out: &mut K,
-    ) -> Status
-        requires room { 65535 ≤ length buffer.old }
-        requires few { length requests.now < 2 ^ 32 }
-        requires judged { IsOk (requests_of requests.now) }
-        requires first { IsFresh self.probe }
-        requires begun { Keeps 0 self.probe (progress_of self.capture) }
-        ensures text { (bytes : List ℕ) (frames : List Frame) (stop : Stop) (asked : List TimedDatagram)
-            → F.held shelf.old name.now ≡ File bytes
-            → Leaves (progress_of self.capture) bytes frames stop → (progress_of self.capture).reach.count ≡ 0 → IsFaultless stop
-            → AreRequests requests.now asked
-            → Writes (settings_of self.probe) frames stop asked (K.content out.old) (K.content out.new) result }
-        ensures write_later { K.faults out.old ≤ K.faults out.new }
-        ensures read_later { (each : List ℕ) → F.faults shelf.old each ≤ F.faults shelf.new each }
-        ensures reads { result ≡ ReadFault → Rose (F.faults shelf.old name.now) (F.faults shelf.new name.now) }
-        ensures writes { result ≡ WriteFault → Rose (K.faults out.old) (K.faults out.new) }
-        ensures loud { IsSilent result → ⊥ }
-    {
-        let mut output = Output::new(out);
-        self.write_lines(alloc, shelf, name, requests, buffer, &mut output)
-    }
+// Takes the samples that are due up to the moment of a datagram, answers it, and writes its line into an empty line.
+#[tactic(auto, unfolding(crate::specs::Text::IsAnswer))]
+fn answer<N: Notes>(
+    alloc: Global,
+    probe: &mut Probe,
+    request: Request<'_>,
+    line: &mut Line,
+    notes: &mut N,
+)
+    requires empty { line.old.items ≡ [] }
+    requires later { last_given probe.old ≤ request.moment }
+    ensures answers { (more : List Note) × Sent N.since notes.old notes.new more
+        × Answers probe.old probe.new request.entry.number (timed request.entry) more line.new.items }
+    ensures settings { settings_of probe.new ≡ settings_of probe.old }
+    ensures last { last_given probe.new ≡ request.entry.moment }
+    ensures frames { frames_given probe.new ≡ frames_given probe.old }
+{
+    let mut out = [0; MOST_REPLY];
+    let answer = probe.datagram(alloc, request.datagram, request.moment, &mut out, notes);
+    line::answer_line(request.moment, request.number, answer, &out, line);
 }
 
 /// Reads the capture again, its first frame at the moment `lead`, and writes the text of it and of the datagrams of a
@@ -275,8 +268,9 @@ pub fn write_run<F: Shelf, K: Sink>(
     every_line();
     match Capture::begin(alloc, shelf, name, lead) {
         Ok(capture) => {
-            let replaying = Replaying { capture, probe };
-            replaying.write(alloc, shelf, name, requests, buffer, out)
+            let mut replaying = Replaying { capture, probe };
+            let mut output = Output::new(out);
+            replaying.write_lines(alloc, shelf, name, requests, buffer, &mut output)
         }
         Err(fault) => Status::from(fault),
     }

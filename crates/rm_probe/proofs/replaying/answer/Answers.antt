@@ -1,6 +1,6 @@
 use Rattle.std.proofs.Common.{rules}
 use Rattle.rm_probe.specs.Text.{answer_text, IsAnswer}
-use Rattle.rm_probe.proofs.line.push_line.Goals as goal
+use Rattle.rm_probe.proofs.replaying.answer.Goals as goal
 
 pub returns-clause-answers : goal.returns-clause-answers
 unfolding IsAnswer
@@ -10,5 +10,5 @@ returns-clause-answers g c =
       sent,
       λ journal stands.
           let (ready, after, is, said, goes_on) = answered journal stands in
-          (ready, after, is, (answer_text c.datagram-answer.result c.datagram-answer.new.out, said, search rules), goes_on),
+          (ready, after, is, (answer_text c.datagram-answer.result c.datagram-answer.new.out, said, c.answer_line.ensures), goes_on),
     )
