@@ -150,24 +150,6 @@ pub fn replay<F: Shelf, K: Sink>(
     ensures silent { IsSilent result → K.content out.new ≡ K.content out.old }
 {
     one_reading();
-    replay_judged(alloc, settings, lead, capture, requests, shelf, out)
-}
-
-// Replays as `replay` does. That each status comes where the files call for it follows from these clauses.
-fn replay_judged<F: Shelf, K: Sink>(
-    alloc: Global,
-    settings: Settings,
-    lead: u32,
-    capture: &str,
-    requests: &str,
-    shelf: &mut F,
-    out: &mut K,
-) -> Status
-    ensures ends { Ends settings lead (F.held shelf.old capture.now) (F.held shelf.old requests.now)
-        (F.faults shelf.old capture.now + F.faults shelf.old requests.now) (F.faults shelf.new capture.now + F.faults shelf.new requests.now)
-        (K.faults out.old) (K.faults out.new) (K.content out.old) (K.content out.new) result }
-    ensures silent { IsSilent result → K.content out.new ≡ K.content out.old }
-{
     let Ok(probe) = Probe::new(alloc, settings) else {
         return Status::NoMemory;
     };
