@@ -3,11 +3,11 @@
 use Rattle.std.specs.Prelude.{◌≡◌, ◌⊎◌, ℕ, ◌+◌, ◌*◌, ◌<◌, ◌≤◌, ℤ, pos, negsuc, ◌-ℤ◌, int_le, nat_abs, List, [], ◌∷◌, length, Bool, true, false, nat_eq, if◌then◌else◌, Option, Some, None}
 use Rattle.std.specs.Int.{int_rem_euclid, int_min, int_max}
 use Rattle.std.specs.Ordering.{int_eq}
-use Rattle.rm_val.specs.Val.{Val, int, octets, name}
+use Rattle.rm_val.specs.Val.{Val, int, name}
 pub use Rattle.rm_val.specs.Contents.{number_of, name_of}
 use Rattle.rm_model.specs.Settings.{Settings}
 use Rattle.rm_model.specs.Journal.{Journal, passes, assigns, samples, moment_of}
-use Rattle.rm_model.specs.ControlTable.{Range, Column, ControlTable, number, any_name, text}
+use Rattle.rm_model.specs.ControlTable.{Range, Column, ControlTable, number, any_name, owner_column}
 use Rattle.rm_model.specs.ControlRows.{no_rows, is_valid, state_of, value_of, stays_valid, since, activated}
 use Rattle.rm_acts.specs.Crossings.{Bounds, crossing}
 use Rattle.rm_model.specs.declared.row.StatusKind.TheVariants.{EntryStatus}
@@ -53,9 +53,6 @@ rising_event_column = record { number = 9; kind = number (up_from 0 65535); alwa
 abbrev pub falling_event_column : Column
 falling_event_column = record { number = 10; kind = number (up_from 0 65535); always = false; needed = false; default = int (pos 0) }
 
-abbrev pub owner_column : Column
-owner_column = record { number = 11; kind = text 127; always = true; needed = false; default = octets [] }
-
 -- The control table. Of its columns the owner alone may be set while the row is valid. A row is ready where the falling
 -- threshold isn't above the rising one.
 abbrev pub alarm_table : ControlTable
@@ -65,7 +62,7 @@ alarm_table = record {
   status_kind = EntryStatus;
   columns =
       interval_column ∷ variable_column ∷ sample_type_column ∷ startup_column ∷ rising_column ∷ falling_column
-      ∷ rising_event_column ∷ falling_event_column ∷ owner_column ∷ [];
+      ∷ rising_event_column ∷ falling_event_column ∷ owner_column 11 ∷ [];
   go_together = λ value. int_le (number_of (value 8)) (number_of (value 7));
   is_sampled = true;
 }

@@ -1,47 +1,31 @@
 -- The control table of events (RFC 1757, section 5), and the event that a sample asks for.
-use Rattle.std.specs.Prelude.{ℕ, pos, List, [], ◌∷◌, Bool, true, false}
-use Rattle.rm_val.specs.Val.{Val}
-use Rattle.rm_val.specs.Contents.{natural_in}
+use Rattle.std.specs.Prelude.{ℕ, pos, List, [], ◌∷◌, true, false}
+use Rattle.rm_val.specs.Val.{Val, int, octets}
 use Rattle.rm_model.specs.Journal.{Journal}
-use Rattle.rm_model.specs.ControlTable.{ControlTable}
-use Rattle.rm_model.specs.Sheet.{Sheet, table_of}
-use Rattle.rm_acts.specs.Alarms.{alarm_column}
+use Rattle.rm_model.specs.ControlTable.{Column, ControlTable, number, text, owner_column}
+use Rattle.rm_acts.specs.Alarms.{up_from, alarm_column}
 use Rattle.rm_model.specs.declared.row.StatusKind.TheVariants.{EntryStatus}
 use Rattle.rm_acts.specs.declared.sampled.Sampled.{Sampled}
 use Rattle.rm_acts.specs.declared.sampled.Sampled.TheVariants.{Quiet, Rising, Falling, Gone}
-use Rattle.rm_model.specs.declared.sheet.ColumnSheet.{ColumnSheet}
-use Rattle.rm_model.specs.declared.sheet.ColumnKind.{ColumnKind}
-use Rattle.rm_model.specs.declared.sheet.ColumnKind.TheVariants.{Number, Text}
-use Rattle.rm_model.specs.declared.sheet.Setting.{Setting}
-use Rattle.rm_model.specs.declared.sheet.Setting.TheVariants.{Empty}
-use Rattle.rm_model.specs.declared.sheet.Setting.TheVariants as shows
-use Rattle.rm_model.specs.declared.sheet.Settable.{Settable}
-use Rattle.rm_model.specs.declared.sheet.Settable.TheVariants.{Always, UnderCreation}
+use Rattle.rm_val.specs.Contents.{natural_in}
 
--- every row is ready
-abbrev pub all_together : (ℕ → Val) → Bool
-all_together value = true
+-- The columns that can be set while a row is under creation: eventDescription, eventType and eventCommunity.
+abbrev pub text_column : ℕ → Column
+text_column column = record { number = column; kind = text 127; always = false; needed = false; default = octets [] }
 
-abbrev pub column : ℕ → ColumnKind → Settable → Setting → ColumnSheet
-column number kind settable default = record { number = number; kind = kind; settable = settable; needed = false; default = default }
+abbrev pub type_column : Column
+type_column = record { number = 3; kind = number (up_from 1 4); always = false; needed = false; default = int (pos 1) }
 
--- The control table, with the columns that can be set: eventDescription, eventType, eventCommunity and eventOwner. The owner alone
--- may be set while the row is valid.
-abbrev pub event_sheet : Sheet
-event_sheet = record {
+-- The control table. The owner alone may be set while the row is valid.
+abbrev pub event_table : ControlTable
+event_table = record {
   entry = 1 ∷ 3 ∷ 6 ∷ 1 ∷ 2 ∷ 1 ∷ 16 ∷ 9 ∷ 1 ∷ 1 ∷ [];
   status = 7;
   status_kind = EntryStatus;
-  columns =
-      column 2 (Text 127) UnderCreation Empty
-      ∷ column 3 (Number (record { least = pos 1; greatest = pos 4 })) UnderCreation (shows.Number (pos 1))
-      ∷ column 4 (Text 127) UnderCreation Empty
-      ∷ column 6 (Text 127) Always Empty
-      ∷ [];
+  columns = text_column 2 ∷ type_column ∷ text_column 4 ∷ owner_column 6 ∷ [];
+  go_together = λ value. true;
+  is_sampled = false;
 }
-
-abbrev pub event_table : ControlTable
-event_table = table_of event_sheet all_together
 
 -- the identifier of eventEntry
 abbrev pub event_entry : List ℕ

@@ -26,7 +26,8 @@ use Rattle.rm_alarm.specs.Kept.{Keeps, bounds_in, starting, nothing_crossed}
 use Rattle.rm_alarm.specs.Rows.{set_to, with_column, blank_row, settled, course_or_start, interval_kept, variable_with}
 use Rattle.rm_alarm.specs.RowLaws.{blank_alike, set_with}
 use Rattle.rm_alarm.specs.Standing.{IsRunning, IsKept, AreKept, IsBased}
-use Rattle.rm_alarm.proofs.RowFacts.{row_there, state_is, interval_is, variable_is, bounds_is}
+use Rattle.rm_status.proofs.RowFacts.{row_there}
+use Rattle.rm_alarm.proofs.RowFacts.{state_is, interval_is, variable_is, bounds_is}
 use Rattle.rm_alarm.proofs.Steps.{same_due, same_values, still_based, keeps_by}
 use Rattle.rm_alarm.proofs.Samples.{Based, valid_one}
 

@@ -16,7 +16,8 @@ use Rattle.rm_alarm.specs.declared.row.AlarmRow.{AlarmRow}
 use Rattle.rm_alarm.specs.Due.{due_at, nearer}
 use Rattle.rm_alarm.specs.Rows.{set_to}
 use Rattle.rm_alarm.specs.Standing.{IsKept, AreKept}
-use Rattle.rm_alarm.proofs.RowFacts.{state_is, no_row_0, row_fits}
+use Rattle.rm_status.proofs.RowFacts.{no_row_0, row_fits}
+use Rattle.rm_alarm.proofs.RowFacts.{state_is}
 
 module _ (due : ℕ → Option ℕ) where
   -- the next sample of the alarms up to one

@@ -30,11 +30,11 @@ use Rattle.rm_alarm.specs.declared.row.AlarmRow.{AlarmRow}
 use Rattle.rm_alarm.specs.Due.{due_at}
 use Rattle.rm_alarm.specs.Left.{sum_below, span_to}
 use Rattle.rm_alarm.specs.Paced.{is_paced, ArePaced}
-use Rattle.rm_alarm.specs.Rows.{set_to, with_column, blank_row, settled, interval_kept, interval_shown}
+use Rattle.rm_alarm.specs.Rows.{set_to, with_column, blank_row, settled, interval_kept}
 use Rattle.rm_alarm.specs.RowLaws.{set_with}
 use Rattle.rm_alarm.specs.Taking.{with_course, HasTaken}
 use Rattle.rm_alarm.proofs.AfterSets.{was_there, there_is, not_made_valid}
-use Rattle.rm_alarm.proofs.RowFacts.{row_fits}
+use Rattle.rm_status.proofs.RowFacts.{row_fits}
 use Rattle.rm_alarm.proofs.Taken.{Due}
 
 in_some : {A : Type 0} (x y : A) → Some x ≡ Some y → x ≡ y
@@ -201,7 +201,7 @@ module _ (now : ℕ) (bs : Bindings) (alone : (k : ℕ) → k < length bs → fi
             cc
         by_state UnderCreation is =
             let some = is_set (ready (ap state_seen e ∙ is) (ap (next_state ask) (sym is) ∙ next)) in
-            let before : (rows_before set_to rows).set (i ∷ []) 2 ≡ None = ap (λ o. option_and_then (λ c. set_to c 2) (columns_seen o)) e ∙ ap interval_shown interval in
+            let before : (rows_before set_to rows).set (i ∷ []) 2 ≡ None = ap (λ o. option_and_then (λ c. set_to c 2) (columns_seen o)) e ∙ ap (option_map int) interval in
             let unset : option_or (given 2) ((rows_before set_to rows).set (i ∷ []) 2) ≡ None = ap (λ g. option_or g ((rows_before set_to rows).set (i ∷ []) 2)) none ∙ before in
             let no : false ≡ true = sym (ap is_some unset) ∙ some in
             cc

@@ -21,7 +21,8 @@ use Rattle.rm_alarm.specs.Kept.{Keeps}
 use Rattle.rm_alarm.specs.Rows.{set_to}
 use Rattle.rm_alarm.specs.Taking.{Took, with_course, HasTaken}
 use Rattle.rm_alarm.specs.Standing.{IsRunning, IsKept, AreKept, IsBased}
-use Rattle.rm_alarm.proofs.RowFacts.{row_there, state_is, interval_is, delta_is, bounds_is}
+use Rattle.rm_status.proofs.RowFacts.{row_there}
+use Rattle.rm_alarm.proofs.RowFacts.{state_is, interval_is, delta_is, bounds_is}
 use Rattle.rm_alarm.proofs.Steps.{same_due, same_values, still_based, runs_on, based_on, comes_to}
 
 -- rows that were set to the same are those after the same journals

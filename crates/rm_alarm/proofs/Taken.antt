@@ -23,7 +23,8 @@ use Rattle.rm_alarm.specs.Rows.{set_to, variable_kept}
 use Rattle.rm_alarm.specs.Spelled.{AreSpelled}
 use Rattle.rm_alarm.specs.Taking.{Took, with_course, HasTaken}
 use Rattle.rm_alarm.specs.Standing.{AreKept}
-use Rattle.rm_alarm.proofs.RowFacts.{written, with_w, state_is}
+use Rattle.rm_status.proofs.RowFacts.{written, with_w}
+use Rattle.rm_alarm.proofs.RowFacts.{state_is}
 use Rattle.rm_alarm.proofs.Samples.{Based, kept_other, based_other, valid_one}
 
 in_some : {A : Type 0} (x y : A) → Some x ≡ Some y → x ≡ y

@@ -1,10 +1,9 @@
 -- The columns of a row of alarmTable, as they are kept.
-use Rattle.std.specs.Prelude.{ℕ, ℤ, pos, List, [], ◌∷◌, Bool, nat_eq, unwrap_or, nat_abs, if◌then◌else◌, Option, Some, None}
+use Rattle.std.specs.Prelude.{ℕ, pos, List, [], ◌∷◌, Bool, nat_eq, unwrap_or, nat_abs, if◌then◌else◌, Option, Some, None}
 use Rattle.std.specs.Option.{option_map, option_or}
-use Rattle.arrayvec.specs.ArrayVec.{ArrayVec}
-use Rattle.rm_val.specs.Val.{Val, int, octets, name}
-use Rattle.rm_acts.specs.Alarms.{number_of, name_of, alarm_entry}
-use Rattle.rm_status.specs.Values.{octets_in}
+use Rattle.rm_val.specs.Val.{Val}
+use Rattle.rm_acts.specs.Alarms.{name_of, alarm_entry}
+use Rattle.rm_status.specs.Kinds.{texts, numbers, needed_numbers, needed_names}
 use Rattle.rm_model.specs.Journal.{value_given}
 use Rattle.rm_model.specs.ControlRows.{cell_name}
 use Rattle.rm_model.specs.Judgement.{Bindings}
@@ -13,73 +12,40 @@ use Rattle.rm_model.specs.declared.row.State.TheVariants.{Absent, UnderCreation,
 use Rattle.rm_model.specs.Readings.{Readings}
 use Rattle.rm_alarm.specs.declared.course.Course.{Course}
 use Rattle.rm_alarm.specs.declared.row.AlarmRow.{AlarmRow}
-use Rattle.rm_alarm.specs.declared.sample_type.SampleType.{SampleType}
 use Rattle.rm_alarm.specs.declared.sample_type.SampleType.TheVariants.{Absolute}
-use Rattle.rm_alarm.specs.declared.startup_alarm.StartupAlarm.{StartupAlarm}
 use Rattle.rm_alarm.specs.declared.startup_alarm.StartupAlarm.TheVariants.{RisingOrFalling}
 use Rattle.rm_alarm.specs.Kept.{starting}
-use Rattle.rm_alarm.specs.SampleType.{type_number, type_in, is_difference}
-use Rattle.rm_alarm.specs.StartupAlarm.{startup_number, startup_in}
-
--- what the columns of numbers show, those that a row needs where they were set
-abbrev pub number_shown : ℤ → Option Val
-number_shown n = Some (int n)
-
-abbrev pub interval_shown : Option ℤ → Option Val
-interval_shown interval = option_map int interval
-
--- what the sample type and the startup alarm show
-abbrev pub type_shown : SampleType → Option Val
-type_shown type = number_shown (type_number type)
-
-abbrev pub startup_shown : StartupAlarm → Option Val
-startup_shown startup = number_shown (startup_number startup)
-
--- what the variable and the owner show
-abbrev pub variable_shown : Option (List ℕ) → Option Val
-variable_shown variable = option_map name variable
-
-abbrev pub owner_shown : ArrayVec ℕ → Option Val
-owner_shown owner = Some (octets owner.items)
-
--- what a value gives
-abbrev pub interval_in : Val → Option ℤ
-interval_in value = Some (number_of value)
-
-abbrev pub variable_in : Val → Option (List ℕ)
-variable_in value = Some (name_of value)
-
-abbrev pub owner_in : Val → ArrayVec ℕ
-owner_in value = record { items = octets_in value }
+use Rattle.rm_alarm.specs.SampleType.{is_difference, sample_types}
+use Rattle.rm_alarm.specs.StartupAlarm.{startup_alarms}
 
 -- what the columns were set to
 abbrev pub set_to : AlarmRow → ℕ → Option Val
 set_to row n =
-    if nat_eq 2 n then interval_shown row.interval
-    else if nat_eq 3 n then variable_shown row.variable
-    else if nat_eq 4 n then type_shown row.sample_type
-    else if nat_eq 6 n then startup_shown row.thresholds.startup
-    else if nat_eq 7 n then number_shown row.thresholds.rising
-    else if nat_eq 8 n then number_shown row.thresholds.falling
-    else if nat_eq 9 n then number_shown row.rising_event
-    else if nat_eq 10 n then number_shown row.falling_event
-    else if nat_eq 11 n then owner_shown row.owner
+    if nat_eq 2 n then needed_numbers.shown row.interval
+    else if nat_eq 3 n then needed_names.shown row.variable
+    else if nat_eq 4 n then sample_types.shown row.sample_type
+    else if nat_eq 6 n then startup_alarms.shown row.thresholds.startup
+    else if nat_eq 7 n then numbers.shown row.thresholds.rising
+    else if nat_eq 8 n then numbers.shown row.thresholds.falling
+    else if nat_eq 9 n then numbers.shown row.rising_event
+    else if nat_eq 10 n then numbers.shown row.falling_event
+    else if nat_eq 11 n then (texts 127).shown row.owner
     else None
 
 -- a row with a column set
 abbrev pub with_column : AlarmRow → ℕ → Val → AlarmRow
 with_column row n value = record {
-  interval = if nat_eq 2 n then interval_in value else row.interval;
-  variable = if nat_eq 3 n then variable_in value else row.variable;
-  sample_type = if nat_eq 4 n then type_in value else row.sample_type;
+  interval = if nat_eq 2 n then needed_numbers.taken value else row.interval;
+  variable = if nat_eq 3 n then needed_names.taken value else row.variable;
+  sample_type = if nat_eq 4 n then sample_types.taken value else row.sample_type;
   thresholds = record {
-    startup = if nat_eq 6 n then startup_in value else row.thresholds.startup;
-    rising = if nat_eq 7 n then number_of value else row.thresholds.rising;
-    falling = if nat_eq 8 n then number_of value else row.thresholds.falling;
+    startup = if nat_eq 6 n then startup_alarms.taken value else row.thresholds.startup;
+    rising = if nat_eq 7 n then numbers.taken value else row.thresholds.rising;
+    falling = if nat_eq 8 n then numbers.taken value else row.thresholds.falling;
   };
-  rising_event = if nat_eq 9 n then number_of value else row.rising_event;
-  falling_event = if nat_eq 10 n then number_of value else row.falling_event;
-  owner = if nat_eq 11 n then owner_in value else row.owner;
+  rising_event = if nat_eq 9 n then numbers.taken value else row.rising_event;
+  falling_event = if nat_eq 10 n then numbers.taken value else row.falling_event;
+  owner = if nat_eq 11 n then (texts 127).taken value else row.owner;
   base = row.base;
   course = row.course;
 }

@@ -1,8 +1,10 @@
 -- Which thresholds a first sample may cross (RFC 1757, alarmStartupAlarm).
-use Rattle.std.specs.Prelude.{ℤ, pos, if◌then◌else◌}
+use Rattle.std.specs.Prelude.{ℤ, pos, if◌then◌else◌, refl}
 use Rattle.std.specs.Ordering.{int_eq}
 use Rattle.rm_val.specs.Val.{Val}
 use Rattle.rm_acts.specs.Alarms.{number_of}
+use Rattle.rm_status.specs.Field.{FieldOf}
+use Rattle.rm_status.specs.Kinds.{variants}
 use Rattle.rm_alarm.specs.declared.startup_alarm.StartupAlarm.{StartupAlarm}
 use Rattle.rm_alarm.specs.declared.startup_alarm.StartupAlarm.TheVariants.{Rising, Falling, RisingOrFalling}
 
@@ -18,3 +20,7 @@ startup_in value =
     if int_eq (number_of value) (pos 1) then Rising
     else if int_eq (number_of value) (pos 2) then Falling
     else RisingOrFalling
+
+-- the startup alarm as a column
+abbrev pub startup_alarms : FieldOf StartupAlarm
+startup_alarms = variants startup_number startup_in 3 (refl, (refl, (refl, tt)))

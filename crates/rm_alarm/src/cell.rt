@@ -1,14 +1,13 @@
 // The cells of alarmTable.
-ghost use Rattle.std.specs.Prelude.{◌≡◌, ◌≤◌, [], ◌∷◌, Some, IfSome};
+ghost use Rattle.std.specs.Prelude.{◌≡◌, ◌≤◌, [], ◌∷◌, pos, nat_eq, if◌then◌else◌, Some, IfSome};
 ghost use Rattle.std.specs.Option.{option_map};
-ghost use Rattle.rm_val.specs.Val.{val_of};
-ghost use Rattle.rm_val.specs.Spellable.{IsSpellable, HasSpelling};
+ghost use Rattle.rm_val.specs.Val.{val_of, int};
+ghost use Rattle.rm_val.specs.Spellable.{HasSpelling};
 ghost use Rattle.rm_acts.specs.Alarms.{alarm_entry, saturated};
 ghost use Rattle.rm_model.specs.Cells.{cells_of, cell_at};
-ghost use Rattle.rm_model.specs.ControlRows.{entry_status, cell_name};
-ghost use Rattle.rm_alarm.specs.Rows.{variable_kept};
+ghost use Rattle.rm_model.specs.ControlRows.{cell_name};
 ghost use Rattle.rm_alarm.specs.Spelled.{AreSpelled};
-ghost use Rattle.rm_alarm.specs.Shown.{last_value, row_shown, rows_table};
+ghost use Rattle.rm_alarm.specs.Shown.{last_value, rows_table};
 
 use crate::column::{
     FALLING_EVENT_INDEX, FALLING_THRESHOLD, INDEX, INTERVAL, OWNER, RISING_EVENT_INDEX,
@@ -17,7 +16,7 @@ use crate::column::{
 use crate::course::Course;
 use crate::row::AlarmRow;
 use rm_model::Instance;
-use rm_status::{Controls, State, instance_of};
+use rm_status::{Controls, StatusKind, instance_of};
 use rm_val::{Oid, Value};
 
 /// The numbers of the columns.
@@ -77,45 +76,21 @@ fn instance_value<'a>(rows: &'a Controls<AlarmRow>, at: &Instance) -> Option<Val
         return None;
     }
     let index = at.index.at(0);
-    let state = rows.state(index);
-    let columns = rows.get(index)?;
-    prove!(rows.len() <= 16);
-    Some(value_of(index, state, columns, at.column))
+    let row = rows.row(index)?;
+    let other = other_value(index, &row.columns, at.column);
+    Some(row.cell(STATUS, StatusKind::EntryStatus, at.column, other))
 }
 
-// What a column of a row shows.
-fn value_of(index: u32, state: State, row: &AlarmRow, column: u32) -> Value<'_>
+// What a column of a row shows that can't be set: alarmIndex or alarmValue.
+fn other_value(index: u32, row: &AlarmRow, column: u32) -> Value<'static>
     requires index { index ≤ 65535 }
-    requires spelled { IsSpellable (variable_kept row.now) }
-    ensures value { val_of result ≡ row_shown index state row.now column }
+    ensures value { val_of result ≡ (if nat_eq column 1 then int (pos index) else int (saturated (last_value row.now.course))) }
     ensures spelling { HasSpelling (val_of result) }
 {
     if column == INDEX {
         Value::Int(index as i32)
-    } else if column == VALUE {
-        Value::Int(saturated(last_value(&row.course)))
-    } else if column == STATUS {
-        Value::Int(status_of(state))
-    } else if column == INTERVAL {
-        Value::Int(row.interval.unwrap_or(0))
-    } else if column == VARIABLE {
-        Value::Name(row.variable())
-    } else if column == SAMPLE_TYPE {
-        Value::Int(row.sample_type.number())
-    } else if column == STARTUP_ALARM {
-        Value::Int(row.thresholds.startup.number())
-    } else if column == RISING_THRESHOLD {
-        Value::Int(row.thresholds.rising)
-    } else if column == FALLING_THRESHOLD {
-        Value::Int(row.thresholds.falling)
-    } else if column == RISING_EVENT_INDEX {
-        Value::Int(row.rising_event)
-    } else if column == FALLING_EVENT_INDEX {
-        Value::Int(row.falling_event)
-    } else if column == OWNER {
-        Value::Octets(row.owner.as_slice())
     } else {
-        Value::Null
+        Value::Int(saturated(last_value(&row.course)))
     }
 }
 
@@ -134,15 +109,4 @@ fn saturated(value: i128) -> i32
     ensures { result ≡ saturated value }
 {
     value.clamp(i128::from(i32::MIN), i128::from(i32::MAX)) as i32
-}
-
-// The number of a state, as an EntryStatus (RFC 1757, section 5).
-fn status_of(state: State) -> i32
-    ensures { result ≡ entry_status state }
-{
-    match state {
-        State::Valid => 1,
-        State::UnderCreation => 3,
-        State::Absent => 4,
-    }
 }

@@ -5,14 +5,28 @@ use crate::column::{
     FALLING_EVENT_INDEX, FALLING_THRESHOLD, INTERVAL, OWNER, RISING_EVENT_INDEX, RISING_THRESHOLD,
     SAMPLE_TYPE, STARTUP_ALARM, VARIABLE,
 };
-use crate::row::{AlarmRow, MOST_OWNER};
+use crate::row::AlarmRow;
 use crate::sample_type::SampleType;
 use crate::startup_alarm::StartupAlarm;
 use crate::thresholds::Thresholds;
-use crate::values::{name_fault, name_of, number_of};
 use arrayvec::ArrayVec;
-use rm_status::{Columns, number_fault, put_text, text_fault};
-use rm_val::{ErrorStatus, Oid, Value};
+use rm_model::Setting::{Empty, NoName, Number};
+use rm_model::{ColumnKind, ColumnSheet, column, numbers};
+use rm_status::{Columns, name_in, number_in, put_text, same_text};
+use rm_val::{Oid, Value};
+
+/// The columns that can be set, beside alarmStatus.
+const SHEET: &[ColumnSheet] = &[
+    column!(INTERVAL, numbers!(1, i32::MAX), Number(0), needed),
+    column!(VARIABLE, ColumnKind::AnyName, NoName, needed),
+    column!(SAMPLE_TYPE, numbers!(1, 2), Number(1)),
+    column!(STARTUP_ALARM, numbers!(1, 3), Number(3)),
+    column!(RISING_THRESHOLD, numbers!(i32::MIN, i32::MAX), Number(0)),
+    column!(FALLING_THRESHOLD, numbers!(i32::MIN, i32::MAX), Number(0)),
+    column!(RISING_EVENT_INDEX, numbers!(0, 65535), Number(0)),
+    column!(FALLING_EVENT_INDEX, numbers!(0, 65535), Number(0)),
+    column!(OWNER, ColumnKind::Text(127), Empty, always),
+];
 
 impl Default for AlarmRow {
     ghost use Rattle.rm_alarm.specs.Rows.{blank_row};
@@ -25,8 +39,9 @@ impl Default for AlarmRow {
 }
 
 impl Columns for AlarmRow {
+    ghost use Rattle.rm_val.specs.Spellable.{IsSpellable};
     ghost use Rattle.rm_acts.specs.Alarms.{alarm_table};
-    ghost use Rattle.rm_alarm.specs.Rows.{set_to, with_column, blank_row};
+    ghost use Rattle.rm_alarm.specs.Rows.{set_to, with_column, blank_row, variable_kept};
     ghost use Rattle.rm_alarm.specs.RowLaws.{blank_alike, set_with};
 
     ghost table = { alarm_table };
@@ -37,6 +52,8 @@ impl Columns for AlarmRow {
 
     ghost with_column = { with_column };
 
+    ghost spelled = { λ row. IsSpellable (variable_kept row) };
+
     ghost default_is_blank = { λ row is. is };
 
     ghost blank_alike = { blank_alike };
@@ -44,6 +61,12 @@ impl Columns for AlarmRow {
     ghost set_with = { set_with };
 
     ghost sound = { refl };
+
+    ghost apart = { refl };
+
+    fn sheet() -> &'static [ColumnSheet] {
+        SHEET
+    }
 
     fn blank() -> Self {
         AlarmRow {
@@ -63,65 +86,41 @@ impl Columns for AlarmRow {
         }
     }
 
-    fn check(column: u32, value: &Value<'_>) -> Option<ErrorStatus> {
-        if column == INTERVAL {
-            number_fault(value, 1, i32::MAX)
-        } else if column == VARIABLE {
-            name_fault(value)
-        } else if column == SAMPLE_TYPE {
-            number_fault(value, 1, 2)
-        } else if column == STARTUP_ALARM {
-            number_fault(value, 1, 3)
-        } else if column == RISING_THRESHOLD || column == FALLING_THRESHOLD {
-            number_fault(value, i32::MIN, i32::MAX)
-        } else if column == RISING_EVENT_INDEX || column == FALLING_EVENT_INDEX {
-            number_fault(value, 0, 65535)
-        } else if column == OWNER {
-            text_fault(value, MOST_OWNER)
-        } else {
-            Some(ErrorStatus::NotWritable)
-        }
-    }
-
-    fn always(column: u32) -> bool {
-        column == OWNER
-    }
-
-    fn needed(column: u32) -> bool {
-        column == INTERVAL || column == VARIABLE
-    }
-
     fn put(&mut self, column: u32, value: &Value<'_>) {
-        if column == INTERVAL {
-            self.interval = Some(number_of(value));
-        } else if column == VARIABLE {
-            self.variable = Some(name_of(value));
-        } else if column == SAMPLE_TYPE {
-            self.sample_type = SampleType::given(value);
-        } else if column == STARTUP_ALARM {
-            self.thresholds.startup = StartupAlarm::given(value);
-        } else if column == RISING_THRESHOLD {
-            self.thresholds.rising = number_of(value);
-        } else if column == FALLING_THRESHOLD {
-            self.thresholds.falling = number_of(value);
-        } else if column == RISING_EVENT_INDEX {
-            self.rising_event = number_of(value);
-        } else if column == FALLING_EVENT_INDEX {
-            self.falling_event = number_of(value);
-        } else if column == OWNER {
-            put_text(&mut self.owner, value);
+        match column {
+            INTERVAL => self.interval = Some(number_in(value)),
+            VARIABLE => self.variable = Some(name_in(value)),
+            SAMPLE_TYPE => self.sample_type = SampleType::given(value),
+            STARTUP_ALARM => self.thresholds.startup = StartupAlarm::given(value),
+            RISING_THRESHOLD => self.thresholds.rising = number_in(value),
+            FALLING_THRESHOLD => self.thresholds.falling = number_in(value),
+            RISING_EVENT_INDEX => self.rising_event = number_in(value),
+            FALLING_EVENT_INDEX => self.falling_event = number_in(value),
+            OWNER => put_text(&mut self.owner, value),
+            _ => {}
         }
     }
 
-    fn ready(&self) -> bool {
-        self.interval.is_some()
-            && self.variable.is_some()
-            && self.thresholds.falling <= self.thresholds.rising
+    fn show(&self, column: u32) -> Option<Value<'_>> {
+        match column {
+            INTERVAL => Some(Value::Int(self.interval?)),
+            VARIABLE => Some(Value::Name(copied(&self.variable)?)),
+            SAMPLE_TYPE => Some(Value::Int(self.sample_type.number())),
+            STARTUP_ALARM => Some(Value::Int(self.thresholds.startup.number())),
+            RISING_THRESHOLD => Some(Value::Int(self.thresholds.rising)),
+            FALLING_THRESHOLD => Some(Value::Int(self.thresholds.falling)),
+            RISING_EVENT_INDEX => Some(Value::Int(self.rising_event)),
+            FALLING_EVENT_INDEX => Some(Value::Int(self.falling_event)),
+            OWNER => Some(Value::Octets(self.owner.as_slice())),
+            _ => None,
+        }
+    }
+
+    fn agree(&self) -> bool {
+        self.thresholds.falling <= self.thresholds.rising
     }
 
     fn bare(&self) -> Self {
-        let mut owner = ArrayVec::new();
-        owner.try_extend_from_slice(self.owner.as_slice()).unwrap();
         AlarmRow {
             interval: self.interval,
             variable: copied(&self.variable),
@@ -129,7 +128,7 @@ impl Columns for AlarmRow {
             thresholds: self.thresholds,
             rising_event: self.rising_event,
             falling_event: self.falling_event,
-            owner,
+            owner: same_text(&self.owner),
             base: None,
             course: None,
         }

@@ -4,8 +4,7 @@ ghost use Rattle.std.specs.Option.{option_map};
 ghost use Rattle.rm_acts.specs.Alarms.{name_of};
 ghost use Rattle.rm_model.specs.Journal.{value_given};
 
-use crate::values::name_of;
-use rm_status::Assigns;
+use rm_status::{Assigns, name_in};
 use rm_val::Oid;
 
 /// The name that a Set gives to a variable by its first binding of it, if it gives it a value: the empty one where that is
@@ -16,7 +15,7 @@ pub(crate) fn name_given<A: Assigns>(set: &A, variable: &Oid) -> Option<Oid>
     for place in 0..set.count() {
         let name = set.name(place);
         if name.compare(variable).is_eq() {
-            return Some(name_of(&set.value(place)));
+            return Some(name_in(&set.value(place)));
         }
     }
     None

@@ -22,7 +22,6 @@ mod taking;
 #[cfg(test)]
 mod tests;
 mod thresholds;
-mod values;
 mod watched;
 
 pub use alarms::Alarms;

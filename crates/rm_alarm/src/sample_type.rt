@@ -3,7 +3,7 @@ ghost use Rattle.std.specs.Prelude.{◌≡◌};
 ghost use Rattle.rm_val.specs.Val.{val_of};
 ghost use Rattle.rm_alarm.specs.SampleType.{type_in, type_number};
 
-use crate::values::number_of;
+use rm_status::number_in;
 use rm_val::Value;
 
 /// What the value of a sample is (RFC 1757, alarmSampleType).
@@ -20,7 +20,7 @@ impl SampleType {
     pub fn given(value: &Value<'_>) -> SampleType
         ensures { result ≡ type_in (val_of value.now) }
     {
-        if number_of(value) == 2 {
+        if number_in(value) == 2 {
             SampleType::Delta
         } else {
             SampleType::Absolute

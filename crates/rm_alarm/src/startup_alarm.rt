@@ -3,7 +3,7 @@ ghost use Rattle.std.specs.Prelude.{◌≡◌};
 ghost use Rattle.rm_val.specs.Val.{val_of};
 ghost use Rattle.rm_alarm.specs.StartupAlarm.{startup_in, startup_number};
 
-use crate::values::number_of;
+use rm_status::number_in;
 use rm_val::Value;
 
 /// Which thresholds a first sample may cross (RFC 1757, alarmStartupAlarm).
@@ -22,7 +22,7 @@ impl StartupAlarm {
     pub fn given(value: &Value<'_>) -> StartupAlarm
         ensures { result ≡ startup_in (val_of value.now) }
     {
-        let number = number_of(value);
+        let number = number_in(value);
         if number == 1 {
             StartupAlarm::Rising
         } else if number == 2 {

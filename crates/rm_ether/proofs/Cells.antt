@@ -26,27 +26,8 @@ use Rattle.rm_ether.specs.EtherStats.{ether_entry, ether_stats, ether_beginning,
 use Rattle.rm_ether.specs.StatisticsRows.{set_to}
 use Rattle.rm_ether.specs.Shown.{row_value, value_in, rows_table}
 use Rattle.rm_ether.specs.Group.{AreCounted}
+use Rattle.rm_status.proofs.RowFacts.{found_there}
 use Rattle.rm_ether.proofs.Steps.{state_is, source_is, owner_is}
-
--- a row that is found is there, and has that index
-found_there : (rows : List (Row StatisticsRow)) (i : ℕ) (row : Row StatisticsRow) → AllThere rows → row_in rows i ≡ Some row → (is_row_number i ≡ true) × (is_absent row.state ≡ false)
-found_there [] i row there e = absurd (cc)
-found_there (x ∷ rows) i row there e =
-    elim (nat_eq x.index i) as (λ t. nat_eq x.index i ≡ t → cond t (Some x) (row_in rows i) ≡ Some row → (is_row_number i ≡ true) × (is_absent row.state ≡ false)) [
-      | true ↦ λ named k. let is : x ≡ row = cc in (subst (λ n. is_row_number n ≡ true) (eqb-true x.index i named) there.0.0, ap (λ r. is_absent r.state) (sym is) ∙ there.0.1)
-      | false ↦ λ _ k. found_there rows i row there.1 k
-    ] refl e
-
-in_range : (n : ℕ) → is_row_number n ≡ true → n ≤ 65535
-in_range n h = right (nat_le 1 n) h
-  where
-    right : (b : Bool) → (b && nat_le n 65535) ≡ true → n ≤ 65535
-    right true h = grind (arith, nat_tests)
-    right false h = absurd (cc)
-
-pub index_fits : (rows : List (Row StatisticsRow)) (i : ℕ) (o : Option (Row StatisticsRow)) (columns : StatisticsRow) → AreControlRows rows → row_in rows i ≡ o → Some columns ≡ columns_seen o → i ≤ 65535
-index_fits rows i None columns held e is = absurd (cc)
-index_fits rows i (Some row) columns held e is = in_range i (found_there rows i row held.1 e).0
 
 module _ (rows : List (Row StatisticsRow)) (held : AreControlRows rows) (settings : Settings) (journal : Journal)
     (is : AreRowsAfter ether_stats ether_beginning set_to rows journal) (sums : AreCounted rows settings journal) where

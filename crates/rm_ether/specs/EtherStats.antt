@@ -2,12 +2,12 @@
 use Rattle.std.specs.Prelude.{ℕ, ◌%◌, ◌^◌, List, [], ◌∷◌, Bool, true, false, ◌&&◌, nat_eq, not, if◌then◌else◌, Some, None, codes}
 use Rattle.std.specs.List.{sum_by}
 use Rattle.std.specs.Str.{bytes_eq}
-use Rattle.rm_val.specs.Val.{Val, int, octets, name, counter}
+use Rattle.rm_val.specs.Val.{Val, int, octets, counter}
 use Rattle.rm_model.specs.Settings.{Settings}
 use Rattle.rm_model.specs.Journal.{Frame, Journal, frames_in}
-use Rattle.rm_model.specs.Interfaces.{interface_name, frames_of}
+use Rattle.rm_model.specs.Interfaces.{frames_of}
 use Rattle.rm_model.specs.Cells.{Table}
-use Rattle.rm_model.specs.ControlTable.{Column as TableColumn, ControlTable, data_source, text}
+use Rattle.rm_model.specs.ControlTable.{ControlTable, source_column, owner_column}
 use Rattle.rm_model.specs.ControlRows.{Beginning, is_absent, state_of, value_of, since, index_value, entry_status}
 use Rattle.rm_model.specs.declared.row.StatusKind.TheVariants.{EntryStatus}
 use Rattle.rm_model.specs.declared.row.State.{State}
@@ -23,21 +23,13 @@ use Rattle.rm_ether.specs.Columns.{ether_columns, column_of}
 abbrev pub ether_entry : List ℕ
 ether_entry = 1 ∷ 3 ∷ 6 ∷ 1 ∷ 2 ∷ 1 ∷ 16 ∷ 1 ∷ 1 ∷ 1 ∷ []
 
--- the data source of a row, which is interface 1 until it is set
-abbrev pub source_column : TableColumn
-source_column = record { number = 2; kind = data_source; always = false; needed = false; default = name (interface_name 1) }
-
--- its owner, which may be set at any time
-abbrev pub owner_column : TableColumn
-owner_column = record { number = 20; kind = text 127; always = true; needed = false; default = octets [] }
-
--- the control table: a row counts the frames of its data source
+-- the control table: a row counts the frames of its data source; its owner may be set at any time
 abbrev pub ether_stats : ControlTable
 ether_stats = record {
   entry = ether_entry;
   status = 21;
   status_kind = EntryStatus;
-  columns = source_column ∷ owner_column ∷ [];
+  columns = source_column 2 ∷ owner_column 20 ∷ [];
   go_together = λ value. true;
   is_sampled = false;
 }

@@ -1,10 +1,9 @@
 // The cells of etherStats.
-ghost use Rattle.std.specs.Prelude.{◌≡◌, ◌≤◌, ◌%◌, ◌^◌, Some, IfSome};
+ghost use Rattle.std.specs.Prelude.{◌≡◌, ◌≤◌, Some, IfSome};
 ghost use Rattle.std.specs.Option.{option_map};
 ghost use Rattle.rm_val.specs.Val.{val_of};
 ghost use Rattle.rm_val.specs.Spellable.{HasSpelling};
 ghost use Rattle.rm_model.specs.Cells.{cells_of, cell_at};
-ghost use Rattle.rm_model.specs.ControlRows.{entry_status};
 ghost use Rattle.rm_ether.specs.EtherStats.{ether_entry};
 ghost use Rattle.rm_ether.specs.Columns.{column_of};
 ghost use Rattle.rm_ether.specs.Shown.{row_value, rows_table};
@@ -12,7 +11,9 @@ ghost use Rattle.rm_ether.specs.Shown.{row_value, rows_table};
 use crate::column::{COLUMNS, Column};
 use crate::row::StatisticsRow;
 use rm_model::Instance;
-use rm_status::{Controls, State, instance_of, interface_name};
+use rm_status::{
+    Controls, State, StatusKind, counter_32, instance_of, interface_name, status_number,
+};
 use rm_val::{Oid, Value};
 
 /// The identifier of etherStatsEntry.
@@ -40,10 +41,8 @@ fn instance_value<'a>(rows: &'a Controls<StatisticsRow>, at: &Instance) -> Optio
         return None;
     }
     let index = at.index.at(0);
-    let state = rows.state(index);
-    let columns = rows.get(index)?;
-    prove!(rows.len() <= 16);
-    Some(value_of(index, state, columns, Column::numbered(at.column)))
+    let row = rows.row(index)?;
+    Some(value_of(index, row.state, &row.columns, Column::numbered(at.column)))
 }
 
 // What a column of a row shows.
@@ -55,26 +54,8 @@ fn value_of(index: u32, state: State, row: &StatisticsRow, column: Column) -> Va
     match column {
         Column::Index => Value::Int(index as i32),
         Column::DataSource => Value::Name(interface_name(row.source)),
-        Column::Counts(counter) => Value::Counter(shown(row.statistics.of(counter))),
+        Column::Counts(counter) => Value::Counter(counter_32(row.statistics.of(counter))),
         Column::Owner => Value::Octets(row.owner.as_slice()),
-        Column::Status => Value::Int(status_of(state)),
+        Column::Status => Value::Int(status_number(StatusKind::EntryStatus, state)),
     }
-}
-
-// The number of a state, as an EntryStatus (RFC 1757, section 5).
-fn status_of(state: State) -> i32
-    ensures { result ≡ entry_status state }
-{
-    match state {
-        State::Valid => 1,
-        State::UnderCreation => 3,
-        State::Absent => 4,
-    }
-}
-
-// A counter as a Counter32 shows it.
-fn shown(counter: u64) -> u32
-    ensures { result ≡ counter % 2 ^ 32 }
-{
-    (counter % (1 << 32)) as u32
 }

@@ -3,17 +3,19 @@ ghost use Rattle.std.specs.Prelude.{◌≡◌, refl};
 
 use crate::statistics::Statistics;
 use arrayvec::ArrayVec;
-use rm_status::{Columns, interface_in, put_text, source_fault, text_fault};
-use rm_val::{ErrorStatus, Value};
-
-/// The number of etherStatsDataSource.
-const DATA_SOURCE: u32 = 2;
-
-/// The number of etherStatsOwner.
-const OWNER: u32 = 20;
+use rm_model::Setting::{Empty, Interface};
+use rm_model::{ColumnKind, ColumnSheet, column};
+use rm_status::{Columns, interface_in, interface_name, put_text, same_text};
+use rm_val::Value;
 
 /// How many octets an owner has at most.
 const MOST_OWNER: usize = 127;
+
+/// etherStatsDataSource and etherStatsOwner (RFC 1757, section 5).
+const SHEET: &[ColumnSheet] = &[
+    column!(2, ColumnKind::Source, Interface(1)),
+    column!(20, ColumnKind::Text(127), Empty, always),
+];
 
 /// The columns of a row of etherStats, with what it counted since it became valid.
 #[derive(Drop)]
@@ -61,6 +63,8 @@ impl Columns for StatisticsRow {
 
     ghost with_column = { with_column };
 
+    ghost spelled = { λ row. Unit {0} };
+
     ghost default_is_blank = { λ row is. is };
 
     ghost blank_alike = { blank_alike };
@@ -68,6 +72,12 @@ impl Columns for StatisticsRow {
     ghost set_with = { set_with };
 
     ghost sound = { refl };
+
+    ghost apart = { refl };
+
+    fn sheet() -> &'static [ColumnSheet] {
+        SHEET
+    }
 
     fn blank() -> Self {
         StatisticsRow {
@@ -77,42 +87,30 @@ impl Columns for StatisticsRow {
         }
     }
 
-    fn check(column: u32, value: &Value<'_>) -> Option<ErrorStatus> {
-        if column == DATA_SOURCE {
-            source_fault(value)
-        } else if column == OWNER {
-            text_fault(value, MOST_OWNER)
-        } else {
-            Some(ErrorStatus::NotWritable)
-        }
-    }
-
-    fn always(column: u32) -> bool {
-        column == OWNER
-    }
-
-    fn needed(_column: u32) -> bool {
-        false
-    }
-
     fn put(&mut self, column: u32, value: &Value<'_>) {
-        if column == DATA_SOURCE {
-            self.source = interface_in(value);
-        } else if column == OWNER {
-            put_text(&mut self.owner, value);
+        match column {
+            2 => self.source = interface_in(value),
+            20 => put_text(&mut self.owner, value),
+            _ => {}
         }
     }
 
-    fn ready(&self) -> bool {
+    fn show(&self, column: u32) -> Option<Value<'_>> {
+        match column {
+            2 => Some(Value::Name(interface_name(self.source))),
+            20 => Some(Value::Octets(self.owner.as_slice())),
+            _ => None,
+        }
+    }
+
+    fn agree(&self) -> bool {
         true
     }
 
     fn bare(&self) -> Self {
-        let mut owner = ArrayVec::new();
-        owner.try_extend_from_slice(self.owner.as_slice()).unwrap();
         StatisticsRow {
             source: self.source,
-            owner,
+            owner: same_text(&self.owner),
             statistics: Statistics::new(),
         }
     }

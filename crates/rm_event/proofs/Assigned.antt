@@ -19,15 +19,15 @@ use Rattle.rm_status.proofs.Puts.{all_fine}
 use Rattle.rm_status.proofs.RowsAfterLemmas.{rows_assigns, fixed_column}
 use Rattle.rm_event.specs.declared.log.Log.{Log}
 use Rattle.rm_event.specs.EventType.{type_in}
-use Rattle.rm_event.specs.EventTable.{event_sheet, all_together, event_table, event_state, type_of}
-use Rattle.rm_event.specs.EventRows.{EventRow, typed, set_to, with_column, blank_row}
-use Rattle.rm_status.specs.Sheeted.{set_with, blank_alike}
+use Rattle.rm_event.specs.EventTable.{event_table, event_state, type_of}
+use Rattle.rm_event.specs.declared.event_row.EventRow.{EventRow}
+use Rattle.rm_event.specs.EventRows.{set_to, with_column, blank_row, blank_alike, set_with}
 use Rattle.rm_acts.specs.Fired.{firings}
 use Rattle.rm_event.specs.Log.{IsLog}
 use Rattle.rm_event.specs.Logs.{log_in, HasNew, valid_in}
 use Rattle.rm_event.specs.Held.{AreOfValid}
 use Rattle.rm_event.specs.Standing.{IsLogOf, AreLogs}
-use Rattle.rm_event.proofs.RowFacts.{valid_there}
+use Rattle.rm_status.proofs.RowFacts.{valid_there}
 use Rattle.rm_event.proofs.Spares.{not_some}
 
 valid_is : (s : State) → is_valid s ≡ true → s ≡ Valid
@@ -58,7 +58,7 @@ module _ (settings : Settings) (journal : Journal) (moment : ℕ) (bs : Bindings
   with_set = assigns moment values ∷ journal
 
   pub rows_with_set : AreRowsAfter event_table no_rows set_to new with_set
-  rows_with_set = rows_assigns event_table no_rows set_to with_column blank_row (λ row. set_with event_sheet typed all_together refl row.typed) (blank_alike event_sheet typed all_together refl refl refl) refl journal moment bs values gives (all_fine event_table bs alone) rows new held is after
+  rows_with_set = rows_assigns event_table no_rows set_to with_column blank_row set_with blank_alike refl journal moment bs values gives (all_fine event_table bs alone) rows new held is after
 
   module _ (logs logs_new : List Log) (of_valid : AreOfValid logs rows) (of_valid_new : AreOfValid logs_new new)
       (stays : (row : ℕ) (log : Log) → 1 ≤ row → valid_in new row ≡ true → log_in logs row ≡ Some log → log_in logs_new row ≡ Some log)

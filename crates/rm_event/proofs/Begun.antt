@@ -4,11 +4,11 @@ use Rattle.std.specs.Prelude.{is_some}
 use Rattle.std.proofs.lemmas.Bool.Decides.{nat_tests}
 use Rattle.rm_status.specs.declared.row.Row.{Row}
 use Rattle.rm_status.specs.Rows.{AllThere}
-use Rattle.rm_event.specs.EventRows.{EventRow}
+use Rattle.rm_event.specs.declared.event_row.EventRow.{EventRow}
 use Rattle.rm_event.specs.declared.log.Log.{Log}
 use Rattle.rm_event.specs.Logs.{log_in, AreDistinct, HasNew, AreBegun, released, valid_in}
 use Rattle.rm_event.specs.Held.{AreOfValid}
-use Rattle.rm_event.proofs.RowFacts.{valid_fits}
+use Rattle.rm_status.proofs.RowFacts.{valid_fits}
 use Rattle.rm_event.proofs.Spares.{eq_is, released_in}
 
 both : (b : Bool) → b ≡ true → b ≡ false → ⊥

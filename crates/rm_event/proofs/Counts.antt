@@ -7,11 +7,11 @@ use Rattle.rm_status.specs.declared.row.Row.{Row}
 use Rattle.rm_status.specs.Rows.{AllThere}
 use Rattle.rm_status.proofs.Held.{count_none}
 use Rattle.rm_status.proofs.Valid.{count_less}
-use Rattle.rm_event.specs.EventRows.{EventRow}
+use Rattle.rm_event.specs.declared.event_row.EventRow.{EventRow}
 use Rattle.rm_event.specs.declared.log.Log.{Log}
 use Rattle.rm_event.specs.Logs.{log_in, AreDistinct, valid_in}
 use Rattle.rm_event.specs.Held.{AreOfValid}
-use Rattle.rm_event.proofs.RowFacts.{valid_fits, valid_below}
+use Rattle.rm_status.proofs.RowFacts.{valid_fits, valid_below}
 use Rattle.rm_event.proofs.Spares.{distinct_count}
 
 -- one number more passes at most

@@ -19,14 +19,15 @@ use Rattle.rm_event.specs.declared.fired.Fired.TheVariants as fired
 use Rattle.rm_event.specs.declared.log.Log.{Log}
 use Rattle.rm_event.specs.EventType.{numbered, number_of, type_in, fired_as}
 use Rattle.rm_event.specs.EventTable.{event_table, event_state, event_set, type_of}
-use Rattle.rm_event.specs.EventRows.{EventRow, set_to, description_in_row, type_in_row, community_in_row}
+use Rattle.rm_event.specs.declared.event_row.EventRow.{EventRow}
+use Rattle.rm_event.specs.EventRows.{set_to}
 use Rattle.rm_acts.specs.Fired.{firings, firings_with, moments_in}
 use Rattle.rm_event.specs.Firings.{is_set}
 use Rattle.rm_event.specs.Log.{IsLog, HasFired}
 use Rattle.rm_event.specs.Logs.{log_in}
 use Rattle.rm_event.specs.Standing.{IsLogOf, AreLogs, fired_of, community_of}
 use Rattle.rm_event.proofs.Spares.{eq_is, same_number}
-use Rattle.rm_event.proofs.RowFacts.{valid_there, valid_columns}
+use Rattle.rm_status.proofs.RowFacts.{valid_there, valid_columns}
 use Rattle.rm_event.specs.Moments.{moments_more, valid_with, idle_with}
 
 type_again : (type : EventType) → numbered (number_of type) ≡ type
@@ -41,23 +42,23 @@ module _ (rows : List (Row EventRow)) (journal : Journal) (is : AreRowsAfter eve
     abbrev shows : ℕ → Option EventRow → Val
     shows n o = unwrap_or (option_and_then (λ c. set_to c n) o) (default_of event_table n)
 
-    pub description_is : octets (description_in_row columns) ≡ event_set journal (index ∷ []) 2
+    pub description_is : octets columns.description.items ≡ event_set journal (index ∷ []) 2
     description_is = ap (shows 2) (sym has) ∙ (is.alike.columns index there).0.shown
 
-    pub type_shown_is : int (pos (number_of (type_in_row columns))) ≡ event_set journal (index ∷ []) 3
+    pub type_shown_is : int (pos (number_of columns.event_type)) ≡ event_set journal (index ∷ []) 3
     type_shown_is = ap (shows 3) (sym has) ∙ (is.alike.columns index there).1.0.shown
 
-    pub type_is : type_in_row columns ≡ type_of journal index
-    type_is = sym (type_again (type_in_row columns)) ∙ ap type_in type_shown_is
+    pub type_is : columns.event_type ≡ type_of journal index
+    type_is = sym (type_again columns.event_type) ∙ ap type_in type_shown_is
 
-    pub community_is : octets (community_in_row columns) ≡ event_set journal (index ∷ []) 4
+    pub community_is : octets columns.community.items ≡ event_set journal (index ∷ []) 4
     community_is = ap (shows 4) (sym has) ∙ (is.alike.columns index there).1.1.0.shown
 
-    pub owner_is : octets columns.typed.rest.rest.rest.first.items ≡ event_set journal (index ∷ []) 6
+    pub owner_is : octets columns.owner.items ≡ event_set journal (index ∷ []) 6
     owner_is = ap (shows 6) (sym has) ∙ (is.alike.columns index there).1.1.1.0.shown
 
 -- the type of a valid row
-pub valid_type_is : (rows : List (Row EventRow)) (journal : Journal) (index : ℕ) (type : EventType) → AreRowsAfter event_table no_rows set_to rows journal → is_valid (state_in rows index) ≡ true → ((columns : EventRow) → columns_in rows index ≡ Some columns → type ≡ type_in_row columns) → type ≡ type_of journal index
+pub valid_type_is : (rows : List (Row EventRow)) (journal : Journal) (index : ℕ) (type : EventType) → AreRowsAfter event_table no_rows set_to rows journal → is_valid (state_in rows index) ≡ true → ((columns : EventRow) → columns_in rows index ≡ Some columns → type ≡ columns.event_type) → type ≡ type_of journal index
 valid_type_is rows journal index type is valid its =
     let has = valid_columns rows index valid in
     its has.0 has.1 ∙ type_is rows journal is index has.0 has.1 (valid_there (state_in rows index) valid)
@@ -66,7 +67,7 @@ valid_type_is rows journal index type is valid its =
 pub no_community : (rows : List (Row EventRow)) (journal : Journal) (index : ℕ) → AreRowsAfter event_table no_rows set_to rows journal → state_in rows index ≡ Absent → ◌≡◌ {A = Option Val} None (community_of journal index)
 no_community rows journal index is absent = sym (ap (λ s. cond (is_absent s) None (Some (event_set journal (index ∷ []) 4))) (sym (is.alike.states index) ∙ absent))
 
-pub some_community : (rows : List (Row EventRow)) (journal : Journal) (index : ℕ) (columns : EventRow) → AreRowsAfter event_table no_rows set_to rows journal → columns_in rows index ≡ Some columns → is_absent (state_in rows index) ≡ false → ◌≡◌ {A = Option Val} (Some (octets (community_in_row columns))) (community_of journal index)
+pub some_community : (rows : List (Row EventRow)) (journal : Journal) (index : ℕ) (columns : EventRow) → AreRowsAfter event_table no_rows set_to rows journal → columns_in rows index ≡ Some columns → is_absent (state_in rows index) ≡ false → ◌≡◌ {A = Option Val} (Some (octets columns.community.items)) (community_of journal index)
 some_community rows journal index columns is has there =
     ap Some (community_is rows journal is index columns has there)
     ∙ sym (ap (λ b. cond b None (Some (event_set journal (index ∷ []) 4))) (ap is_absent (sym (is.alike.states index)) ∙ there))

@@ -1,6 +1,5 @@
 mod OneFiring
 mod Spares
-mod RowFacts
 mod Fires
 mod Begun
 mod Counts

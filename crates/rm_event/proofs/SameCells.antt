@@ -19,7 +19,8 @@ use Rattle.rm_event.specs.declared.log_column.LogColumn.TheVariants as log
 use Rattle.rm_event.specs.declared.log.Log.{Log}
 use Rattle.rm_event.specs.Columns.{event_columns, log_columns, log_column}
 use Rattle.rm_event.specs.EventTable.{event_entry, event_table, event_state, event_set, type_of}
-use Rattle.rm_event.specs.EventRows.{EventRow, set_to, description_in_row}
+use Rattle.rm_event.specs.declared.event_row.EventRow.{EventRow}
+use Rattle.rm_event.specs.EventRows.{set_to}
 use Rattle.rm_acts.specs.Fired.{firings}
 use Rattle.rm_event.specs.Firings.{last_sent, tick_of, most_shown}
 use Rattle.rm_event.specs.Tables.{event_other, events_table, log_entry, log_of, is_shown, time_at, is_entry, log_value, log_table}
@@ -28,7 +29,7 @@ use Rattle.rm_event.specs.Logs.{log_in}
 use Rattle.rm_event.specs.Held.{AreOfValid}
 use Rattle.rm_event.specs.Standing.{IsLogOf, AreLogs}
 use Rattle.rm_event.specs.Shown.{sent_in, kept_other, rows_table, description_in, is_kept, entry_value, entry_in, logs_table, cells_shown}
-use Rattle.rm_event.proofs.RowFacts.{found_there, valid_there, valid_columns, valid_fits}
+use Rattle.rm_status.proofs.RowFacts.{found_there, valid_there, valid_columns, valid_fits}
 use Rattle.rm_event.specs.Moments.{idle_firings}
 use Rattle.rm_event.proofs.Fires.{description_is, type_shown_is, community_is, owner_is}
 
@@ -78,7 +79,7 @@ module _ (rows : List (Row EventRow)) (held : AreControlRows rows) (logs : List 
     description_there =
         let right : is_valid (state_in rows i) ≡ true = ap is_valid (is.alike.states i) ∙ valid in
         let columns = valid_columns rows i right in
-        ap (λ o. option_map_or (λ (c : EventRow). octets (description_in_row c)) o null) columns.1
+        ap (λ o. option_map_or (λ (c : EventRow). octets c.description.items) o null) columns.1
         ∙ description_is rows journal is i columns.0 columns.1 (valid_there (state_in rows i) right)
 
     time_is : (number : ℕ) → is_shown kept.added number ≡ true → kept_time kept number ≡ time_at (log_of settings journal i) number

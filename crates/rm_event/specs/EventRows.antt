@@ -1,45 +1,53 @@
 -- What is kept of the columns of a row of eventTable.
-use Rattle.std.specs.Prelude.{ℕ, List, Option}
-use Rattle.arrayvec.specs.ArrayVec.{ArrayVec}
+use Rattle.std.specs.Prelude.{◌≡◌, ℕ, [], ◌∷◌, nat_eq, if◌then◌else◌, Option, Some, None, refl}
 use Rattle.rm_val.specs.Val.{Val}
-use Rattle.rm_status.specs.Field.{FieldsOf}
-use Rattle.rm_status.specs.FieldLaws.{also, nothing}
+use Rattle.rm_model.specs.ControlTable.{owner_column}
+use Rattle.rm_model.specs.Alike.{HasSameColumns}
+use Rattle.rm_model.specs.Judgement.{column_kind, value_fault}
+use Rattle.rm_acts.specs.Events.{text_column, type_column}
 use Rattle.rm_status.specs.Kinds.{texts}
-use Rattle.rm_status.specs.Sheeted as sheeted
-use Rattle.rm_status.specs.declared.also.Also.{Also}
-use Rattle.rm_status.specs.declared.also.Nothing.{Nothing}
-use Rattle.rm_status.specs.declared.sheeted.Sheeted.{Sheeted}
-use Rattle.rm_event.specs.EventTable.{event_sheet}
-use Rattle.rm_event.specs.declared.event_row.EventTable.{EventTable}
-use Rattle.rm_event.specs.declared.event_type.EventType.{EventType}
+use Rattle.rm_status.specs.SheetLaws.{row_begins}
+use Rattle.rm_status.proofs.ColumnLaws.{no_columns, one_more, set_of}
+use Rattle.rm_event.specs.declared.event_row.EventRow.{EventRow}
+use Rattle.rm_event.specs.declared.event_type.EventType.TheVariants as kind
+use Rattle.rm_event.specs.EventTable.{event_table}
 use Rattle.rm_event.specs.EventTypes.{types}
 
--- the columns, by their types, and the row that has them
-abbrev pub Typed : Type 0
-Typed = Also (ArrayVec ℕ) (Also EventType (Also (ArrayVec ℕ) (Also (ArrayVec ℕ) Nothing)))
-
-abbrev pub typed : FieldsOf Typed
-typed = also (texts 127) (also types (also (texts 127) (also (texts 127) nothing)))
-
-abbrev pub EventRow : Type 0
-EventRow = Sheeted EventTable Typed Nothing
-
--- what each column was set to, a new row, and a row with one of its columns set
+-- what each column was set to; those that weren't set count as set to their default
 abbrev pub set_to : EventRow → ℕ → Option Val
-set_to = sheeted.set_to event_sheet typed
+set_to row n =
+    if nat_eq 2 n then (texts 127).shown row.description
+    else if nat_eq 3 n then types.shown row.event_type
+    else if nat_eq 4 n then (texts 127).shown row.community
+    else if nat_eq 6 n then (texts 127).shown row.owner
+    else None
 
+-- a new row
 abbrev pub blank_row : EventRow
-blank_row = sheeted.blank_row event_sheet typed (record {})
+blank_row = record {
+  description = record { items = [] };
+  event_type = kind.None;
+  community = record { items = [] };
+  owner = record { items = [] };
+}
 
+-- a row with one of its columns set
 abbrev pub with_column : EventRow → ℕ → Val → EventRow
-with_column = sheeted.with_column event_sheet typed
+with_column row n value = record {
+  description = if nat_eq 2 n then (texts 127).taken value else row.description;
+  event_type = if nat_eq 3 n then types.taken value else row.event_type;
+  community = if nat_eq 4 n then (texts 127).taken value else row.community;
+  owner = if nat_eq 6 n then (texts 127).taken value else row.owner;
+}
 
--- the columns that events are made of
-abbrev pub description_in_row : EventRow → List ℕ
-description_in_row row = row.typed.first.items
+pub blank_alike : HasSameColumns event_table (set_to blank_row) (λ column. None)
+blank_alike = row_begins event_table (set_to blank_row) (λ n. refl) refl
 
-abbrev pub type_in_row : EventRow → EventType
-type_in_row row = row.typed.rest.first
-
-abbrev pub community_in_row : EventRow → List ℕ
-community_in_row row = row.typed.rest.rest.first.items
+pub set_with : (row : EventRow) (n other : ℕ) (value : Val) → value_fault (column_kind event_table n) value ≡ None → set_to (with_column row n value) other ≡ (if nat_eq n other then Some value else set_to row other)
+set_with row n other value fine =
+    set_of event_table.columns n other value (set_to row) (set_to (with_column row n value))
+    (one_more (texts 127) (text_column 2) refl _ n value row.description _ _
+    (one_more types type_column refl _ n value row.event_type _ _
+    (one_more (texts 127) (text_column 4) refl _ n value row.community _ _
+    (one_more (texts 127) (owner_column 6) refl [] n value row.owner _ _ (no_columns n value)))))
+    fine

@@ -8,7 +8,7 @@ use Rattle.rm_model.specs.declared.row.StatusKind.TheVariants.{EntryStatus}
 use Rattle.rm_model.specs.declared.row.State.{State}
 use Rattle.rm_event.specs.declared.event_type.EventType.{EventType}
 use Rattle.rm_event.specs.EventType.{type_in}
-pub use Rattle.rm_acts.specs.Events.{event_entry, event_sheet, event_table, all_together}
+pub use Rattle.rm_acts.specs.Events.{event_entry, event_table}
 
 -- the state of a row
 abbrev pub event_state : Journal → List ℕ → State

@@ -2,7 +2,7 @@
 use Rattle.std.specs.Prelude.{◌≡◌, ℕ, ◌≤◌, List, [], ◌∷◌, is_some}
 use Rattle.std.proofs.Props.{props}
 use Rattle.rm_status.specs.declared.row.Row.{Row}
-use Rattle.rm_event.specs.EventRows.{EventRow}
+use Rattle.rm_event.specs.declared.event_row.EventRow.{EventRow}
 use Rattle.rm_event.specs.declared.log.Log.{Log}
 use Rattle.rm_event.specs.Logs.{log_in, AreDistinct, valid_in}
 

@@ -4,7 +4,7 @@ use Rattle.std.specs.Option.{option_map_or}
 use Rattle.rm_model.specs.ControlRows.{is_valid}
 use Rattle.rm_status.specs.declared.row.Row.{Row}
 use Rattle.rm_status.specs.Rows.{state_in}
-use Rattle.rm_event.specs.EventRows.{EventRow}
+use Rattle.rm_event.specs.declared.event_row.EventRow.{EventRow}
 use Rattle.rm_event.specs.declared.log.Log.{Log}
 use Rattle.rm_event.specs.Log.{IsNew}
 use Rattle.rm_event.specs.declared.logs.Logs.{Logs}

@@ -8,7 +8,8 @@ use Rattle.rm_status.specs.RowsAfter.{AreRowsAfter}
 use Rattle.rm_status.specs.declared.row.Row.{Row}
 use Rattle.rm_acts.specs.declared.firing.Firing.{Firing}
 use Rattle.rm_event.specs.EventTable.{event_table, event_state, event_set, type_of}
-use Rattle.rm_event.specs.EventRows.{EventRow, set_to}
+use Rattle.rm_event.specs.declared.event_row.EventRow.{EventRow}
+use Rattle.rm_event.specs.EventRows.{set_to}
 use Rattle.rm_acts.specs.Fired.{act_fires, fired, moments_in, firings, firings_with}
 use Rattle.rm_event.specs.Firings.{is_set}
 

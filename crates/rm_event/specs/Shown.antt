@@ -9,7 +9,8 @@ use Rattle.rm_status.specs.declared.row.Row.{Row}
 use Rattle.rm_status.specs.Rows.{row_in, columns_in, row_number}
 use Rattle.rm_event.specs.declared.log_column.LogColumn.{LogColumn}
 use Rattle.rm_event.specs.declared.log_column.LogColumn.TheVariants as log
-use Rattle.rm_event.specs.EventRows.{EventRow, set_to, description_in_row}
+use Rattle.rm_event.specs.declared.event_row.EventRow.{EventRow}
+use Rattle.rm_event.specs.EventRows.{set_to}
 use Rattle.rm_event.specs.declared.log.Log.{Log}
 use Rattle.rm_event.specs.Columns.{event_columns, log_columns, log_column}
 use Rattle.rm_event.specs.EventTable.{event_table}
@@ -31,7 +32,7 @@ rows_table rows logs = kept_cells event_table set_to event_columns (kept_other l
 
 -- the description of an event, if there is a row of it
 abbrev pub description_in : List (Row EventRow) → ℕ → Val
-description_in rows event = option_map_or (λ columns. octets (description_in_row columns)) (columns_in rows event) null
+description_in rows event = option_map_or (λ columns. octets columns.description.items) (columns_in rows event) null
 
 -- whether these numbers are those of an event that has a log and of an entry that the log shows
 abbrev pub is_kept : List Log → List ℕ → Bool

@@ -61,17 +61,9 @@ fn instance_value<'a>(rows: &'a Controls<EventRow>, logs: &Logs, at: &Instance) 
         return None;
     }
     let index = at.index.at(0);
-    let state = rows.state(index);
-    let row = rows.get(index)?;
-    prove!(rows.len() <= 16);
+    let row = rows.row(index)?;
     let other = other_value(index, last_sent(logs, index), at.column);
-    Some(row.cell(
-        EVENT_STATUS,
-        StatusKind::EntryStatus,
-        state,
-        other,
-        at.column,
-    ))
+    Some(row.cell(EVENT_STATUS, StatusKind::EntryStatus, at.column, other))
 }
 
 // When the event of a row fired last, 0 where it has no log.

@@ -1,12 +1,14 @@
-// The table eventTable: what is fixed of it, and the types of its columns.
-ghost use Rattle.std.specs.Prelude.{◌≡◌, ◌≤◌, length, refl};
-ghost use Rattle.rm_event.specs.EventTable.{event_sheet, all_together};
-ghost use Rattle.rm_event.specs.EventRows.{description_in_row, type_in_row, community_in_row};
+// The columns of a row of eventTable.
+ghost use Rattle.std.specs.Prelude.{◌≡◌, refl};
+ghost use Rattle.rm_event.specs.EventTable.{event_table};
+ghost use Rattle.rm_event.specs.EventRows.{set_to, blank_row, with_column, blank_alike, set_with};
 
 use crate::event_type::EventType;
 use arrayvec::ArrayVec;
-use rm_model::{ColumnKind, ColumnSheet, Settable, Setting, Span};
-use rm_status::{Also, Described, Nothing, Sheeted};
+use rm_model::Setting::{Empty, Number};
+use rm_model::{ColumnKind, ColumnSheet, column, numbers};
+use rm_status::{Columns, put_text, same_text};
+use rm_val::Value;
 
 /// How many octets a text has at most.
 const MOST_TEXT: usize = 127;
@@ -21,93 +23,99 @@ pub const EVENT_SHOWN: [u32; 7] = [1, 2, 3, 4, 5, 6, 7];
 /// The number of eventStatus.
 pub const EVENT_STATUS: u32 = 7;
 
-/// The other columns that can be set: eventDescription, eventType, eventCommunity and eventOwner.
-pub const EVENT_COLUMNS: &[ColumnSheet] = &[
-    ColumnSheet {
-        number: 2,
-        kind: ColumnKind::Text(127),
-        settable: Settable::UnderCreation,
-        needed: false,
-        default: Setting::Empty,
-    },
-    ColumnSheet {
-        number: 3,
-        kind: ColumnKind::Number(Span {
-            least: 1,
-            greatest: 4,
-        }),
-        settable: Settable::UnderCreation,
-        needed: false,
-        default: Setting::Number(1),
-    },
-    ColumnSheet {
-        number: 4,
-        kind: ColumnKind::Text(127),
-        settable: Settable::UnderCreation,
-        needed: false,
-        default: Setting::Empty,
-    },
-    ColumnSheet {
-        number: 6,
-        kind: ColumnKind::Text(127),
-        settable: Settable::Always,
-        needed: false,
-        default: Setting::Empty,
-    },
+/// eventDescription, eventType, eventCommunity and eventOwner.
+const SHEET: &[ColumnSheet] = &[
+    column!(2, ColumnKind::Text(127), Empty),
+    column!(3, numbers!(1, 4), Number(1)),
+    column!(4, ColumnKind::Text(127), Empty),
+    column!(6, ColumnKind::Text(127), Empty, always),
 ];
 
-/// A text of eventTable.
-type Text = ArrayVec<u8, MOST_TEXT>;
-
-/// The table with these columns.
+/// The columns of a row of eventTable that can be set (RFC 1757, section 5).
 #[derive(Drop)]
-pub struct EventTable {}
+pub struct EventRow {
+    /// eventDescription
+    pub description: ArrayVec<u8, MOST_TEXT>,
+    /// eventType
+    pub event_type: EventType,
+    /// eventCommunity
+    pub community: ArrayVec<u8, MOST_TEXT>,
+    /// eventOwner
+    pub owner: ArrayVec<u8, MOST_TEXT>,
+}
 
-/// The columns of a row of eventTable that can be set.
-pub type EventRow = Sheeted<EventTable>;
+impl Default for EventRow {
+    ghost is_default = { λ row. row ≡ blank_row };
 
-impl Described for EventTable {
-    type Typed = Also<Text, Also<EventType, Also<Text, Also<Text, Nothing>>>>;
+    fn default() -> Self {
+        EventRow::blank()
+    }
+}
 
-    type Data = Nothing;
+impl Columns for EventRow {
+    ghost table = { event_table };
 
-    ghost sheet = { event_sheet };
+    ghost set_to = { set_to };
 
-    ghost go_together = { all_together };
+    ghost blank_row = { blank_row };
 
-    ghost fits = { refl };
+    ghost with_column = { with_column };
+
+    ghost spelled = { λ row. Unit {0} };
+
+    ghost default_is_blank = { λ row is. is };
+
+    ghost blank_alike = { blank_alike };
+
+    ghost set_with = { set_with };
 
     ghost sound = { refl };
 
     ghost apart = { refl };
 
-    fn columns() -> &'static [ColumnSheet] {
-        EVENT_COLUMNS
+    fn sheet() -> &'static [ColumnSheet] {
+        SHEET
     }
 
-    fn agree(_columns: &Self::Typed) -> bool {
+    fn blank() -> Self {
+        EventRow {
+            description: ArrayVec::new(),
+            event_type: EventType::None,
+            community: ArrayVec::new(),
+            owner: ArrayVec::new(),
+        }
+    }
+
+    fn put(&mut self, column: u32, value: &Value<'_>) {
+        match column {
+            2 => put_text(&mut self.description, value),
+            3 => self.event_type = EventType::given(value),
+            4 => put_text(&mut self.community, value),
+            6 => put_text(&mut self.owner, value),
+            _ => {}
+        }
+    }
+
+    fn show(&self, column: u32) -> Option<Value<'_>> {
+        match column {
+            2 => Some(Value::Octets(self.description.as_slice())),
+            3 => Some(Value::Int(self.event_type.number())),
+            4 => Some(Value::Octets(self.community.as_slice())),
+            6 => Some(Value::Octets(self.owner.as_slice())),
+            _ => None,
+        }
+    }
+
+    fn agree(&self) -> bool {
         true
     }
-}
 
-/// eventDescription
-pub(crate) fn description(row: &EventRow) -> &[u8]
-    ensures { result.now ≡ description_in_row row.now }
-{
-    row.typed.first.as_slice()
-}
-
-/// eventType
-pub(crate) fn event_type(row: &EventRow) -> EventType
-    ensures { result ≡ type_in_row row.now }
-{
-    row.typed.rest.first
-}
-
-/// eventCommunity
-pub(crate) fn community(row: &EventRow) -> &[u8]
-    ensures value { result.now ≡ community_in_row row.now }
-    ensures most { length result.now ≤ 127 }
-{
-    row.typed.rest.rest.first.as_slice()
+    fn bare(&self) -> Self {
+        EventRow {
+            description: same_text(&self.description),
+            event_type: self.event_type,
+            community: same_text(&self.community),
+            owner: same_text(&self.owner),
+        }
+    }
 }

@@ -2,10 +2,9 @@
 ghost use Rattle.std.specs.Prelude.{◌≡◌, pos};
 ghost use Rattle.rm_val.specs.Val.{val_of};
 ghost use Rattle.rm_event.specs.EventType.{numbered, number_of, type_in, is_logged, fired_as};
-ghost use Rattle.rm_event.specs.EventTypes.{types};
 
 use crate::fired::Fired;
-use rm_status::{Field, natural_in};
+use rm_status::natural_in;
 use rm_val::Value;
 
 /// What an event does where it fires (RFC 1757, eventType).
@@ -18,6 +17,13 @@ pub enum EventType {
 }
 
 impl EventType {
+    /// The type that a value is. None for every value that isn't one of the others'.
+    pub fn given(value: &Value<'_>) -> EventType
+        ensures { result ≡ type_in (val_of value.now) }
+    {
+        EventType::numbered(natural_in(value))
+    }
+
     // The type with that number.
     fn numbered(number: u32) -> EventType
         ensures { result ≡ numbered number }
@@ -65,25 +71,5 @@ impl EventType {
             EventType::SnmpTrap => Fired::Trap,
             EventType::LogAndTrap => Fired::Both,
         }
-    }
-}
-
-impl Field for EventType {
-    ghost field = { types };
-
-    fn given(value: &Value<'_>) -> Self {
-        EventType::numbered(natural_in(value))
-    }
-
-    fn unset() -> Self {
-        EventType::None
-    }
-
-    fn show(&self) -> Option<Value<'_>> {
-        Some(Value::Int(self.number()))
-    }
-
-    fn same(&self) -> Self {
-        *self
     }
 }

@@ -8,13 +8,12 @@ ghost use Rattle.rm_model.specs.ControlRows.{is_valid};
 ghost use Rattle.rm_status.specs.Rows.{state_in, columns_in};
 ghost use Rattle.rm_acts.specs.declared.firing.Firing.{Firing};
 ghost use Rattle.rm_event.specs.declared.fired.Fired.TheVariants as FiredTo;
-ghost use Rattle.rm_event.specs.EventRows.{EventRow as Columns, type_in_row};
+ghost use Rattle.rm_event.specs.declared.event_row.EventRow.{EventRow as Columns};
 ghost use Rattle.rm_event.specs.EventTable.{event_state, type_of};
 ghost use Rattle.rm_event.specs.Firings.{is_set};
 ghost use Rattle.rm_event.specs.Group.{IsStocked, IsReleased};
 ghost use Rattle.rm_event.specs.Standing.{HasRows, Stands, IsUnderWay, fired_of, community_of};
 
-use crate::event_row::{community, event_type};
 use crate::event_type::EventType;
 use crate::events::Events;
 use crate::fired::Fired;
@@ -80,11 +79,11 @@ impl Events {
     // The type of an event, if its row is valid.
     fn valid_type(&self, index: u32) -> Option<EventType>
         ensures valid { IfSome result (λ kind. (is_valid (state_in self.now.rows index) ≡ true)
-            × ((columns : Columns) → columns_in self.now.rows index ≡ Some columns → kind ≡ type_in_row columns)) }
+            × ((columns : Columns) → columns_in self.now.rows index ≡ Some columns → kind ≡ columns.event_type)) }
         ensures idle { IfNone result (is_valid (state_in self.now.rows index) ≡ false) }
     {
         match self.rows.state(index) {
-            State::Valid => Some(event_type(self.rows.get(index)?)),
+            State::Valid => Some(self.rows.get(index)?.event_type),
             _ => None,
         }
     }
@@ -97,7 +96,7 @@ impl Events {
     {
         prove!(self.rows.len() <= 16);
         match self.rows.get(index) {
-            Some(row) => Some(community(row)),
+            Some(row) => Some(row.community.as_slice()),
             None => None,
         }
     }

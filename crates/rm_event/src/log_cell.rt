@@ -9,7 +9,7 @@ ghost use Rattle.rm_event.specs.Shown.{description_in, entry_value, logs_table};
 ghost use Rattle.rm_event.specs.Tables.{log_entry};
 
 use crate::entries::Entries;
-use crate::event_row::{EventRow, description as description_of};
+use crate::event_row::EventRow;
 use crate::log::Log;
 use crate::log_column::{LOG_COLUMNS, LogColumn};
 use crate::logs::Logs;
@@ -110,7 +110,7 @@ fn description(rows: &Controls<EventRow>, event: u32) -> Value<'_>
     ensures spelling { HasSpelling (val_of result) }
 {
     match rows.get(event) {
-        Some(row) => Value::Octets(description_of(row)),
+        Some(row) => Value::Octets(row.description.as_slice()),
         None => Value::Null,
     }
 }

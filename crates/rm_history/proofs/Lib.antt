@@ -8,6 +8,5 @@ mod Storage
 mod InRange
 mod Begins
 mod AfterSets
-mod ShownRows
 mod Walks
 mod SameCells

@@ -37,7 +37,7 @@ use Rattle.rm_history.specs.Runs.{run_in}
 use Rattle.rm_history.specs.Shown.{granted_in, row_value, value_in, rows_table, is_kept, bucket_value, bucket_in, runs_table, cells_shown}
 use Rattle.rm_history.specs.Standing.{IsRun, IsHistory, AreHistories}
 use Rattle.rm_history.proofs.Rings.{le_yes}
-use Rattle.rm_history.proofs.ShownRows.{row_there, row_0}
+use Rattle.rm_status.proofs.RowFacts.{row_there, no_row_0 as row_0}
 
 -- historyControl
 module _ (rows : List (Row ControlColumns)) (held : AreControlRows rows) (journal : Journal) (is : AreRowsAfter history_control no_rows set_to rows journal) where
@@ -83,7 +83,7 @@ module _ (rows : List (Row ControlColumns)) (held : AreControlRows rows) (journa
 
   -- there is no row 0
   pub no_row_0 : is_valid (control_state journal (0 ∷ [])) ≡ false
-  no_row_0 = of_state (control_state journal (0 ∷ [])) (is_row (0 ∷ []) ∙ ap is_some (row_0 rows held))
+  no_row_0 = of_state (control_state journal (0 ∷ [])) (is_row (0 ∷ []) ∙ ap is_some (row_0 rows held.1))
     where
       of_state : (s : State) → not (is_absent s) ≡ false → is_valid s ≡ false
       of_state Absent e = refl

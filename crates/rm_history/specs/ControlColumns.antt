@@ -1,19 +1,18 @@
 -- What is kept of the columns of a row of historyControl.
-use Rattle.std.specs.Prelude.{◌≡◌, ℕ, pos, ◌≤◌, List, [], nat_eq, if◌then◌else◌, Option, Some, None}
-use Rattle.rm_val.specs.Val.{Val, int, octets, name}
-use Rattle.rm_model.specs.Interfaces.{interface_name}
+use Rattle.std.specs.Prelude.{◌≡◌, ℕ, ◌≤◌, List, [], nat_eq, if◌then◌else◌, Option, Some, None}
+use Rattle.rm_val.specs.Val.{Val}
 use Rattle.rm_status.specs.declared.row.Row.{Row}
 use Rattle.rm_status.specs.Rows.{row_in}
-use Rattle.rm_status.specs.Values.{interface_in, octets_in, natural_in}
+use Rattle.rm_status.specs.Kinds.{sources, naturals, texts}
 use Rattle.rm_history.specs.declared.control_columns.ControlColumns.{ControlColumns}
 
 -- what each column was set to; those that weren't set count as set to their default
 abbrev pub set_to : ControlColumns → ℕ → Option Val
 set_to columns n =
-    if nat_eq 2 n then Some (name (interface_name columns.source))
-    else if nat_eq 3 n then Some (int (pos columns.requested))
-    else if nat_eq 5 n then Some (int (pos columns.interval))
-    else if nat_eq 6 n then Some (octets columns.owner.items)
+    if nat_eq 2 n then sources.shown columns.source
+    else if nat_eq 3 n then (naturals 1 65535).shown columns.requested
+    else if nat_eq 5 n then (naturals 1 3600).shown columns.interval
+    else if nat_eq 6 n then (texts 127).shown columns.owner
     else None
 
 -- the columns of a new row
@@ -23,10 +22,10 @@ blank_columns = record { source = 1; requested = 50; interval = 1800; owner = re
 -- columns with one of them set
 abbrev pub with_column : ControlColumns → ℕ → Val → ControlColumns
 with_column columns n value = record {
-  source = if nat_eq 2 n then interface_in value else columns.source;
-  requested = if nat_eq 3 n then natural_in value else columns.requested;
-  interval = if nat_eq 5 n then natural_in value else columns.interval;
-  owner = record { items = if nat_eq 6 n then octets_in value else columns.owner.items };
+  source = if nat_eq 2 n then sources.taken value else columns.source;
+  requested = if nat_eq 3 n then (naturals 1 65535).taken value else columns.requested;
+  interval = if nat_eq 5 n then (naturals 1 3600).taken value else columns.interval;
+  owner = if nat_eq 6 n then (texts 127).taken value else columns.owner;
 }
 
 -- the numbers are among those that the columns take

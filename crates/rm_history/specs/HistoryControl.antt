@@ -1,10 +1,10 @@
 -- The table historyControl (RFC 1757, section 5), and what it shows after a journal.
 use Rattle.std.specs.Prelude.{ℕ, pos, min, List, [], ◌∷◌, true, false, not, if◌then◌else◌}
-use Rattle.rm_val.specs.Val.{Val, int, octets, name}
+use Rattle.rm_val.specs.Val.{Val, int}
 use Rattle.rm_model.specs.Journal.{Frame, Journal, frames_in}
-use Rattle.rm_model.specs.Interfaces.{interface_name, frames_of}
+use Rattle.rm_model.specs.Interfaces.{frames_of}
 use Rattle.rm_model.specs.Cells.{Table}
-use Rattle.rm_model.specs.ControlTable.{Column, ControlTable, number, data_source, text}
+use Rattle.rm_model.specs.ControlTable.{Column, ControlTable, number, source_column, owner_column}
 use Rattle.rm_model.specs.ControlRows.{no_rows, is_absent, is_valid, state_of, value_of, since, activated, index_value, entry_status}
 use Rattle.rm_model.specs.declared.row.StatusKind.TheVariants.{EntryStatus}
 use Rattle.rm_model.specs.declared.row.State.{State}
@@ -18,19 +18,12 @@ use Rattle.rm_history.specs.declared.plan.Plan.{Plan}
 abbrev pub control_entry : List ℕ
 control_entry = 1 ∷ 3 ∷ 6 ∷ 1 ∷ 2 ∷ 1 ∷ 16 ∷ 2 ∷ 1 ∷ 1 ∷ []
 
--- the columns that can be set: the data source, which is interface 1 until it is set; the buckets requested; the interval in
--- seconds; and the owner, which may be set at any time
-abbrev pub data_source_column : Column
-data_source_column = record { number = 2; kind = data_source; always = false; needed = false; default = name (interface_name 1) }
-
+-- the buckets requested, and the interval in seconds
 abbrev pub requested_column : Column
 requested_column = record { number = 3; kind = number (record { least = pos 1; greatest = pos 65535 } ∷ []); always = false; needed = false; default = int (pos 50) }
 
 abbrev pub interval_column : Column
 interval_column = record { number = 5; kind = number (record { least = pos 1; greatest = pos 3600 } ∷ []); always = false; needed = false; default = int (pos 1800) }
-
-abbrev pub owner_column : Column
-owner_column = record { number = 6; kind = text 127; always = true; needed = false; default = octets [] }
 
 -- the control table: a row asks for so many buckets of so many seconds each of the frames of a data source
 abbrev pub history_control : ControlTable
@@ -38,7 +31,7 @@ history_control = record {
   entry = control_entry;
   status = 7;
   status_kind = EntryStatus;
-  columns = data_source_column ∷ requested_column ∷ interval_column ∷ owner_column ∷ [];
+  columns = source_column 2 ∷ requested_column ∷ interval_column ∷ owner_column 6 ∷ [];
   go_together = λ value. true;
   is_sampled = false;
 }

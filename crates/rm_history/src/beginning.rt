@@ -70,7 +70,7 @@ fn plan_from(columns: &ControlColumns, now: u32) -> Plan
 {
     Plan {
         start: now,
-        seconds: columns.interval,
-        kept: columns.requested.min(MOST_BUCKETS),
+        seconds: u32::from(columns.interval),
+        kept: u32::from(columns.requested).min(MOST_BUCKETS),
     }
 }

@@ -4,8 +4,6 @@ ghost use Rattle.std.specs.Option.{option_map};
 ghost use Rattle.rm_val.specs.Val.{val_of};
 ghost use Rattle.rm_val.specs.Spellable.{IsSpellable, HasSpelling};
 ghost use Rattle.rm_model.specs.Cells.{cells_of, cell_at, IsNext};
-ghost use Rattle.rm_model.specs.ControlRows.{entry_status};
-ghost use Rattle.rm_history.specs.ControlColumns.{AreInRange, AreAllInRange};
 ghost use Rattle.rm_history.specs.HistoryControl.{control_entry};
 ghost use Rattle.rm_history.specs.Shown.{granted_in, row_value, rows_table};
 
@@ -13,7 +11,9 @@ use crate::control_column::{CONTROL_COLUMNS, ControlColumn};
 use crate::control_columns::ControlColumns;
 use crate::run::MOST_BUCKETS;
 use rm_model::Instance;
-use rm_status::{Controls, State, instance_of, interface_name, next_name};
+use rm_status::{
+    Controls, State, StatusKind, instance_of, interface_name, next_name, status_number,
+};
 use rm_val::{Oid, Value};
 
 /// The identifier of historyControlEntry.
@@ -25,7 +25,6 @@ pub(crate) fn control_entry() -> Oid
 
 /// The value of the cell of historyControl with that name, by the rows. None where the table has no such cell.
 pub(crate) fn control_cell<'a>(rows: &'a Controls<ControlColumns>, name: &Oid) -> Option<Value<'a>>
-    requires in_range { AreAllInRange rows.now }
     ensures value { option_map val_of result ≡ cells_of (rows_table rows.now) name.now }
     ensures spelling { IfSome result (λ value. HasSpelling (val_of value)) }
 {
@@ -41,7 +40,6 @@ pub(crate) fn next_control<'a>(
     now: u32,
     out: &mut Oid,
 ) -> Option<Value<'a>>
-    requires in_range { AreAllInRange rows.now }
     ensures next { IsNext (cells_of (rows_table rows.now)) name.now (option_map val_of result) out.new }
     ensures stays { IfNone result (out.new ≡ out.old) }
     ensures name_spelling { OnSome result (IsSpellable out.new) }
@@ -53,7 +51,6 @@ pub(crate) fn next_control<'a>(
 
 // The value at an instance, if there is such a row.
 fn instance_value<'a>(rows: &'a Controls<ControlColumns>, at: &Instance) -> Option<Value<'a>>
-    requires in_range { AreAllInRange rows.now }
     ensures value { option_map val_of result ≡ cell_at (rows_table rows.now) (Some at.now) }
     ensures spelling { IfSome result (λ value. HasSpelling (val_of value)) }
 {
@@ -61,27 +58,31 @@ fn instance_value<'a>(rows: &'a Controls<ControlColumns>, at: &Instance) -> Opti
         return None;
     }
     let index = at.index.at(0);
-    let state = rows.state(index);
-    let columns = rows.get(index)?;
-    prove!(rows.len() <= 16);
-    Some(value_of(index, state, columns, ControlColumn::numbered(at.column)))
+    let row = rows.row(index)?;
+    Some(value_of(
+        index,
+        row.state,
+        &row.columns,
+        ControlColumn::numbered(at.column),
+    ))
 }
 
 // What a column of a row shows.
 fn value_of(index: u32, state: State, row: &ControlColumns, column: ControlColumn) -> Value<'_>
     requires index { index ≤ 65535 }
-    requires in_range { AreInRange row.now }
     ensures value { val_of result ≡ row_value index state row.now column }
     ensures spelling { HasSpelling (val_of result) }
 {
     match column {
         ControlColumn::Index => Value::Int(index as i32),
         ControlColumn::DataSource => Value::Name(interface_name(row.source)),
-        ControlColumn::BucketsRequested => Value::Int(row.requested as i32),
-        ControlColumn::BucketsGranted => Value::Int(granted(state, row.requested) as i32),
-        ControlColumn::Interval => Value::Int(row.interval as i32),
+        ControlColumn::BucketsRequested => Value::Int(i32::from(row.requested)),
+        ControlColumn::BucketsGranted => Value::Int(
+            granted(state, u32::from(row.requested)) as i32,
+        ),
+        ControlColumn::Interval => Value::Int(i32::from(row.interval)),
         ControlColumn::Owner => Value::Octets(row.owner.as_slice()),
-        ControlColumn::Status => Value::Int(status_of(state)),
+        ControlColumn::Status => Value::Int(status_number(StatusKind::EntryStatus, state)),
     }
 }
 
@@ -92,16 +93,5 @@ fn granted(state: State, requested: u32) -> u32
     match state {
         State::Valid => requested.min(MOST_BUCKETS),
         _ => 0,
-    }
-}
-
-// The number of a state, as an EntryStatus (RFC 1757, section 5).
-fn status_of(state: State) -> i32
-    ensures { result ≡ entry_status state }
-{
-    match state {
-        State::Valid => 1,
-        State::UnderCreation => 3,
-        State::Absent => 4,
     }
 }

@@ -5,10 +5,10 @@ ghost use Rattle.rm_history.specs.ControlColumns.{set_to, blank_columns, with_co
 ghost use Rattle.rm_history.specs.ColumnLaws.{blank_alike, set_with};
 
 use arrayvec::ArrayVec;
-use rm_status::{
-    Columns, interface_in, natural_in, number_fault, put_text, source_fault, text_fault,
-};
-use rm_val::{ErrorStatus, Value};
+use rm_model::Setting::{Empty, Interface, Number};
+use rm_model::{ColumnKind, ColumnSheet, column, numbers};
+use rm_status::{Columns, interface_in, interface_name, put_text, same_text, short_in};
+use rm_val::Value;
 
 /// The status column of historyControl.
 pub const STATUS: u32 = 7;
@@ -16,15 +16,23 @@ pub const STATUS: u32 = 7;
 /// How many octets an owner has at most.
 const MOST_OWNER: usize = 127;
 
+/// historyControlDataSource, historyControlBucketsRequested, historyControlInterval and historyControlOwner.
+const SHEET: &[ColumnSheet] = &[
+    column!(2, ColumnKind::Source, Interface(1)),
+    column!(3, numbers!(1, 65535), Number(50)),
+    column!(5, numbers!(1, 3600), Number(1800)),
+    column!(6, ColumnKind::Text(127), Empty, always),
+];
+
 /// The columns of a row of historyControl that can be set (RFC 1757, section 5).
 #[derive(Drop)]
 pub struct ControlColumns {
     /// The number of the interface that historyControlDataSource names.
     pub source: u32,
     /// historyControlBucketsRequested, 1 to 65535.
-    pub requested: u32,
+    pub requested: u16,
     /// historyControlInterval in seconds, 1 to 3600.
-    pub interval: u32,
+    pub interval: u16,
     /// historyControlOwner.
     pub owner: ArrayVec<u8, MOST_OWNER>,
 }
@@ -46,13 +54,21 @@ impl Columns for ControlColumns {
 
     ghost with_column = { with_column };
 
+    ghost spelled = { λ columns. Unit {0} };
+
     ghost default_is_blank = { λ columns is. is };
 
     ghost blank_alike = { blank_alike };
 
-    ghost set_with = { λ columns n other value fine. set_with columns n other value fine };
+    ghost set_with = { set_with };
 
     ghost sound = { refl };
+
+    ghost apart = { refl };
+
+    fn sheet() -> &'static [ColumnSheet] {
+        SHEET
+    }
 
     fn blank() -> Self {
         ControlColumns {
@@ -63,52 +79,36 @@ impl Columns for ControlColumns {
         }
     }
 
-    fn check(column: u32, value: &Value<'_>) -> Option<ErrorStatus> {
-        if column == 2 {
-            source_fault(value)
-        } else if column == 3 {
-            number_fault(value, 1, 65535)
-        } else if column == 5 {
-            number_fault(value, 1, 3600)
-        } else if column == 6 {
-            text_fault(value, MOST_OWNER)
-        } else {
-            Some(ErrorStatus::NotWritable)
-        }
-    }
-
-    fn always(column: u32) -> bool {
-        column == 6
-    }
-
-    fn needed(_column: u32) -> bool {
-        false
-    }
-
     fn put(&mut self, column: u32, value: &Value<'_>) {
-        if column == 2 {
-            self.source = interface_in(value);
-        } else if column == 3 {
-            self.requested = natural_in(value);
-        } else if column == 5 {
-            self.interval = natural_in(value);
-        } else if column == 6 {
-            put_text(&mut self.owner, value);
+        match column {
+            2 => self.source = interface_in(value),
+            3 => self.requested = short_in(value),
+            5 => self.interval = short_in(value),
+            6 => put_text(&mut self.owner, value),
+            _ => {}
         }
     }
 
-    fn ready(&self) -> bool {
+    fn show(&self, column: u32) -> Option<Value<'_>> {
+        match column {
+            2 => Some(Value::Name(interface_name(self.source))),
+            3 => Some(Value::Int(i32::from(self.requested))),
+            5 => Some(Value::Int(i32::from(self.interval))),
+            6 => Some(Value::Octets(self.owner.as_slice())),
+            _ => None,
+        }
+    }
+
+    fn agree(&self) -> bool {
         true
     }
 
     fn bare(&self) -> Self {
-        let mut owner = ArrayVec::new();
-        owner.try_extend_from_slice(self.owner.as_slice()).unwrap();
         ControlColumns {
             source: self.source,
             requested: self.requested,
             interval: self.interval,
-            owner,
+            owner: same_text(&self.owner),
         }
     }
 }

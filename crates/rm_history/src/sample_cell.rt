@@ -1,5 +1,5 @@
 // The cells of etherHistory.
-ghost use Rattle.std.specs.Prelude.{◌≡◌, ℕ, ◌<◌, ◌≤◌, ◌%◌, ◌^◌, true, is_some, IfSome, OnSome, IfNone};
+ghost use Rattle.std.specs.Prelude.{◌≡◌, ℕ, ◌<◌, ◌≤◌, ◌^◌, true, is_some, IfSome, OnSome, IfNone};
 ghost use Rattle.std.specs.Option.{option_map, option_copied};
 ghost use Rattle.rm_val.specs.Val.{val_of};
 ghost use Rattle.rm_val.specs.Spellable.{IsSpellable, HasSpelling};
@@ -18,7 +18,7 @@ use crate::sample_column::{SAMPLE_COLUMNS, SampleColumn};
 use crate::samples::Samples;
 use rm_ether::{Counter, Statistics};
 use rm_model::Instance;
-use rm_status::{instance_of, next_name};
+use rm_status::{counter_32, instance_of, next_name};
 use rm_val::{Oid, Value};
 
 /// A utilization of 100 percent, in hundredths of a percent.
@@ -96,7 +96,7 @@ fn value_of(row: u32, run: &Run, bucket: u32, column: SampleColumn) -> Value<'st
         SampleColumn::Index => Value::Int(row as i32),
         SampleColumn::SampleIndex => Value::Int(bucket as i32),
         SampleColumn::IntervalStart => Value::Ticks(begin_of(run.plan, bucket) / 10),
-        SampleColumn::Counts(counter) => Value::Counter(shown(run.bucket(bucket).of(counter))),
+        SampleColumn::Counts(counter) => Value::Counter(counter_32(run.bucket(bucket).of(counter))),
         SampleColumn::Utilization => {
             Value::Int(utilization(&run.bucket(bucket), run.plan.seconds) as i32)
         }
@@ -124,11 +124,4 @@ fn utilization(statistics: &Statistics, seconds: u32) -> u32
     let octets = u128::from(statistics.of(Counter::Octets));
     let hundredths = (20 * packets + octets) / (125 * u128::from(seconds));
     hundredths.min(MOST_UTILIZATION) as u32
-}
-
-// A counter as a Counter32 shows it.
-fn shown(counter: u64) -> u32
-    ensures { result ≡ counter % 2 ^ 32 }
-{
-    (counter % (1 << 32)) as u32
 }

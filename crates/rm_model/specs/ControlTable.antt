@@ -1,8 +1,9 @@
 -- What is fixed of a control table: its columns, and the values that they take.
-use Rattle.std.specs.Prelude.{ℕ, ℤ, List, Bool, ◌&&◌, ◌||◌, not, nat_eq, Option, is_some, unwrap_or, find}
+use Rattle.std.specs.Prelude.{ℕ, ℤ, List, [], Bool, true, false, ◌&&◌, ◌||◌, not, nat_eq, Option, is_some, unwrap_or, find}
 use Rattle.std.specs.List.{list_all}
 use Rattle.std.specs.Option.{option_map_or}
-use Rattle.rm_val.specs.Val.{Val, null}
+use Rattle.rm_val.specs.Val.{Val, null, name, octets}
+use Rattle.rm_model.specs.Interfaces.{interface_name}
 use Rattle.rm_model.specs.declared.row.StatusKind.{StatusKind}
 
 -- the numbers from the least one to the greatest one
@@ -26,6 +27,14 @@ pub record Column : Type 0 where
   pub always : Bool
   pub needed : Bool
   pub default : Val
+
+-- A data source, which is interface 1 until it is set.
+abbrev pub source_column : ℕ → Column
+source_column column = record { number = column; kind = data_source; always = false; needed = false; default = name (interface_name 1) }
+
+-- The owner of a row, who may be set at any time.
+abbrev pub owner_column : ℕ → Column
+owner_column column = record { number = column; kind = text 127; always = true; needed = false; default = octets [] }
 
 -- A control table: the identifier of its entry, its status column and which kind of status that has, its other
 -- writable columns, and whether values of these go together in a row that is ready. The rows of a sampled table are

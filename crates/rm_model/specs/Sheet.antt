@@ -1,9 +1,9 @@
--- The control table that a description of the code describes.
+-- The columns of a control table that a description of the code describes.
 use Rattle.std.specs.Prelude.{ℕ, List, [], ◌∷◌, Bool, true, false, not, ◌&&◌, nat_eq, map}
 use Rattle.std.specs.List.{list_all}
 use Rattle.rm_val.specs.Val.{Val, int, octets, name}
 use Rattle.rm_model.specs.Interfaces.{interface_name}
-use Rattle.rm_model.specs.ControlTable.{Range, Kind, number, text, any_name, data_source, Column, ControlTable}
+use Rattle.rm_model.specs.ControlTable.{Range, Kind, number, text, any_name, data_source, Column}
 use Rattle.rm_model.specs.declared.sheet.Span.{Span}
 use Rattle.rm_model.specs.declared.sheet.ColumnKind.{ColumnKind}
 use Rattle.rm_model.specs.declared.sheet.ColumnKind.TheVariants.{Number, Either, Text, AnyName, Source}
@@ -12,7 +12,6 @@ use Rattle.rm_model.specs.declared.sheet.Setting.TheVariants as shows
 use Rattle.rm_model.specs.declared.sheet.Settable.{Settable}
 use Rattle.rm_model.specs.declared.sheet.Settable.TheVariants.{Always, UnderCreation}
 use Rattle.rm_model.specs.declared.sheet.ColumnSheet.{ColumnSheet}
-use Rattle.rm_model.specs.declared.row.StatusKind.{StatusKind}
 
 abbrev pub range_of : Span → Range
 range_of span = record { least = span.least; greatest = span.greatest }
@@ -51,21 +50,3 @@ columns_of columns = map column_of columns
 abbrev pub are_apart : List Column → Bool
 are_apart [] = true
 are_apart (column ∷ more) = list_all (λ other. not (nat_eq column.number other.number)) more && are_apart more
-
--- A description: the identifier of the entry, the status and which kind of status that is, and the other writable columns.
-pub record Sheet : Type 0 where
-  pub entry : List ℕ
-  pub status : ℕ
-  pub status_kind : StatusKind
-  pub columns : List ColumnSheet
-
--- the control table that is described, with what has to go together in a row that is ready
-abbrev pub table_of : Sheet → ((ℕ → Val) → Bool) → ControlTable
-table_of sheet go_together = record {
-  entry = sheet.entry;
-  status = sheet.status;
-  status_kind = sheet.status_kind;
-  columns = columns_of sheet.columns;
-  go_together = go_together;
-  is_sampled = false;
-}

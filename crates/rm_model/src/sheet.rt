@@ -1,4 +1,5 @@
 // The description of a control table's columns, as data.
+
 /// The numbers from the least one to the greatest one.
 #[derive(Clone, Copy)]
 pub struct Span {
@@ -51,4 +52,48 @@ pub struct ColumnSheet {
     /// Whether a row is ready only once it was set.
     pub needed: bool,
     pub default: Setting,
+}
+
+/// A column of a description: its number, the values that it takes, and what it shows until it is set. It may be set while its
+/// row is under creation; one that is `always` while its row is valid too, and one that is `needed` has to be.
+#[macro_export]
+macro_rules! column {
+    ($number:expr, $kind:expr, $default:expr) => {
+        $crate::ColumnSheet {
+            number: $number,
+            kind: $kind,
+            settable: $crate::Settable::UnderCreation,
+            needed: false,
+            default: $default,
+        }
+    };
+    ($number:expr, $kind:expr, $default:expr, always) => {
+        $crate::ColumnSheet {
+            number: $number,
+            kind: $kind,
+            settable: $crate::Settable::Always,
+            needed: false,
+            default: $default,
+        }
+    };
+    ($number:expr, $kind:expr, $default:expr, needed) => {
+        $crate::ColumnSheet {
+            number: $number,
+            kind: $kind,
+            settable: $crate::Settable::UnderCreation,
+            needed: true,
+            default: $default,
+        }
+    };
+}
+
+/// The numbers from the least one to the greatest one, as the values that a column takes.
+#[macro_export]
+macro_rules! numbers {
+    ($least:expr, $greatest:expr) => {
+        $crate::ColumnKind::Number($crate::Span {
+            least: $least,
+            greatest: $greatest,
+        })
+    };
 }

@@ -27,3 +27,4 @@ pub mod Valid
 pub mod Bares
 pub mod KeptCellsLaws
 pub mod Dues
+pub mod RowFacts

@@ -1,15 +1,19 @@
 -- What types of typed columns hold.
-use Rattle.std.proofs.Common.{◌≡◌, ℕ, ◌≤◌, List, [], ◌∷◌, length, Bool, true, false, cond, ◌&&◌, ◌||◌, Option, Some, None, refl, sym, ap, subst, nat_le, arith}
-use Rattle.std.specs.Prelude.{ℤ, pos, negsuc, int_le}
+use Rattle.std.proofs.Common.{◌≡◌, ℕ, zero, suc, ◌≤◌, nat_eq, List, [], ◌∷◌, length, Bool, true, false, cond, ◌&&◌, ◌||◌, Option, Some, None, refl, sym, ap, subst, nat_le, arith}
+use Rattle.std.specs.Prelude.{ℤ, pos, negsuc, int_le, find, unwrap_or}
 use Rattle.std.specs.List.{list_all, list_any}
+use Rattle.std.specs.Option.{option_map}
+use borrow.Author.Tests.{eqb-true}
 use Rattle.std.proofs.lemmas.Bool.Decides.{nat_tests}
+use Rattle.std.proofs.lemmas.Slice.Eq.{bytes_eq-Decides}
 use Rattle.rm_val.specs.Val.{Val, int, octets, null, name, ip, counter, gauge, ticks, opaque_octets, big, no_object, no_instance, end_of_view}
 use Rattle.rm_val.specs.declared.error.ErrorStatus.{ErrorStatus}
 use Rattle.rm_val.specs.declared.error.ErrorStatus.TheVariants.{WrongValue, WrongLength}
 use Rattle.rm_model.specs.ControlTable.{Range, Kind, number, text, any_name, data_source}
 use Rattle.rm_model.specs.Judgement.{value_fault, unless, is_in}
-use Rattle.rm_status.specs.Values.{octets_in}
-use Rattle.rm_status.specs.Field.{IsTakenBy, FieldOf}
+use Rattle.rm_model.specs.Interfaces.{interface_name, is_interface, is_source, interfaces}
+use Rattle.rm_status.specs.Values.{number_of, natural_in, octets_in, name_of, interface_in}
+use Rattle.rm_status.specs.Field.{FieldOf}
 use Rattle.arrayvec.specs.ArrayVec.{ArrayVec}
 
 -- texts of at most so many octets
@@ -32,11 +36,6 @@ holds_within least greatest (number ranges) = list_all (λ range. int_le least r
 holds_within least greatest (text longest) = false
 holds_within least greatest any_name = false
 holds_within least greatest data_source = false
-
--- the number that a value is, 0 where it is none
-abbrev pub number_or_0 : Val → ℤ
-number_or_0 (int n) = n
-number_or_0 value = pos 0
 
 passed : (b : Bool) (status : ErrorStatus) → unless b status ≡ None → b ≡ true
 passed true status fine = refl
@@ -80,18 +79,9 @@ text_shows most (number ranges) value holds fine = absurd (cc)
 text_shows most any_name value holds fine = absurd (cc)
 text_shows most data_source value holds fine = absurd (cc)
 
-pub text_fits : (most : ℕ) (value : Val) → IsTakenBy (holds_texts most) value → length (octets_in value) ≤ most
-text_fits most value (text longest, holds, fine) = let it = text_is longest value fine in subst (λ v. length (octets_in v) ≤ most) (sym it.1) (short it.0 it.2)
-  where
-    short : (bytes : List ℕ) → nat_le (length bytes) longest ≡ true → length bytes ≤ most
-    short bytes few = grind (arith, nat_tests)
-text_fits most value (number ranges, holds, fine) = absurd (cc)
-text_fits most value (any_name, holds, fine) = absurd (cc)
-text_fits most value (data_source, holds, fine) = absurd (cc)
-
 -- a number is what it was set to
-pub number_shows : (kind : Kind) (value : Val) → holds_numbers kind ≡ true → value_fault (Some kind) value ≡ None → Some (int (number_or_0 value)) ≡ Some value
-number_shows (number ranges) value holds fine = let it = number_is ranges value fine in subst (λ v. Some (int (number_or_0 v)) ≡ Some v) (sym it.1) refl
+pub number_shows : (kind : Kind) (value : Val) → holds_numbers kind ≡ true → value_fault (Some kind) value ≡ None → Some (int (number_of value)) ≡ Some value
+number_shows (number ranges) value holds fine = let it = number_is ranges value fine in subst (λ v. Some (int (number_of v)) ≡ Some v) (sym it.1) refl
 number_shows (text longest) value holds fine = absurd (cc)
 number_shows any_name value holds fine = absurd (cc)
 number_shows data_source value holds fine = absurd (cc)
@@ -123,29 +113,157 @@ module _ (P : Val → Type 0) (least greatest : ℤ) (each : (n : ℤ) → int_l
   of_within any_name value holds fine = absurd (cc)
   of_within data_source value holds fine = absurd (cc)
 
-pub never : {A : Type 0} → false ≡ true → A
-never is = absurd (cc)
+-- every name, and the names of the interfaces
+abbrev pub holds_names : Kind → Bool
+holds_names any_name = true
+holds_names (number ranges) = false
+holds_names (text longest) = false
+holds_names data_source = false
+
+abbrev pub holds_sources : Kind → Bool
+holds_sources data_source = true
+holds_sources (number ranges) = false
+holds_sources (text longest) = false
+holds_sources any_name = false
+
+pub name_is : (value : Val) → value_fault (Some any_name) value ≡ None → (numbers : List ℕ) × (value ≡ name numbers)
+name_is (name numbers) fine = (numbers, refl)
+name_is (int n) fine = absurd (cc)
+name_is (octets bytes) fine = absurd (cc)
+name_is null fine = absurd (cc)
+name_is (ip bytes) fine = absurd (cc)
+name_is (counter n) fine = absurd (cc)
+name_is (gauge n) fine = absurd (cc)
+name_is (ticks n) fine = absurd (cc)
+name_is (opaque_octets bytes) fine = absurd (cc)
+name_is (big n) fine = absurd (cc)
+name_is no_object fine = absurd (cc)
+name_is no_instance fine = absurd (cc)
+name_is end_of_view fine = absurd (cc)
+
+pub name_shows : (kind : Kind) (value : Val) → holds_names kind ≡ true → value_fault (Some kind) value ≡ None → Some (name (name_of value)) ≡ Some value
+name_shows any_name value holds fine = let it = name_is value fine in subst (λ v. Some (name (name_of v)) ≡ Some v) (sym it.1) refl
+name_shows (number ranges) value holds fine = absurd (cc)
+name_shows (text longest) value holds fine = absurd (cc)
+name_shows data_source value holds fine = absurd (cc)
+
+found_passes : (p : ℕ → Bool) (xs : List ℕ) → list_any p xs ≡ true → p (unwrap_or (find p xs) 0) ≡ true
+found_passes p [] is = absurd (cc)
+found_passes p (x ∷ xs) is =
+    elim (p x) as (λ t. p x ≡ t → (t || list_any p xs) ≡ true → p (unwrap_or (cond t (Some x) (find p xs)) 0) ≡ true) [
+      | true ↦ λ here _. here
+      | false ↦ λ _ later. found_passes p xs later
+    ] refl is
+
+-- a data source is the name of the interface that it names
+pub source_is : (value : Val) → value_fault (Some data_source) value ≡ None → Some (name (interface_name (interface_in value))) ≡ Some value
+source_is (name numbers) fine =
+    let is : is_interface (name numbers) (interface_in (name numbers)) ≡ true =
+    found_passes (λ k. is_interface (name numbers) k) interfaces (passed (is_source (name numbers)) WrongValue fine) in
+    ap (λ n. Some (name n)) (sym ((bytes_eq-Decides numbers (interface_name (interface_in (name numbers)))).0 is))
+source_is (int n) fine = absurd (cc)
+source_is (octets bytes) fine = absurd (cc)
+source_is null fine = absurd (cc)
+source_is (ip bytes) fine = absurd (cc)
+source_is (counter n) fine = absurd (cc)
+source_is (gauge n) fine = absurd (cc)
+source_is (ticks n) fine = absurd (cc)
+source_is (opaque_octets bytes) fine = absurd (cc)
+source_is (big n) fine = absurd (cc)
+source_is no_object fine = absurd (cc)
+source_is no_instance fine = absurd (cc)
+source_is end_of_view fine = absurd (cc)
+
+pub source_shows : (kind : Kind) (value : Val) → holds_sources kind ≡ true → value_fault (Some kind) value ≡ None → Some (name (interface_name (interface_in value))) ≡ Some value
+source_shows data_source value holds fine = source_is value fine
+source_shows (number ranges) value holds fine = absurd (cc)
+source_shows (text longest) value holds fine = absurd (cc)
+source_shows any_name value holds fine = absurd (cc)
 
 -- a text of at most so many octets
 abbrev pub texts : ℕ → FieldOf (ArrayVec ℕ)
 texts most = record {
   holds = holds_texts most;
-  optional = false;
   shown = λ text. Some (octets text.items);
   taken = λ value. record { items = octets_in value };
-  not_set = record { items = [] };
   shows = text_shows most;
-  shows_nothing = never;
 }
 
 -- a number
 abbrev pub numbers : FieldOf ℤ
-numbers = record {
-  holds = holds_numbers;
-  optional = false;
-  shown = λ number. Some (int number);
-  taken = number_or_0;
-  not_set = pos 0;
-  shows = number_shows;
-  shows_nothing = never;
+numbers = record { holds = holds_numbers; shown = λ number. Some (int number); taken = number_of; shows = number_shows }
+
+-- a number from a least one to a greatest one, kept as one that isn't negative
+pub natural_within : (least greatest : ℕ) (n : ℤ) → int_le (pos least) n ≡ true → int_le n (pos greatest) ≡ true → Some (int (pos (natural_in (int n)))) ≡ Some (int n)
+natural_within least greatest (pos n) low high = refl
+natural_within least greatest (negsuc n) low high = absurd (cc)
+
+-- what a column of such numbers takes fits where the greatest one does
+pub natural_fits : (least greatest : ℕ) (value : Val) → value_fault (Some (number (record { least = pos least; greatest = pos greatest } ∷ []))) value ≡ None → natural_in value ≤ greatest
+natural_fits least greatest value fine =
+    let it = number_is (record { least = pos least; greatest = pos greatest } ∷ []) value fine in subst (λ v. natural_in v ≤ greatest) (sym it.1) (fit it.0 it.2)
+  where
+    second : (a b : Bool) → ((a && b) || false) ≡ true → b ≡ true
+    second true true is = refl
+    second true false is = absurd (cc)
+    second false b is = absurd (cc)
+
+    small : (n : ℕ) → nat_le n greatest ≡ true → n ≤ greatest
+    small n few = grind (arith, nat_tests)
+
+    fit : (n : ℤ) → is_in (record { least = pos least; greatest = pos greatest } ∷ []) n ≡ true → natural_in (int n) ≤ greatest
+    fit (pos n) is = small n (second (nat_le least n) (nat_le n greatest) is)
+    fit (negsuc n) is = omega arith
+
+abbrev pub naturals : ℕ → ℕ → FieldOf ℕ
+naturals least greatest = record {
+  holds = holds_within (pos least) (pos greatest);
+  shown = λ number. Some (int (pos number));
+  taken = natural_in;
+  shows = of_within (λ value. Some (int (pos (natural_in value))) ≡ Some value) (pos least) (pos greatest) (natural_within least greatest);
 }
+
+-- a name
+abbrev pub names : FieldOf (List ℕ)
+names = record { holds = holds_names; shown = λ numbers. Some (name numbers); taken = name_of; shows = name_shows }
+
+-- a data source, by the number of its interface
+abbrev pub sources : FieldOf ℕ
+sources = record {
+  holds = holds_sources;
+  shown = λ interface. Some (name (interface_name interface));
+  taken = interface_in;
+  shows = source_shows;
+}
+
+-- a number and a name that may not be set yet
+abbrev pub needed_numbers : FieldOf (Option ℤ)
+needed_numbers = record { holds = holds_numbers; shown = λ number. option_map int number; taken = λ value. Some (number_of value); shows = number_shows }
+
+abbrev pub needed_names : FieldOf (Option (List ℕ))
+needed_names = record { holds = holds_names; shown = λ numbers. option_map name numbers; taken = λ value. Some (name_of value); shows = name_shows }
+
+-- what holds of each number from 1 to a greatest one
+abbrev pub UpTo : ℕ → (ℕ → Type 0) → Type 0
+UpTo zero P = Unit {0}
+UpTo (suc n) P = P (suc n) × UpTo n P
+
+one_of_them : (P : ℕ → Type 0) (greatest n : ℕ) → UpTo greatest P → 1 ≤ n → n ≤ greatest → P n
+one_of_them P zero n all some few = absurd (omega arith)
+one_of_them P (suc greatest) n all some few =
+    elim (nat_eq n (suc greatest)) as (λ t. nat_eq n (suc greatest) ≡ t → P n) [
+      | true ↦ λ e. subst P (sym (eqb-true n (suc greatest) e)) all.0
+      | false ↦ λ e. one_of_them P greatest n all.1 some (grind (arith, nat_tests))
+    ] refl
+
+-- A type of so many variants, each with its number from 1.
+module _ {E : Type 0} (number_in : E → ℤ) (taken : Val → E) (greatest : ℕ) (again : UpTo greatest (λ n. number_in (taken (int (pos n))) ≡ pos n)) where
+  variant_again : (n : ℤ) → int_le (pos 1) n ≡ true → int_le n (pos greatest) ≡ true → Some (int (number_in (taken (int n)))) ≡ Some (int n)
+  variant_again (pos n) low high = ap (λ k. Some (int k)) (one_of_them (λ n. number_in (taken (int (pos n))) ≡ pos n) greatest n again (grind (arith, nat_tests)) (grind (arith, nat_tests)))
+  variant_again (negsuc n) low high = absurd (cc)
+
+  pub variant_shows : (kind : Kind) (value : Val) → holds_within (pos 1) (pos greatest) kind ≡ true → value_fault (Some kind) value ≡ None → Some (int (number_in (taken value))) ≡ Some value
+  variant_shows = of_within (λ value. Some (int (number_in (taken value))) ≡ Some value) (pos 1) (pos greatest) variant_again
+
+  abbrev pub variants : FieldOf E
+  variants = record { holds = holds_within (pos 1) (pos greatest); shown = λ variant. Some (int (number_in variant)); taken = taken; shows = variant_shows }

@@ -13,13 +13,8 @@ pub mod Indexes
 pub mod RowsAfter
 pub mod Bare
 pub mod Field
-pub mod Also
-pub mod FieldLaws
 pub mod Kinds
 pub mod SheetLaws
-pub mod Sheeted
 pub mod KeptCells
-pub mod Via
-pub mod Pair
 pub mod Passing
 pub mod Due

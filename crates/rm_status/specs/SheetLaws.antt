@@ -7,11 +7,11 @@ use Rattle.std.specs.Borrow.{Bor}
 use Rattle.std.proofs.lemmas.Bool.Decides.{nat_tests}
 use Rattle.rm_val.specs.Val.{Val, null}
 use Rattle.rm_model.specs.ControlTable.{Kind, Column, ControlTable, default_of}
-use Rattle.rm_model.specs.Judgement.{value_fault, is_sound}
+use Rattle.rm_model.specs.Judgement.{of_columns}
 use Rattle.rm_model.specs.Alike.{IsSameColumn, HasSameColumns}
 use Rattle.rm_model.specs.Sheet.{are_apart, column_of, columns_of}
 use Rattle.rm_model.specs.declared.sheet.ColumnSheet.{ColumnSheet}
-use Rattle.rm_status.specs.Field.{first_value, first_in, are_sound, set_among}
+use Rattle.rm_status.specs.Field.{first_value, first_in}
 
 right : (a b : Bool) → (a && b) ≡ true → b ≡ true
 right true b h = h
@@ -20,9 +20,6 @@ right false b h = absurd (cc)
 left : (a b : Bool) → (a && b) ≡ true → a ≡ true
 left true b h = refl
 left false b h = absurd (cc)
-
-pub sound_columns : (table : ControlTable) → is_sound table ≡ true → are_sound table.columns ≡ true
-sound_columns table sound = right (is_none (find (λ c. nat_eq c.number table.status) table.columns)) (are_sound table.columns) sound
 
 same_number : (n : ℕ) → nat_eq n n ≡ true
 same_number n = grind (arith, nat_tests)
@@ -111,12 +108,16 @@ none_missing set (c ∷ some) = by_test (c.needed) (set c.number) (none_missing 
     by_test false o same = same
 
 -- each column is among the columns
-pub needed_among : (columns : List Column) (set : ℕ → Option Val) → are_apart columns ≡ true
-    → list_all (λ c. not c.needed || is_some (set c.number)) columns ≡ list_all (λ c. not c.needed || is_some (set_among columns set c.number)) columns
-needed_among columns set apart = each columns (all_found columns apart)
+pub needed_among : (table : ControlTable) (set : ℕ → Option Val) → are_apart table.columns ≡ true
+    → list_all (λ c. not c.needed || is_some (set c.number)) table.columns ≡ list_all (λ c. not c.needed || is_some (of_columns table set c.number)) table.columns
+needed_among table set apart = each table.columns (all_found table.columns apart)
   where
-    each : (some : List Column) → AreFound columns some → list_all (λ c. not c.needed || is_some (set c.number)) some ≡ list_all (λ c. not c.needed || is_some (set_among columns set c.number)) some
+    each : (some : List Column) → AreFound table.columns some → list_all (λ c. not c.needed || is_some (set c.number)) some ≡ list_all (λ c. not c.needed || is_some (of_columns table set c.number)) some
     each [] are = refl
     each (c ∷ some) are =
         ap (λ o. (not c.needed || is_some (cond (is_some o) (set c.number) None)) && list_all (λ x. not x.needed || is_some (set x.number)) some) (sym are.0)
-        ∙ ap (λ b. (not c.needed || is_some (set_among columns set c.number)) && b) (each some are.1)
+        ∙ ap (λ b. (not c.needed || is_some (of_columns table set c.number)) && b) (each some are.1)
+
+pub is_some_copied : {A : Type 0} (o : Option (Bor A)) → is_some (option_copied o) ≡ is_some o
+is_some_copied None = refl
+is_some_copied (Some x) = refl

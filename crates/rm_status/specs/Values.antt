@@ -1,7 +1,7 @@
 -- What a column is set to by a value that it takes, by the kind of its values.
 use Rattle.std.specs.Prelude.{ℕ, find, unwrap_or}
 use Rattle.rm_val.specs.Val.{Val}
-pub use Rattle.rm_val.specs.Contents.{octets_in, natural_in}
+pub use Rattle.rm_val.specs.Contents.{octets_in, natural_in, number_of, name_of}
 use Rattle.rm_model.specs.Interfaces.{is_interface, interfaces}
 
 -- the number of the interface that a data source names, 0 where it names none

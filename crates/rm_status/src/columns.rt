@@ -1,15 +1,20 @@
 // The columns of a control row.
-ghost use Rattle.std.specs.Prelude.{◌≡◌, ℕ, Option, Some, None, IsTrue, nat_eq, if◌then◌else◌};
+ghost use Rattle.std.specs.Prelude.{◌≡◌, ℕ, Option, Some, None, true, IsTrue, IfSome, nat_eq, if◌then◌else◌};
+ghost use Rattle.std.specs.Option.{option_map};
 ghost use Rattle.rm_val.specs.Val.{Val, val_of};
 ghost use Rattle.rm_val.specs.Spellable.{HasSpelling};
-ghost use Rattle.rm_model.specs.ControlTable.{ControlTable, is_ready};
+ghost use Rattle.rm_model.specs.ControlTable.{ControlTable};
 ghost use Rattle.rm_model.specs.Alike.{HasSameColumns};
-ghost use Rattle.rm_model.specs.Judgement.{column_kind, value_fault, is_always, is_needed, of_columns, is_sound};
+ghost use Rattle.rm_model.specs.Judgement.{column_kind, value_fault, is_sound};
+ghost use Rattle.rm_model.specs.Sheet.{columns_of, are_apart};
+ghost use Rattle.rm_status.specs.Field.{shown_with};
 
-use rm_val::{ErrorStatus, Value};
+use rm_model::ColumnSheet;
+use rm_val::Value;
 
-/// The columns of a row of a control table, its status left out. A type of columns is that of one table. Beside what the
-/// writable columns were set to, it may hold other data of the row. The default is a blank one.
+/// The columns of a row of a control table, its status left out. A type of columns is that of one table, which it describes as
+/// data: how a Set is judged, and what a row shows, follow from the description once for all tables. Beside what the writable
+/// columns were set to, it may hold other data of the row. The default is a blank one.
 pub trait Columns: Default + Drop {
     /// The table.
     ghost table: { ControlTable };
@@ -23,22 +28,16 @@ pub trait Columns: Default + Drop {
     /// These columns with one of them set.
     ghost with_column: { Self → ℕ → Val → Self };
 
+    /// Whether what the columns show has a spelling.
+    ghost spelled: { Self → Type 0 };
+
+    /// The description of the writable columns beside the status, in the order of the table.
+    fn sheet() -> &'static [ColumnSheet]
+        ensures { columns_of result.now ≡ table.columns };
+
     /// The columns of a new row.
     fn blank() -> Self
         ensures { result ≡ blank_row };
-
-    /// What is wrong with a value for a column (RFC 1905, section 4.2.5): notWritable for a column that isn't writable, the
-    /// status among them, else wrongType, wrongLength or wrongValue. None where the column takes the value.
-    fn check(column: u32, value: &Value<'_>) -> Option<ErrorStatus>
-        ensures { result ≡ value_fault (column_kind table column) (val_of value.now) };
-
-    /// Whether a column may be set while its row is valid too.
-    fn always(column: u32) -> bool
-        ensures { result ≡ is_always table column };
-
-    /// Whether a row is ready only once the column was set.
-    fn needed(column: u32) -> bool
-        ensures { result ≡ is_needed table column };
 
     /// Sets a column to a value that it takes.
     fn put(&mut self, column: u32, value: &Value<'_>)
@@ -46,9 +45,14 @@ pub trait Columns: Default + Drop {
         requires spelling { HasSpelling (val_of value.now) }
         ensures { self.new ≡ with_column self.old column (val_of value.now) };
 
-    /// Whether a row with these columns is ready, but for what only a `Look` can tell.
-    fn ready(&self) -> bool
-        ensures { result ≡ is_ready table (of_columns table (set_to self.now)) };
+    /// What a column was set to.
+    fn show(&self, column: u32) -> Option<Value<'_>>
+        ensures value { option_map val_of result ≡ set_to self.now column }
+        ensures spelling { spelled self.now → IfSome result (λ value. HasSpelling (val_of value)) };
+
+    /// Whether the values of the columns go together, but for what only a `Look` can tell.
+    fn agree(&self) -> bool
+        ensures { result ≡ table.go_together (shown_with table (set_to self.now)) };
 
     /// Columns that were set to the same, with none of the row's other data.
     fn bare(&self) -> Self
@@ -66,4 +70,7 @@ pub trait Columns: Default + Drop {
 
     /// The status isn't among the other columns, and each of these takes its default, or a row needs it.
     ghost sound: { IsTrue (is_sound table) };
+
+    /// No two columns have one number.
+    ghost apart: { are_apart table.columns ≡ true };
 }

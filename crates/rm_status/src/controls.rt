@@ -5,7 +5,7 @@ mod each;
 mod judge;
 mod valid;
 
-ghost use Rattle.std.specs.Prelude.{◌≡◌, ℕ, ◌<◌, ◌≤◌, ◌+◌, List, [], length, Bool, true, false, Option, Some, None, is_some, IfSome, IfNone, IsTrue, position, find, nat_eq, nat_lt, if◌then◌else◌, slice_get};
+ghost use Rattle.std.specs.Prelude.{◌≡◌, ℕ, ◌<◌, ◌≤◌, ◌+◌, List, [], length, Bool, true, false, Option, Some, None, is_some, IfSome, OnSome, IfNone, IsTrue, position, find, nat_eq, nat_lt, if◌then◌else◌, slice_get};
 ghost use Rattle.std.specs.Option.{option_copied};
 ghost use Rattle.std.specs.List.{position_or_len};
 ghost use Rattle.std.specs.Borrow.{sem};
@@ -76,6 +76,15 @@ impl<C: Columns> Controls<C> {
             None => None,
             Some(row) => Some(&row.columns),
         }
+    }
+
+    /// A row, which has an index of at most 65535. None where there is no such row.
+    pub fn row(&self, index: u32) -> Option<&Row<C>>
+        ensures value { option_copied result ≡ row_in self.now index }
+        ensures index { OnSome result (index ≤ 65535) }
+    {
+        prove!(self.len() <= MAX_ROWS);
+        self.find(index)
     }
 
     /// The state of a row, absent where there is no such row.

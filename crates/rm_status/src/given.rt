@@ -10,6 +10,7 @@ use crate::assigns::Assigns;
 use crate::columns::Columns;
 use crate::controls::MAX_INDEX;
 use crate::place::{is_cell, place_under};
+use crate::sheet::{check, may_always};
 use crate::steps::{column_fault, is_made, status_fault, status_value_fault, value_ask};
 use crate::wrong::wrong_at;
 use rm_model::{Ask, Place, State, StatusKind, Verdict};
@@ -68,7 +69,7 @@ fn column_value_fault<C: Columns>(
     if column == status {
         status_value_fault(kind, value)
     } else {
-        C::check(column, value)
+        check::<C>(column, value)
     }
 }
 
@@ -150,7 +151,7 @@ pub(crate) fn row_fault<C: Columns>(
     let fault = if column == status {
         status_fault(kind, state, asked, ready)
     } else {
-        column_fault(state, asked, C::always(column))
+        column_fault(state, asked, may_always::<C>(column))
     };
     match fault {
         Some(fault) => Some(fault),

@@ -1,5 +1,14 @@
 // A row of a control table.
-use rm_model::State;
+ghost use Rattle.std.specs.Prelude.{◌≡◌};
+ghost use Rattle.rm_val.specs.Val.{val_of};
+ghost use Rattle.rm_val.specs.Spellable.{HasSpelling};
+ghost use Rattle.rm_model.specs.ControlCells.{status_number, control_value};
+ghost use Rattle.rm_status.specs.KeptCells.{shows};
+
+use crate::columns::Columns;
+use crate::sheet::shown;
+use rm_model::{State, StatusKind};
+use rm_val::Value;
 
 /// A row of a control table: its index, its state, and its columns.
 #[derive(Default, Drop)]
@@ -10,4 +19,47 @@ pub struct Row<C> {
     pub state: State,
     /// Its columns.
     pub columns: C,
+}
+
+impl<C: Columns> Row<C> {
+    /// What a column of the row shows, with `other` for one that can't be set. `status` is the table's status column, which is of
+    /// that kind.
+    pub fn cell<'a>(
+        &'a self,
+        status: u32,
+        kind: StatusKind,
+        column: u32,
+        other: Value<'a>,
+    ) -> Value<'a>
+        requires status { status ≡ C.table.status }
+        requires kind { kind ≡ C.table.status_kind }
+        requires spelled { C.spelled self.now.columns }
+        requires spelling { HasSpelling (val_of other) }
+        ensures value { val_of result ≡ control_value C.table self.now.state (shows C.table C.set_to self.now.columns) (val_of other.entry) column }
+        ensures spelling { HasSpelling (val_of result) }
+    {
+        if column == status {
+            Value::Int(status_number(kind, self.state))
+        } else {
+            shown(&self.columns, column, other)
+        }
+    }
+}
+
+/// The number of a state, as the kind of status has it (RFC 1757, section 5, and RFC 1903).
+pub fn status_number(kind: StatusKind, state: State) -> i32
+    ensures { result ≡ status_number kind state }
+{
+    match kind {
+        StatusKind::EntryStatus => match state {
+            State::Valid => 1,
+            State::UnderCreation => 3,
+            State::Absent => 4,
+        },
+        StatusKind::RowStatus => match state {
+            State::Valid => 1,
+            State::UnderCreation => 2,
+            State::Absent => 6,
+        },
+    }
 }

@@ -1,24 +1,80 @@
-// What a description of a control table says of a column.
-ghost use Rattle.std.specs.Prelude.{◌≡◌, Some, [], ◌∷◌, find, nat_eq, false};
+// What the description of a control table says of its columns.
+ghost use Rattle.std.specs.Prelude.{◌≡◌, Some, [], ◌∷◌, find, nat_eq, false, not, ◌||◌, ◌&&◌, is_some, is_none, if◌then◌else◌};
+ghost use Rattle.std.specs.List.{list_all};
 ghost use Rattle.std.specs.Option.{option_copied, option_map, option_map_or};
 ghost use Rattle.rm_val.specs.Val.{val_of};
 ghost use Rattle.rm_val.specs.Spellable.{HasSpelling};
-ghost use Rattle.rm_model.specs.ControlTable.{number, any_name};
-ghost use Rattle.rm_model.specs.Judgement.{value_fault};
+ghost use Rattle.rm_model.specs.ControlTable.{number, any_name, column_of as table_column, is_ready};
+ghost use Rattle.rm_model.specs.Judgement.{value_fault, column_kind, is_always as may_always, of_columns};
 ghost use Rattle.rm_model.specs.Sheet.{range_of, kind_of, is_always, setting_value, column_of, columns_of};
 ghost use Rattle.rm_status.specs.Field.{kind_in};
+ghost use Rattle.rm_status.specs.KeptCells.{shows};
 
+use crate::columns::Columns;
 use crate::interface::interface_name;
 use crate::values::{number_fault, source_fault, text_fault};
 use rm_model::{ColumnKind, ColumnSheet, Settable, Setting, Span};
 use rm_val::{ErrorStatus, Oid, Value};
 
-/// What is wrong with a value for the column with a number: notWritable where there is no such column.
-pub(crate) fn fault_in(
-    columns: &[ColumnSheet],
-    number: u32,
-    value: &Value<'_>,
-) -> Option<ErrorStatus>
+/// What is wrong with a value for a column of a table (RFC 1905, section 4.2.5): notWritable for a column that isn't writable,
+/// the status among them, else wrongType, wrongLength or wrongValue. None where the column takes the value.
+pub(crate) fn check<C: Columns>(column: u32, value: &Value<'_>) -> Option<ErrorStatus>
+    ensures { result ≡ value_fault (column_kind C.table column) (val_of value.now) }
+{
+    fault_in(C::sheet(), column, value)
+}
+
+/// Whether a column may be set while its row is valid too.
+pub(crate) fn may_always<C: Columns>(column: u32) -> bool
+    ensures { result ≡ may_always C.table column }
+{
+    always_in(C::sheet(), column)
+}
+
+/// Whether a row with these columns is ready, but for what only a `Look` can tell.
+pub(crate) fn is_ready<C: Columns>(row: &C) -> bool
+    ensures { result ≡ is_ready C.table (of_columns C.table (C.set_to row.now)) }
+{
+    has_needed(row, C::sheet()) && row.agree()
+}
+
+/// What a column shows, with `other` for one that isn't among the writable ones.
+pub(crate) fn shown<'a, C: Columns>(row: &'a C, column: u32, other: Value<'a>) -> Value<'a>
+    requires spelled { C.spelled row.now }
+    requires spelling { HasSpelling (val_of other) }
+    ensures value { val_of result ≡ (if is_some (table_column C.table column) then shows C.table C.set_to row.now column else val_of other.entry) }
+    ensures spelling { HasSpelling (val_of result) }
+{
+    match column_in(C::sheet(), column) {
+        None => other,
+        Some(found) => match row.show(column) {
+            Some(value) => value,
+            None => setting_value(&found.default),
+        },
+    }
+}
+
+// Whether each column that a row needs was set.
+fn has_needed<C: Columns>(row: &C, columns: &[ColumnSheet]) -> bool
+    ensures { result ≡ list_all (λ c. not c.needed || is_some (C.set_to row.now c.number)) (columns_of columns.now) }
+{
+    !missing(row, columns).is_some()
+}
+
+fn missing<'a, C: Columns>(row: &C, columns: &'a [ColumnSheet]) -> Option<&'a ColumnSheet>
+    ensures { option_copied result ≡ find (λ c. c.needed && is_none (C.set_to row.now c.number)) columns.now }
+{
+    columns.iter().find(|column| is_missing(row, column))
+}
+
+fn is_missing<C: Columns>(row: &C, column: &ColumnSheet) -> bool
+    ensures { result ≡ (column.now.needed && is_none (C.set_to row.now column.now.number)) }
+{
+    column.needed && row.show(column.number).is_none()
+}
+
+// What is wrong with a value for the column with a number: notWritable where there is no such column.
+fn fault_in(columns: &[ColumnSheet], number: u32, value: &Value<'_>) -> Option<ErrorStatus>
     ensures { result ≡ value_fault (kind_in (columns_of columns.now) number) (val_of value.now) }
 {
     match column_in(columns, number) {
@@ -27,8 +83,8 @@ pub(crate) fn fault_in(
     }
 }
 
-/// Whether the column with a number may be set while its row is valid too.
-pub(crate) fn always_in(columns: &[ColumnSheet], number: u32) -> bool
+// Whether the column with a number may be set while its row is valid too.
+fn always_in(columns: &[ColumnSheet], number: u32) -> bool
     ensures { result ≡ option_map_or (λ c. c.always) (find (λ c. nat_eq c.number number) (columns_of columns.now)) false }
 {
     match column_in(columns, number) {
@@ -37,18 +93,8 @@ pub(crate) fn always_in(columns: &[ColumnSheet], number: u32) -> bool
     }
 }
 
-/// Whether a row is ready only once the column with a number was set.
-pub(crate) fn needed_in(columns: &[ColumnSheet], number: u32) -> bool
-    ensures { result ≡ option_map_or (λ c. c.needed) (find (λ c. nat_eq c.number number) (columns_of columns.now)) false }
-{
-    match column_in(columns, number) {
-        None => false,
-        Some(column) => column.needed,
-    }
-}
-
 // The column with that number, if there is one.
-pub(crate) fn column_in(columns: &[ColumnSheet], number: u32) -> Option<&ColumnSheet>
+fn column_in(columns: &[ColumnSheet], number: u32) -> Option<&ColumnSheet>
     ensures { option_map column_of (option_copied result) ≡ find (λ c. nat_eq c.number number) (columns_of columns.now) }
 {
     found_in(columns, number)
@@ -60,7 +106,7 @@ fn found_in(columns: &[ColumnSheet], number: u32) -> Option<&ColumnSheet>
     columns.iter().find(|column| column.number == number)
 }
 
-/// What is wrong with a value for a column of that kind.
+// What is wrong with a value for a column of that kind.
 fn kind_fault(kind: &ColumnKind, value: &Value<'_>) -> Option<ErrorStatus>
     ensures { result ≡ value_fault (Some (kind_of kind.now)) (val_of value.now) }
 {
@@ -97,7 +143,7 @@ fn name_fault(value: &Value<'_>) -> Option<ErrorStatus>
     }
 }
 
-/// Whether a column may be set while its row is valid too.
+// Whether a column may be set while its row is valid too.
 fn is_always(settable: Settable) -> bool
     ensures { result ≡ is_always settable }
 {
@@ -107,8 +153,8 @@ fn is_always(settable: Settable) -> bool
     }
 }
 
-/// What a column shows until it is set.
-pub(crate) fn setting_value(default: &Setting) -> Value<'static>
+// What a column shows until it is set.
+fn setting_value(default: &Setting) -> Value<'static>
     ensures value { val_of result ≡ setting_value default.now }
     ensures spelling { HasSpelling (val_of result) }
 {

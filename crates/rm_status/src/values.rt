@@ -1,13 +1,13 @@
 // What a column takes, and what it is then set to, by the kind of its values.
-ghost use Rattle.std.specs.Prelude.{◌≡◌, ◌≤◌, length, [], ◌∷◌, Some};
+ghost use Rattle.std.specs.Prelude.{◌≡◌, ◌≤◌, ◌%◌, ◌^◌, length, [], ◌∷◌, Some};
 ghost use Rattle.rm_val.specs.Val.{val_of};
 ghost use Rattle.rm_model.specs.ControlTable.{number, text, data_source};
 ghost use Rattle.rm_model.specs.Judgement.{value_fault};
-ghost use Rattle.rm_status.specs.Values.{interface_in, octets_in, natural_in};
+ghost use Rattle.rm_status.specs.Values.{interface_in, octets_in, natural_in, number_of, name_of};
 
 use crate::interface::source;
 use arrayvec::ArrayVec;
-use rm_val::{ErrorStatus, Value};
+use rm_val::{ErrorStatus, Oid, Value};
 
 /// What is wrong with a value for a column that takes the numbers from the least one to the greatest one: wrongType, or
 /// wrongValue outside the range.
@@ -81,4 +81,48 @@ pub fn put_text<const N: usize>(text: &mut ArrayVec<u8, N>, value: &Value<'_>)
     if let Value::Octets(octets) = value {
         text.try_extend_from_slice(octets).unwrap();
     }
+}
+
+/// The number that a value is, 0 where it is none.
+pub fn number_in(value: &Value<'_>) -> i32
+    ensures { result ≡ number_of (val_of value.now) }
+{
+    match value {
+        Value::Int(number) => *number,
+        _ => 0,
+    }
+}
+
+/// The number that a value is, 0 where it is none or is negative. It has 16 bits.
+pub fn short_in(value: &Value<'_>) -> u16
+    requires { natural_in (val_of value.now) ≤ 65535 }
+    ensures { result ≡ natural_in (val_of value.now) }
+{
+    natural_in(value) as u16
+}
+
+/// The name that a value is, the empty one where it is none.
+pub fn name_in(value: &Value<'_>) -> Oid
+    ensures { result ≡ name_of (val_of value.now) }
+{
+    match value {
+        Value::Name(name) => name.copied(),
+        _ => Oid::new(),
+    }
+}
+
+/// A text once more.
+pub fn same_text<const N: usize>(text: &ArrayVec<u8, N>) -> ArrayVec<u8, N>
+    ensures { result.items ≡ text.now.items }
+{
+    let mut same = ArrayVec::new();
+    same.try_extend_from_slice(text.as_slice()).unwrap();
+    same
+}
+
+/// A counter as a Counter32 shows it.
+pub fn counter_32(counter: u64) -> u32
+    ensures { result ≡ counter % 2 ^ 32 }
+{
+    (counter % (1 << 32)) as u32
 }

@@ -72,7 +72,7 @@ fn the_last_complete_buckets_are_shown(rt: HostRuntime) -> Result<(), Fail> {
 }
 
 // The columns of interface 1 that request so many buckets of so many seconds.
-fn columns_of(requested: u32, interval: u32) -> ControlColumns
+fn columns_of(requested: u16, interval: u16) -> ControlColumns
     requires some_requested { 1 ≤ requested }
     requires most_requested { requested ≤ 65535 }
     requires some_interval { 1 ≤ interval }

@@ -10,6 +10,7 @@ use crate::columns::Columns;
 use crate::controls::{Controls, MAX_ROWS};
 use crate::given::{self, is_again, put_all, row_fault, set_ask};
 use crate::place::place_under;
+use crate::sheet::is_ready;
 use crate::steps::is_made;
 use crate::wrong::wrong_at;
 use rm_model::{Place, Verdict};
@@ -139,7 +140,7 @@ impl<C: Columns> Controls<C> {
             Some(columns) => {
                 let mut with = columns.bare();
                 put_all::<C, A>(&mut with, set, entry, status, row);
-                with.ready()
+                is_ready(&with)
             }
         }
     }

@@ -7,9 +7,17 @@ ghost use Rattle.rm_status.specs.MadeUp.{table, set_to, with_value, blank_alike,
 
 use crate::{Assigns, Columns};
 use arrayvec::ArrayVec;
-use rm_val::{ErrorStatus, Oid, Value};
+use rm_model::Setting::Number;
+use rm_model::{ColumnSheet, column, numbers};
+use rm_val::{Oid, Value};
 
 pub const STATUS: u32 = 7;
+
+const SHEET: &[ColumnSheet] = &[
+    column!(2, numbers!(1, 9), Number(0), needed),
+    column!(3, numbers!(1, 3600), Number(1800)),
+    column!(4, numbers!(1, 100), Number(100), always),
+];
 
 #[derive(Clone, Copy, Debug, PartialEq, Eq)]
 pub struct MadeUp {
@@ -43,6 +51,10 @@ impl Columns for MadeUp {
 
     ghost sound = { refl };
 
+    ghost apart = { refl };
+
+    ghost spelled = { λ s. Unit {0} };
+
     fn blank() -> Self {
         MadeUp {
             second: None,
@@ -51,32 +63,8 @@ impl Columns for MadeUp {
         }
     }
 
-    fn check(column: u32, value: &Value<'_>) -> Option<ErrorStatus> {
-        let most = if column == 2 {
-            9
-        } else if column == 3 {
-            3600
-        } else if column == 4 {
-            100
-        } else {
-            return Some(ErrorStatus::NotWritable);
-        };
-        let Value::Int(number) = value else {
-            return Some(ErrorStatus::WrongType);
-        };
-        if 1 <= *number && *number <= most {
-            None
-        } else {
-            Some(ErrorStatus::WrongValue)
-        }
-    }
-
-    fn always(column: u32) -> bool {
-        column == 4
-    }
-
-    fn needed(column: u32) -> bool {
-        column == 2
+    fn sheet() -> &'static [ColumnSheet] {
+        SHEET
     }
 
     fn put(&mut self, column: u32, value: &Value<'_>) {
@@ -92,8 +80,17 @@ impl Columns for MadeUp {
         }
     }
 
-    fn ready(&self) -> bool {
-        self.second.is_some()
+    fn show(&self, column: u32) -> Option<Value<'_>> {
+        match column {
+            2 => Some(Value::Int(self.second?)),
+            3 => Some(Value::Int(self.third?)),
+            4 => Some(Value::Int(self.fourth?)),
+            _ => None,
+        }
+    }
+
+    fn agree(&self) -> bool {
+        true
     }
 
     fn bare(&self) -> Self {

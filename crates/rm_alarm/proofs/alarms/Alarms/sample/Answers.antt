@@ -15,7 +15,8 @@ use Rattle.rm_alarm.specs.declared.row.AlarmRow.{AlarmRow}
 use Rattle.rm_alarm.specs.Rows.{set_to, variable_kept}
 use Rattle.rm_alarm.specs.Standing.{AreKept}
 use Rattle.rm_alarm.specs.Taking.{HasTaken}
-use Rattle.rm_alarm.proofs.RowFacts.{row_there, variable_is}
+use Rattle.rm_status.proofs.RowFacts.{row_there}
+use Rattle.rm_alarm.proofs.RowFacts.{variable_is}
 use Rattle.rm_alarm.proofs.Samples.{Based, rows_samples, kept_samples, based_samples, sample_comes_to}
 use Rattle.rm_alarm.proofs.Taken.{Due, due_row, spelled_taken, spelled_gone, rows_gone, kept_gone, based_gone}
 use Rattle.rm_alarm.proofs.Pace.{paced_taken, paced_gone, fewer_taken, fewer_gone}

@@ -1,5 +1,5 @@
 use Rattle.rm_event.specs.Logs.{kept, valid_in}
-use Rattle.rm_event.proofs.RowFacts.{above_fits, none_between, none_above}
+use Rattle.rm_status.proofs.RowFacts.{above_fits, none_between, none_above}
 use Rattle.rm_event.proofs.Begun.{one_begun, all_begun}
 use Rattle.rm_event.proofs.logs.Logs.begin_each.Goals as goal
 

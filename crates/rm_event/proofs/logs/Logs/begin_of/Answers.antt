@@ -1,6 +1,6 @@
 use Rattle.std.proofs.Common.{sym, ◌∙◌}
 use Rattle.rm_event.specs.Logs.{kept, valid_in}
-use Rattle.rm_event.proofs.RowFacts.{valid_below}
+use Rattle.rm_status.proofs.RowFacts.{valid_below}
 use Rattle.rm_event.proofs.Spares.{spare_left, not_some}
 use Rattle.rm_event.proofs.logs.Logs.begin_of.Goals as goal
 

@@ -13,6 +13,6 @@ returns-in-Some g c = λ _.
     let C = g.C.Columns in
     let bs = g.A.Assigns.bindings c.args.set.now in
     let here : Some c.in-Some.columns.now ≡ columns_in c.args.self.now c.args.row = c.in-Some.ensures in
-    c.ready.ensures ∙ ap (λ x. is_ready C.table (of_columns C.table (C.set_to x))) c.put_all.ensures
+    c.is_ready.ensures ∙ ap (λ x. is_ready C.table (of_columns C.table (C.set_to x))) c.put_all.ensures
     ∙ ready_is C.table C.with_column C.blank_row C.set_to g.met.C.Columns.set_with g.met.C.Columns.sound bs c.args.row c.bare-with.result c.in-Some.columns.now (all_fine C.table bs c.requires.fine) c.bare-with.ensures
     ∙ ap (λ o. is_ready C.table (of_columns C.table (λ column. option_or (value_given bs (cell_name C.table.entry column (c.args.row ∷ []))) (option_and_then (λ x. C.set_to x column) o)))) here

@@ -1,5 +1,8 @@
 -- Rows of a control table.
 use Rattle.std.proofs.Common.{◌≡◌, ℕ, ◌<◌, ◌≤◌, List, [], ◌∷◌, Bool, true, false, cond, ◌&&◌, Option, Some, None, refl, sym, ap, subst, ◌∙◌, nat_eq, nat_le, arith}
+use Rattle.std.specs.Prelude.{OnSome}
+use Rattle.std.specs.Borrow.{Bor}
+use Rattle.std.specs.Option.{option_copied, option_map}
 use Rattle.std.proofs.lemmas.Bool.Decides.{nat_tests}
 use borrow.Author.Tests.{eqb-true}
 use Rattle.rm_model.specs.ControlRows.{is_absent, is_valid}
@@ -7,7 +10,7 @@ use Rattle.rm_model.specs.Judgement.{is_row_number}
 use Rattle.rm_model.specs.declared.row.State.{State}
 use Rattle.rm_model.specs.declared.row.State.TheVariants.{Absent, UnderCreation, Valid}
 use Rattle.rm_status.specs.declared.row.Row.{Row}
-use Rattle.rm_status.specs.Rows.{row_in, state_in, columns_in, state_seen, columns_seen, AreControlRows, AllThere, IsIndexAfter}
+use Rattle.rm_status.specs.Rows.{row_in, state_in, columns_in, state_seen, columns_seen, AreControlRows, AllThere, IsIndexAfter, with_columns}
 
 in_range : (n : ℕ) → is_row_number n ≡ true → n ≤ 65535
 in_range n h = right (nat_le 1 n) h
@@ -29,6 +32,14 @@ module _ {C : Type 0} where
         | true ↦ λ named k. let is : x ≡ row = cc in (subst (λ n. is_row_number n ≡ true) (eqb-true x.index i named) there.0.0, ap (λ r. is_absent r.state) (sym is) ∙ there.0.1)
         | false ↦ λ _ k. found_there rows i row there.1 k
       ] refl e
+
+  pub row_there : (rows : List (Row C)) (i : ℕ) (row : Row C) → AreControlRows rows → row_in rows i ≡ Some row → is_absent row.state ≡ false
+  row_there rows i row held e = (found_there rows i row held.1 e).1
+
+  -- a row that is found has an index that a row can have
+  pub found_fits : (rows : List (Row C)) (i : ℕ) (o : Option (Bor (Row C))) → AllThere rows → option_copied o ≡ row_in rows i → OnSome o (i ≤ 65535)
+  found_fits rows i None there e = tt
+  found_fits rows i (Some row) there e = in_range i (found_there rows i row.now there (sym e)).0
 
   pub index_fits : (rows : List (Row C)) (i : ℕ) (o : Option (Row C)) (columns : C) → AreControlRows rows → row_in rows i ≡ o → Some columns ≡ columns_seen o → i ≤ 65535
   index_fits rows i None columns held e is = absurd (cc)
@@ -87,3 +98,29 @@ module _ {C : Type 0} where
 
   pub none_above : (rows : List (Row C)) (last : ℕ) → IsIndexAfter rows last None → (i : ℕ) → last < i → is_valid (state_in rows i) ≡ false
   none_above rows last after i low = ap (λ o. is_valid (state_seen o)) (after i low)
+
+  -- no row has the index 0
+  pub no_row_0 : (rows : List (Row C)) → AllThere rows → row_in rows 0 ≡ None
+  no_row_0 rows there = by_row (row_in rows 0) refl
+    where
+      by_row : (o : Option (Row C)) → row_in rows 0 ≡ o → o ≡ None
+      by_row None e = refl
+      by_row (Some row) e = let is = (found_there rows 0 row there e).0 in absurd (cc)
+
+  abbrev pub with_w : C → Row C → Row C
+  with_w w row = record { index = row.index; state = row.state; columns = w }
+
+  -- the row of which the columns were written, and the others
+  pub written : (rows : List (Row C)) (i j : ℕ) (w : C) → row_in (with_columns rows i w) j ≡ cond (nat_eq i j) (option_map (with_w w) (row_in rows j)) (row_in rows j)
+  written [] i j w = elim (nat_eq i j) as (λ t. None ≡ cond t (option_map (with_w w) None) None) [ true ↦ refl | false ↦ refl ]
+  written (x ∷ rows) i j w =
+      elim (nat_eq x.index i) as (λ s. nat_eq x.index i ≡ s → row_in (cond s (with_w w x ∷ rows) (x ∷ with_columns rows i w)) j ≡ cond (nat_eq i j) (option_map (with_w w) (cond (nat_eq x.index j) (Some x) (row_in rows j))) (cond (nat_eq x.index j) (Some x) (row_in rows j))) [
+        | true ↦ λ e. elim (nat_eq x.index j) as (λ t. nat_eq x.index j ≡ t → cond t (Some (with_w w x)) (row_in rows j) ≡ cond (nat_eq i j) (option_map (with_w w) (cond t (Some x) (row_in rows j))) (cond t (Some x) (row_in rows j))) [
+          | true ↦ λ f. let same : nat_eq i j ≡ true = grind (arith, nat_tests) in rw same refl
+          | false ↦ λ f. let other : nat_eq i j ≡ false = grind (arith, nat_tests) in rw other refl
+        ] refl
+        | false ↦ λ e. elim (nat_eq x.index j) as (λ t. nat_eq x.index j ≡ t → cond t (Some x) (row_in (with_columns rows i w) j) ≡ cond (nat_eq i j) (option_map (with_w w) (cond t (Some x) (row_in rows j))) (cond t (Some x) (row_in rows j))) [
+          | true ↦ λ f. let other : nat_eq i j ≡ false = grind (arith, nat_tests) in rw other refl
+          | false ↦ λ f. written rows i j w
+        ] refl
+      ] refl
