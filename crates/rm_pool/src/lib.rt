@@ -8,6 +8,8 @@ mod part;
 mod pool;
 mod slot;
 mod storage;
+#[cfg(test)]
+mod tests;
 mod walk;
 
 pub use begin::Begin;

@@ -23,7 +23,7 @@ pub fn instance_of(name: &Oid, entry: &Oid, columns: &[u32]) -> Option<Instance>
 }
 
 /// The numbers of a name from a place on.
-pub(crate) fn numbers_from(name: &Oid, from: usize) -> Oid
+pub fn numbers_from(name: &Oid, from: usize) -> Oid
     requires { from ≤ length name.now }
     ensures { result ≡ drop from name.now }
 {
@@ -34,7 +34,7 @@ pub(crate) fn numbers_from(name: &Oid, from: usize) -> Oid
 }
 
 /// Appends the numbers of another name from a place on.
-pub(crate) fn append_from(name: &mut Oid, other: &Oid, from: usize)
+pub fn append_from(name: &mut Oid, other: &Oid, from: usize)
     requires within { from ≤ length other.now }
     requires room { length name.old + length other.now ≤ 128 + from }
     ensures { name.new ≡ name.old ++ drop from other.now }

@@ -48,7 +48,7 @@ pub use controls::{Controls, MAX_ROWS};
 pub use denied::Denied;
 pub use due::{Due, FallsDue, SAMPLES};
 pub use group::Group;
-pub use instance::instance_of;
+pub use instance::{append_from, instance_of, numbers_from};
 pub use interface::{INTERFACES, interface_name, source};
 pub use laws::{next_or_none, order_does_not_matter};
 pub use look::Look;

@@ -1,0 +1,10 @@
+//! The walk over tables whose rows belong to the rows of a control table: these in order, and the inner rows of each in order.
+#![tactic(auto)]
+
+mod inner_rows;
+mod nested;
+mod number;
+
+pub use inner_rows::InnerRows;
+pub use nested::Nested;
+pub use number::{first_number, one_number_above};
