@@ -2,10 +2,10 @@ mod Known
 mod Written
 mod Leaving
 mod ChannelLemmas
-mod NoticeExamples
+mod NotificationExamples
 mod DueLemmas
 mod SampleLemmas
-mod NoticeLemmas
+mod NotificationLemmas
 mod CountLemmas
 mod OrderlyLemmas
 mod AdvanceLemmas

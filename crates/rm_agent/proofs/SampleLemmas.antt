@@ -17,7 +17,7 @@ use Rattle.rm_event.specs.declared.fired.Fired.{Fired}
 use Rattle.rm_event.specs.declared.fired.Fired.TheVariants as became
 use Rattle.rm_acts.specs.Events.{event_asked}
 use Rattle.rm_event.specs.Standing.{fired_of}
-use Rattle.rm_agent.specs.Notices.{trap_of, is_sent, is_trap}
+use Rattle.rm_agent.specs.Notifications.{trap_of, is_sent, is_trap}
 use Rattle.rm_agent.specs.Told.{firings_by}
 
 there : (state : State) → is_valid state ≡ true → not (is_absent state) ≡ true

@@ -6,7 +6,7 @@ use Rattle.rm_pdu.specs.Message.{Message}
 use Rattle.rm_agent.specs.declared.settings.Settings.{Settings}
 use Rattle.rm_agent.specs.Agent.{sample_of}
 use Rattle.rm_agent.specs.Known.{counting_by}
-use Rattle.rm_agent.specs.Notices.{notice_of}
+use Rattle.rm_agent.specs.Notifications.{notification_of}
 use Rattle.rm_agent.specs.Orderly.{NoneIsDue}
 
 -- a notification, and the moment in milliseconds at which it is sent
@@ -21,7 +21,7 @@ sent_at moment (Some message) = record { moment = moment; message = message } �
 
 -- what the sample that is taken next after a journal notifies of
 abbrev pub notifications_of : Settings → Journal → ℕ × ℕ → List Notification
-notifications_of settings journal next = sent_at next.0 (notice_of (counting_by settings) (sample_of settings journal next.0 next.1) journal)
+notifications_of settings journal next = sent_at next.0 (notification_of (counting_by settings) (sample_of settings journal next.0 next.1) journal)
 
 -- From a journal on, all samples that are due up to a moment are taken, in order of their moments and at one moment in order
 -- of the alarms. Each sees the samples before it. These are their notifications, and that is the journal after. Either none is

@@ -13,7 +13,7 @@ use Rattle.rm_agent.specs.declared.agent.Agent.{Agent}
 use Rattle.rm_agent.specs.Known.{counting_by}
 use Rattle.rm_agent.specs.Members.{alarms_of}
 use Rattle.rm_agent.specs.Groups.{GroupsStand}
-use Rattle.rm_agent.specs.Notices.{count_notices, notice_of}
+use Rattle.rm_agent.specs.Notifications.{count_notifications, notification_of}
 use Rattle.rm_agent.specs.Orderly.{IsOrderly}
 
 -- what the agent was set to
@@ -35,7 +35,7 @@ pub record Stands (agent : Agent) (journal : Journal) : Type 0 where
   pub last : last_moment journal ≤ agent.last
   pub orderly : IsOrderly journal
   pub channels : HasNoChannel journal
-  pub notices : agent.notices ≡ count_notices (counting_by agent.settings) journal % 2 ^ 31
+  pub notifications : agent.notifications ≡ count_notifications (counting_by agent.settings) journal % 2 ^ 31
 
 -- when the next sample of each alarm is due, in milliseconds
 abbrev pub due_of_agent : Agent → ℕ → Option ℕ
@@ -65,4 +65,4 @@ pub record HasSampled (settings : Settings) (journal : Journal) (moment : ℕ) (
   pub alarm : ℕ
   pub next : IsNextDue (due_of journal) (Some (moment, alarm))
   pub stands : Stands agent (sample_of settings journal moment alarm ∷ journal)
-  pub notice : IsWritten (notice_of (counting_by settings) (sample_of settings journal moment alarm) journal) count note
+  pub notification : IsWritten (notification_of (counting_by settings) (sample_of settings journal moment alarm) journal) count note

@@ -5,6 +5,6 @@ pub mod Groups
 pub mod Answers
 pub mod Orderly
 pub mod Agent
-pub mod Notices
+pub mod Notifications
 pub mod Advance
 pub mod Told

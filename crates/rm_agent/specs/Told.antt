@@ -19,7 +19,7 @@ use Rattle.rm_agent.specs.declared.told.Told.{Told}
 use Rattle.rm_agent.specs.declared.trap.AlarmTrap.{AlarmTrap}
 use Rattle.rm_agent.specs.Members.{Groups}
 use Rattle.rm_agent.specs.Groups.{GroupsStand}
-use Rattle.rm_agent.specs.Notices.{trap_bindings}
+use Rattle.rm_agent.specs.Notifications.{trap_bindings}
 
 -- what a trap tells of an alarm after a journal, by the column with the threshold that was crossed
 abbrev pub told_of : Counting → Journal → (alarm threshold : ℕ) → Told

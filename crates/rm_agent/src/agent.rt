@@ -5,7 +5,7 @@ ghost use Rattle.rm_agent.specs.Groups.{AreStocked, clock_of, frames_of};
 
 use crate::answer::{Answer, Reason};
 use crate::groups::{Groups, all_groups, next_due};
-use crate::notice::notice;
+use crate::notification::notification;
 use crate::sampling::take;
 use crate::settings::Settings;
 use rm_pcap::Frame;
@@ -29,11 +29,11 @@ pub struct Agent {
     // How many frames it was given.
     frames: u32,
     // How many notifications there were, modulo 2^31.
-    notices: u32,
+    notifications: u32,
     ghost later: { clock_of groups ≤ last },
     ghost few: { frames_of groups ≤ frames },
     ghost stocked: { AreStocked groups },
-    ghost notices_fit: { notices < 2 ^ 31 },
+    ghost notifications_fit: { notifications < 2 ^ 31 },
 }
 
 impl Agent {
@@ -58,7 +58,7 @@ impl Agent {
             groups: all_groups(alloc)?,
             last: 0,
             frames: 0,
-            notices: 0,
+            notifications: 0,
         })
     }
 
@@ -153,9 +153,9 @@ impl Agent {
         let alarm = self.due_alarm(moment);
         let taken = take(&mut self.groups, alarm, moment);
         self.last = self.last.max(moment);
-        let id = (self.notices + 1) % REQUEST_IDS;
-        let draft = notice(&self.groups, &taken, alarm, moment, id)?;
-        self.notices = id;
+        let id = (self.notifications + 1) % REQUEST_IDS;
+        let draft = notification(&self.groups, &taken, alarm, moment, id)?;
+        self.notifications = id;
         Some(draft.finish(note))
     }
 

@@ -5,7 +5,7 @@ mod agent;
 mod answer;
 mod groups;
 mod laws;
-mod notice;
+mod notification;
 mod sampling;
 mod settings;
 #[cfg(test)]

@@ -15,7 +15,7 @@ ghost use Rattle.rm_alarm.specs.Left.{samples_left};
 ghost use Rattle.rm_alarm.specs.Standing.{Stands as AlarmsStand};
 ghost use Rattle.rm_agent.specs.Members.{alarms_of};
 ghost use Rattle.rm_agent.specs.Groups.{GroupsStand, AreUnderWay, AreStocked, clock_of, frames_of};
-ghost use Rattle.rm_agent.specs.Notices.{trap_of};
+ghost use Rattle.rm_agent.specs.Notifications.{trap_of};
 ghost use Rattle.rm_agent.specs.Told.{IsTaken, firings_by};
 
 use crate::groups::{Groups, alarms, events, sample, take_each};

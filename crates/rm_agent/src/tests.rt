@@ -11,7 +11,7 @@ use std::test::Fail;
 
 mod alarms;
 mod dropped;
-mod notices;
+mod notifications;
 mod sets;
 mod short;
 mod walk;

@@ -1,6 +1,6 @@
 // The traps of alarms.
 ghost use Rattle.std.specs.Prelude.{◌≡◌};
-ghost use Rattle.rm_agent.specs.Notices.{trap_of};
+ghost use Rattle.rm_agent.specs.Notifications.{trap_of};
 
 use rm_alarm::Sampled;
 use rm_alarm::column::{FALLING_THRESHOLD, RISING_THRESHOLD};

@@ -20,16 +20,16 @@ none_some : {A : Type 0} (o : Option A) (x : A) → o ≡ None → o ≡ Some x 
 none_some o x e f = cc
 
 -- what was written of the notification, if there is one
-pub noticed : (notice : Option Message) (result : Option ℕ) (count moment : ℕ) (out : List ℕ) → result ≡ Some count → IsWritten notice result out → record { moment = moment; message = take count out } ∷ [] ≡ map note_of (sent_at moment notice)
-noticed None result count moment out same is = absurd (none_some result count is same)
-noticed (Some message) result count moment out same is =
+pub notified : (notification : Option Message) (result : Option ℕ) (count moment : ℕ) (out : List ℕ) → result ≡ Some count → IsWritten notification result out → record { moment = moment; message = take count out } ∷ [] ≡ map note_of (sent_at moment notification)
+notified None result count moment out same is = absurd (none_some result count is same)
+notified (Some message) result count moment out same is =
     let long : count ≡ length (message_octets message) = in_some _ _ (sym same ∙ is.0) in
     let octets : take count out ≡ message_octets message = ap (λ (n : ℕ). take n out) long ∙ is.1 in
     ap (λ (octets : List ℕ). record { moment = moment; message = octets } ∷ []) octets
 
-pub not_noticed : (notice : Option Message) (result : Option ℕ) (moment : ℕ) (out : List ℕ) → result ≡ None → IsWritten notice result out → [] ≡ map note_of (sent_at moment notice)
-not_noticed None result moment out same is = refl
-not_noticed (Some message) result moment out same is = absurd (none_some result (length (message_octets message)) same is.0)
+pub not_notified : (notification : Option Message) (result : Option ℕ) (moment : ℕ) (out : List ℕ) → result ≡ None → IsWritten notification result out → [] ≡ map note_of (sent_at moment notification)
+not_notified None result moment out same is = refl
+not_notified (Some message) result moment out same is = absurd (none_some result (length (message_octets message)) same is.0)
 
 -- where none is due, the journal stays
 pub advanced_none : (settings : Settings) (to : ℕ) (journal : Journal) → NoneIsDue to journal → IsAdvanced settings to journal [] journal

@@ -12,7 +12,7 @@ use Rattle.rm_agent.specs.Orderly.{IsOrderly}
 use Rattle.rm_probe.specs.Notes.{Note, trap_lines}
 use Rattle.rm_probe.specs.Capture.{IsCaptureFile, CallsFor, status_of}
 use Rattle.rm_probe.specs.Lines.{TimedDatagram}
-use Rattle.rm_probe.specs.declared.lines.Request.{Request}
+use Rattle.rm_probe.specs.declared.lines.NumberedDatagram.{NumberedDatagram}
 use Rattle.rm_probe.specs.Events.{Event, Asks, comings, is_by, frames_after}
 use Rattle.rm_probe.specs.Text.{IsAnswer, AreLines, IsText, last_line}
 use Rattle.rm_probe.specs.Probe.{settings_of, last_given, frames_given, Stands}
@@ -94,7 +94,7 @@ Advances moment bytes old new probe probe' notes (Err fault) =
     (frames : List Frame) (stop : Stop) (journal : Journal) → Leaves old bytes frames stop → Stands probe journal → stop ≡ Broken fault
 
 -- the datagram of a request, at its moment
-abbrev pub timed : Request → TimedDatagram
+abbrev pub timed : NumberedDatagram → TimedDatagram
 timed request = record { moment = request.moment; datagram = request.datagram.now }
 
 -- Whatever the journal is, the line is an answer after these notifications, and the probe stands for the journal after it.

@@ -87,7 +87,7 @@ fn read_request(line: &[u8], into: &mut [u8]) -> Option<(u32, usize)>
 
 /// A datagram of a request file, the number of its line from 1, and the moment in milliseconds at which it comes.
 #[derive(Clone, Copy)]
-pub struct Request<'a> {
+pub struct NumberedDatagram<'a> {
     pub number: u64,
     pub moment: u32,
     pub datagram: &'a [u8],
@@ -103,7 +103,7 @@ pub struct Cursor<'a> {
 
 /// A request: its moment, how many octets its datagram has, and where the next one comes.
 #[derive(Clone, Copy)]
-pub struct Taken<'a> {
+pub struct NextDatagram<'a> {
     pub moment: u32,
     pub count: usize,
     pub next: Cursor<'a>,
@@ -112,7 +112,10 @@ pub struct Taken<'a> {
 /// The next request, with its datagram at the front of `into`. None comes exactly at the end, and the number of
 /// the line exactly where it isn't of the form or its moment falls.
 #[tactic(auto, unfolding(crate::specs::Lines::requests_from))]
-pub fn next_request<'a>(cursor: Cursor<'a>, into: &mut [u8]) -> Result<Option<Taken<'a>>, u64>
+pub fn next_request<'a>(
+    cursor: Cursor<'a>,
+    into: &mut [u8],
+) -> Result<Option<NextDatagram<'a>>, u64>
     requires room { 65535 ≤ length into.old }
     requires few { cursor.number + length cursor.rest.now < 2 ^ 64 }
     ensures { Takes cursor.entry.number cursor.entry.last cursor.entry.rest.now into.new result }
@@ -132,7 +135,7 @@ pub fn next_request<'a>(cursor: Cursor<'a>, into: &mut [u8]) -> Result<Option<Ta
         number: cursor.number + 1,
         last: moment,
     };
-    Ok(Some(Taken {
+    Ok(Some(NextDatagram {
         moment,
         count,
         next,

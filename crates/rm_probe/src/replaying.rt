@@ -15,7 +15,7 @@ ghost use Rattle.rm_probe.specs.declared.status.Status.TheVariants.{BadRequests,
 
 use crate::laws::every_line;
 use crate::line::{self, Line};
-use crate::lines::{self, Request};
+use crate::lines::{self, NumberedDatagram};
 use crate::notes::Notes;
 use crate::output::Output;
 use crate::probe::Probe;
@@ -102,7 +102,7 @@ impl Replaying {
         alloc: Global,
         shelf: &mut F,
         name: &str,
-        request: Request<'_>,
+        request: NumberedDatagram<'_>,
         out: &mut Output<'_, K>,
     ) -> Result<(), Status>
         requires later { last_given self.old.probe ≤ request.moment }
@@ -203,7 +203,7 @@ impl Replaying {
                 Ok(None) => return self.write_last(shelf, name, cursor.number - 1, out),
                 Err(number) => return Status::BadRequests(number),
             };
-            let request = Request {
+            let request = NumberedDatagram {
                 number: cursor.number,
                 moment: taken.moment,
                 datagram: &buffer[..taken.count],

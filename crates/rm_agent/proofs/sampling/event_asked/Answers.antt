@@ -3,7 +3,7 @@ use Rattle.std.specs.Prelude.{is_some}
 use Rattle.rm_val.specs.Contents.{natural_in}
 use Rattle.rm_acts.specs.Events.{event_asked}
 use Rattle.rm_acts.specs.declared.sampled.Sampled.{Sampled}
-use Rattle.rm_agent.specs.Notices.{trap_of}
+use Rattle.rm_agent.specs.Notifications.{trap_of}
 use Rattle.rm_agent.proofs.sampling.event_asked.Goals as goal
 
 pub returns-in-Rising : goal.returns-in-Rising

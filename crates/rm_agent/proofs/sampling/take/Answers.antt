@@ -10,7 +10,7 @@ use Rattle.rm_alarm.specs.declared.alarms.Alarms.{Alarms}
 use Rattle.rm_event.specs.Standing.{HasRows}
 use Rattle.rm_event.specs.declared.events.Events.{Events}
 use Rattle.rm_event.specs.EventTable.{event_state, type_of}
-use Rattle.rm_agent.specs.Notices.{trap_of}
+use Rattle.rm_agent.specs.Notifications.{trap_of}
 use Rattle.rm_agent.specs.Told.{firings_by}
 use Rattle.rm_agent.proofs.DueLemmas.{valid_if_due}
 use Rattle.rm_agent.proofs.SampleLemmas.{valid_after, same_event, fires_so}

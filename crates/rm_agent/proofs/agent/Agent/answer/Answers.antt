@@ -34,7 +34,7 @@ returns-clause-reply c journal stands =
         last = moment;
         channels = reply_makes_none settings journal c.args.now stands.channels m.kind (may_write settings m.community) m reply after is;
         orderly = reply_orderly settings journal c.args.now stands.orderly none m.kind (may_write settings m.community) m reply after is;
-        notices = stands.notices ∙ ap (λ (n : ℕ). n % 2 ^ 31) (sym counted);
+        notifications = stands.notifications ∙ ap (λ (n : ℕ). n % 2 ^ 31) (sym counted);
       },
       (m, reply, read.verdict, why, is, c.finish.ensures.count reply drafted_so, written c.finish.result (message_octets reply) _ _ (c.finish.ensures.count reply drafted_so) (c.finish.ensures.written reply drafted_so)),
     )

@@ -17,5 +17,5 @@ returns-clause-stands c journal stands none =
       last = omega arith;
       orderly = orderly_passes journal frame none stands.orderly;
       channels = stands.channels;
-      notices = same_passing counting frame journal _ stands.notices;
+      notifications = same_passing counting frame journal _ stands.notifications;
     }

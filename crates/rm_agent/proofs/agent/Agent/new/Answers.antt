@@ -8,5 +8,5 @@ returns-clause-stands c = record {
   last = omega arith;
   orderly = orderly_begins;
   channels = refl;
-  notices = omega arith;
+  notifications = omega arith;
 }

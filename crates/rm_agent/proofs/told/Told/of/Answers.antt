@@ -4,7 +4,7 @@ use Rattle.std.proofs.lemmas.Int.{to_z-of_z}
 use Rattle.rm_val.specs.Val.{Val}
 use Rattle.rm_acts.specs.Alarms.{number_of, name_of}
 use Rattle.rm_alarm.specs.AlarmTable.{alarm_shown}
-use Rattle.rm_agent.proofs.NoticeLemmas.{shows_name}
+use Rattle.rm_agent.proofs.NotificationLemmas.{shows_name}
 use Rattle.rm_agent.proofs.told.Told.of.Goals as goal
 
 pub returns-clause-told : goal.returns-clause-told

@@ -8,10 +8,10 @@ use Rattle.rm_model.specs.ControlRows.{cell_name}
 use Rattle.rm_pdu.specs.Message.{Binding, Message, message_octets}
 use Rattle.rm_pdu.specs.Draft.{drafted, empty_message, binding_of}
 use Rattle.rm_pdu.specs.declared.kind.Kind.TheVariants.{Trap}
-use Rattle.rm_agent.specs.Notices.{up_time_name, trap_name}
+use Rattle.rm_agent.specs.Notifications.{up_time_name, trap_name}
 use Rattle.rm_agent.specs.Told.{stated_bindings}
-use Rattle.rm_agent.proofs.NoticeLemmas.{put, stated_short}
-use Rattle.rm_agent.proofs.notice.draft_of.Goals as goal
+use Rattle.rm_agent.proofs.NotificationLemmas.{put, stated_short}
+use Rattle.rm_agent.proofs.notification.draft_of.Goals as goal
 
 pub returns : goal.returns
 returns c =

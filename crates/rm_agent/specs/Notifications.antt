@@ -96,10 +96,10 @@ sent_by settings act earlier moment alarm number (Some firing) (Some trap) =
 sent_by settings act earlier moment alarm number firing trap = None
 
 -- the notification with that number of an act after a journal, if there is one: only samples have some
-abbrev pub notice_numbered : Counting → ℕ → Act → Journal → Option Message
-notice_numbered settings number (passes frame) earlier = None
-notice_numbered settings number (assigns moment values) earlier = None
-notice_numbered settings number (samples moment alarm reading) earlier =
+abbrev pub notification_numbered : Counting → ℕ → Act → Journal → Option Message
+notification_numbered settings number (passes frame) earlier = None
+notification_numbered settings number (assigns moment values) earlier = None
+notification_numbered settings number (samples moment alarm reading) earlier =
     let act : Act = samples moment alarm reading in
     sent_by settings act earlier moment alarm number (by_no_channel (act_fires settings act earlier (fired settings earlier)))
     (trap_of (sampled settings earlier moment alarm reading))
@@ -110,10 +110,10 @@ count_one None = 0
 count_one (Some message) = 1
 
 -- How many notifications the acts of a journal have. Whether an act has one doesn't depend on its number.
-abbrev pub count_notices : Counting → Journal → ℕ
-count_notices settings [] = 0
-count_notices settings (act ∷ earlier) = count_one (notice_numbered settings 0 act earlier) + count_notices settings earlier
+abbrev pub count_notifications : Counting → Journal → ℕ
+count_notifications settings [] = 0
+count_notifications settings (act ∷ earlier) = count_one (notification_numbered settings 0 act earlier) + count_notifications settings earlier
 
 -- The notification of an act after a journal, if there is one. They are numbered from 1.
-abbrev pub notice_of : Counting → Act → Journal → Option Message
-notice_of settings act earlier = notice_numbered settings (count_notices settings earlier + 1) act earlier
+abbrev pub notification_of : Counting → Act → Journal → Option Message
+notification_of settings act earlier = notification_numbered settings (count_notifications settings earlier + 1) act earlier

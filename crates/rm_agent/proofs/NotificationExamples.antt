@@ -11,7 +11,7 @@ use Rattle.rm_model.specs.ControlRows.{cell_name}
 use Rattle.rm_event.specs.EventTable.{event_entry}
 use Rattle.rm_ber.specs.Element as elements
 use Rattle.rm_pdu.specs.Message.{message_octets}
-use Rattle.rm_agent.specs.Notices.{notice_of}
+use Rattle.rm_agent.specs.Notifications.{notification_of}
 
 abbrev at_first : Counting
 at_first = record { keep_short = false; readings = λ journal now variable. Some (record { value = pos 0; counter = false }) }
@@ -47,6 +47,6 @@ worked =
     0x02 ∷ 0x01 ∷ 0x10 ∷ 0x03 ∷ 0x01 ∷ 0x01 ∷ 0x05 ∷ 0x01 ∷ 0x02 ∷ 0x01 ∷ 0x0b ∷ 0x30 ∷ 0x10 ∷ 0x06 ∷ 0x0b ∷ 0x2b ∷ 0x06 ∷ 0x01 ∷ 0x02 ∷ 0x01 ∷
     0x10 ∷ 0x03 ∷ 0x01 ∷ 0x01 ∷ 0x07 ∷ 0x01 ∷ 0x02 ∷ 0x01 ∷ 0x0a ∷ []
 
-rises-octets : option_map message_octets (notice_of at_first rises earlier) ≡ Some worked
+rises-octets : option_map message_octets (notification_of at_first rises earlier) ≡ Some worked
 unfolding message_octets elements.element elements.integer_octets elements.name_octets elements.number_octets
 rises-octets = refl

@@ -36,7 +36,7 @@ use Rattle.rm_agent.specs.declared.sampling.Taken.{Taken}
 use Rattle.rm_agent.specs.declared.told.Told.{Told}
 use Rattle.rm_agent.specs.declared.trap.AlarmTrap.{AlarmTrap}
 use Rattle.rm_agent.specs.Members.{Groups, alarms_of}
-use Rattle.rm_agent.specs.Notices.{up_time_name, trap_name, rising_alarm, falling_alarm, trap_of, is_sent, is_trap, by_no_channel, community_text, trap_bindings, told_bindings, numbered_trap, sent_by, notice_numbered}
+use Rattle.rm_agent.specs.Notifications.{up_time_name, trap_name, rising_alarm, falling_alarm, trap_of, is_sent, is_trap, by_no_channel, community_text, trap_bindings, told_bindings, numbered_trap, sent_by, notification_numbered}
 use Rattle.rm_agent.specs.Told.{told_of, stated_bindings, stated_trap, IsTaken}
 use Rattle.rm_agent.proofs.DueLemmas.{valid_if_due}
 use Rattle.rm_agent.proofs.SampleLemmas.{valid_after, is_sending}
@@ -190,25 +190,25 @@ module _ (settings : Counting) (journal : Journal) (moment alarm : ℕ) (groups 
   abbrev message_for : (number : ℕ) → AlarmTrap → Message
   message_for number trap = numbered_trap number (community_text journal event) (told_bindings settings after moment alarm trap)
 
-  the_notice_of : (number : ℕ) → notice_numbered settings number act journal ≡ sent_by settings act journal moment alarm number (cond (is_valid (event_state journal (event ∷ []))) (Some firing) None) (trap_of taken.comes)
-  the_notice_of number =
+  the_notification_of : (number : ℕ) → notification_numbered settings number act journal ≡ sent_by settings act journal moment alarm number (cond (is_valid (event_state journal (event ∷ []))) (Some firing) None) (trap_of taken.comes)
+  the_notification_of number =
       ap (λ firing. sent_by settings act journal moment alarm number firing (trap_of (sampled settings journal moment alarm reading))) its_firing
       ∙ ap (sent_by settings act journal moment alarm number (cond (is_valid (event_state journal (event ∷ []))) (Some firing) None)) (ap trap_of (sym is.comes))
 
-  pub not_sent : (number : ℕ) → is_trap taken.fired ≡ false → ◌≡◌ {A = Option Drafted} None (option_map drafted (notice_numbered settings number act journal))
+  pub not_sent : (number : ℕ) → is_trap taken.fired ≡ false → ◌≡◌ {A = Option Drafted} None (option_map drafted (notification_numbered settings number act journal))
   not_sent number quiet =
       ap (option_map drafted)
-      (sym (the_notice_of number ∙ by_test (is_valid (event_state journal (event ∷ []))) (trap_of taken.comes) (sym sending ∙ quiet)))
+      (sym (the_notification_of number ∙ by_test (is_valid (event_state journal (event ∷ []))) (trap_of taken.comes) (sym sending ∙ quiet)))
     where
       by_test : (t : Bool) (trap : Option AlarmTrap) → (t && is_sent (type_of journal event)) ≡ false → sent_by settings act journal moment alarm number (cond t (Some firing) None) trap ≡ None
       by_test false trap _ = refl
       by_test true None _ = refl
       by_test true (Some trap) none = ap (λ (b : Bool). cond b (Some (message_for number trap)) None) none
 
-  pub not_asked : (number : ℕ) → trap_of taken.comes ≡ None → ◌≡◌ {A = Option Drafted} None (option_map drafted (notice_numbered settings number act journal))
+  pub not_asked : (number : ℕ) → trap_of taken.comes ≡ None → ◌≡◌ {A = Option Drafted} None (option_map drafted (notification_numbered settings number act journal))
   not_asked number none =
       ap (option_map drafted)
-      (sym (the_notice_of number ∙ ap (sent_by settings act journal moment alarm number (cond (is_valid (event_state journal (event ∷ []))) (Some firing) None)) none ∙ nothing (cond (is_valid (event_state journal (event ∷ []))) (Some firing) None)))
+      (sym (the_notification_of number ∙ ap (sent_by settings act journal moment alarm number (cond (is_valid (event_state journal (event ∷ []))) (Some firing) None)) none ∙ nothing (cond (is_valid (event_state journal (event ∷ []))) (Some firing) None)))
     where
       nothing : (o : Option Firing) → sent_by settings act journal moment alarm number o None ≡ None
       nothing None = refl
@@ -233,9 +233,9 @@ module _ (settings : Counting) (journal : Journal) (moment alarm : ℕ) (groups 
     community_is text e = ap (λ value. octets_in (unwrap_or value (octets []))) (e ∙ its_community)
 
     module _ (number : ℕ) (trap : AlarmTrap) (crossed : trap_of taken.comes ≡ Some trap) where
-      the_notice : notice_numbered settings number act journal ≡ Some (message_for number trap)
-      the_notice =
-          the_notice_of number
+      the_notification : notification_numbered settings number act journal ≡ Some (message_for number trap)
+      the_notification =
+          the_notification_of number
           ∙ ap (λ (t : Bool). sent_by settings act journal moment alarm number (cond t (Some firing) None) (trap_of taken.comes)) (both_true (is_valid (event_state journal (event ∷ []))) (is_sent (type_of journal event)) sends_one).0
           ∙ ap (sent_by settings act journal moment alarm number (Some firing)) crossed
           ∙ ap (λ (b : Bool). cond b (Some (message_for number trap)) None) (both_true (is_valid (event_state journal (event ∷ []))) (is_sent (type_of journal event)) sends_one).1
@@ -245,9 +245,9 @@ module _ (settings : Counting) (journal : Journal) (moment alarm : ℕ) (groups 
 
       pub made : (community : List ℕ) (id : ℕ) (told : Told) (draft : Drafted) → community ≡ community_text journal event → number % 2 ^ 31 ≡ id
           → told ≡ told_of settings after alarm trap.threshold_column → draft ≡ drafted (stated_trap community id moment alarm trap told)
-          → ◌≡◌ {A = Option Drafted} (Some draft) (option_map drafted (notice_numbered settings number act journal))
+          → ◌≡◌ {A = Option Drafted} (Some draft) (option_map drafted (notification_numbered settings number act journal))
       made community id told draft text numbered tells_this drafted_so =
           let bindings = ap (stated_bindings moment alarm trap) tells_this ∙ tells (alarms_of groups) settings after alarm is.stands.1.1.stand valid moment taken.comes trap crossed in
           let same : stated_trap community id moment alarm trap told ≡ message_for number trap =
           λ d. record { community = text d; kind = Trap; id = pos (sym numbered d); first = pos 0; second = pos 0; bindings = bindings d } in
-          ap Some (drafted_so ∙ ap drafted same) ∙ sym (ap (option_map drafted) the_notice)
+          ap Some (drafted_so ∙ ap drafted same) ∙ sym (ap (option_map drafted) the_notification)

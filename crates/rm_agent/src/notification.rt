@@ -6,7 +6,7 @@ ghost use Rattle.rm_model.specs.Settings.{Settings};
 ghost use Rattle.rm_model.specs.Journal.{Journal, samples};
 ghost use Rattle.rm_alarm.specs.Watched.{number_read};
 ghost use Rattle.rm_pdu.specs.Draft.{drafted};
-ghost use Rattle.rm_agent.specs.Notices.{is_trap, notice_numbered, up_time_name, trap_name};
+ghost use Rattle.rm_agent.specs.Notifications.{is_trap, notification_numbered, up_time_name, trap_name};
 ghost use Rattle.rm_agent.specs.Told.{IsTaken, stated_trap};
 
 use crate::groups::{Groups, alarms, events};
@@ -20,7 +20,7 @@ use rm_pdu::{Draft, Kind, bindings_add_up, bindings_are_bounded, bindings_length
 use rm_val::{Oid, Value};
 
 /// The notification of the sample that an alarm took at a moment, in milliseconds, with a request-id. None where none is sent.
-pub(crate) fn notice(
+pub(crate) fn notification(
     groups: &Groups,
     taken: &Taken,
     alarm: u32,
@@ -30,7 +30,7 @@ pub(crate) fn notice(
     requires { id < 2 ^ 31 }
     ensures { (settings : Settings) (journal : Journal) (number : ℕ) → IsTaken settings journal moment alarm groups.now taken.now
         → number % 2 ^ 31 ≡ id
-        → result ≡ option_map drafted (notice_numbered settings number (samples moment alarm (number_read settings journal moment alarm)) journal) }
+        → result ≡ option_map drafted (notification_numbered settings number (samples moment alarm (number_read settings journal moment alarm)) journal) }
 {
     if !is_trap(taken.fired) {
         return None;

@@ -5,8 +5,8 @@ use Rattle.rm_alarm.specs.Standing.{Stands as AlarmsStand}
 use Rattle.rm_alarm.specs.declared.alarms.Alarms.{Alarms}
 use Rattle.rm_event.specs.Standing.{HasRows}
 use Rattle.rm_event.specs.declared.events.Events.{Events}
-use Rattle.rm_agent.proofs.NoticeLemmas.{not_sent, not_asked, some_community, community_is, valid, made}
-use Rattle.rm_agent.proofs.notice.notice.Goals as goal
+use Rattle.rm_agent.proofs.NotificationLemmas.{not_sent, not_asked, some_community, community_is, valid, made}
+use Rattle.rm_agent.proofs.notification.notification.Goals as goal
 
 pub returns-then-not-is_trap : goal.returns-then-not-is_trap
 returns-then-not-is_trap c settings journal number is numbered =
