@@ -221,7 +221,7 @@ impl Replaying {
 fn answer<N: Notes>(
     alloc: Global,
     probe: &mut Probe,
-    request: Request<'_>,
+    request: NumberedDatagram<'_>,
     line: &mut Line,
     notes: &mut N,
 )
