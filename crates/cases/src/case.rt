@@ -1,0 +1,208 @@
+// A case, as the statements of a file tell it.
+use crate::capture::Capture;
+use crate::frame::{Frame, read_frame};
+use crate::given::Given;
+use crate::names::Names;
+use crate::octets::octets;
+use crate::request::Datagram;
+use crate::status::status;
+use crate::text::{Statement, first_number, first_word, number};
+use crate::trouble::Trouble;
+use rm_probe::Status;
+use std::alloc::Global;
+use std::fmt::Write;
+
+/// A case: what a run is given, and what it is to write.
+#[derive(Drop)]
+pub struct Case {
+    alloc: Global,
+    /// Its first line in the file.
+    pub line: usize,
+    pub title: String,
+    pub given: Given,
+    /// The words of the command, where the case gives them.
+    pub words: Option<String>,
+    pub capture: Capture,
+    /// From how many octets of the capture to below how many there are in a run each, where the case says so.
+    pub fronts: Option<(u32, u32)>,
+    /// The octets of the request file.
+    pub requests: Vec<u8>,
+    /// Those of a file of the name `other`.
+    pub other: Option<Vec<u8>>,
+    /// How the run ends.
+    pub status: Status,
+    /// The lines that it writes.
+    pub expected: Vec<Statement>,
+    /// How many datagrams are asked.
+    pub asked: usize,
+    // The datagram whose answer comes next, and its moment.
+    waiting: Option<(u32, Datagram)>,
+}
+
+impl Case {
+    /// A case without a statement.
+    pub fn new(alloc: Global, line: usize, title: &str) -> Result<Case, Trouble> {
+        if title.is_empty() {
+            return Err(Trouble::Form("a case without a title"));
+        }
+        Ok(Case {
+            alloc,
+            line,
+            title: String::from_str(alloc, title)?,
+            given: Given::new(alloc)?,
+            words: None,
+            capture: Capture::new(alloc)?,
+            fronts: None,
+            requests: Vec::new(alloc),
+            other: None,
+            status: Status::Done,
+            expected: Vec::new(alloc),
+            asked: 0,
+            waiting: None,
+        })
+    }
+
+    /// Takes a statement.
+    pub fn take(&mut self, names: &Names, statement: &Statement) -> Result<(), Trouble> {
+        let text = statement.text.as_str();
+        let (word, rest) = first_word(text);
+        match word {
+            "->" => return self.take_answer(names, statement.line, rest),
+            "line" => return self.expect(statement.line, rest),
+            "end" | "cut" => return self.expect(statement.line, text),
+            "setting" => self.given.take(self.alloc, rest),
+            "words" => {
+                self.words = Some(String::from_str(self.alloc, rest)?);
+                Ok(())
+            }
+            "capture" => self.capture.push_octets(&octets(self.alloc, rest)?),
+            "record" => self.take_record(rest),
+            "front" => self.take_fronts(rest),
+            "requests" => Ok(self.requests.extend_from_slice(&octets(self.alloc, rest)?)?),
+            "other" => {
+                self.other = Some(octets(self.alloc, rest)?);
+                Ok(())
+            }
+            "status" => {
+                self.status = status(rest)?;
+                Ok(())
+            }
+            _ => {
+                let moment = number(word).map_err(|_| Trouble::Form("no statement"))?;
+                self.take_at(names, statement.line, moment, rest)
+            }
+        }
+    }
+
+    /// Whether the case is whole: a datagram has no answer yet where it isn't.
+    pub fn end(&self) -> Result<(), Trouble> {
+        match self.waiting {
+            None => Ok(()),
+            Some(_) => Err(Trouble::Form("a datagram without an answer before this line")),
+        }
+    }
+
+    // The line that the run writes next.
+    fn expect(&mut self, line: usize, text: &str) -> Result<(), Trouble> {
+        self.end()?;
+        let text = String::from_str(self.alloc, text)?;
+        Ok(self.expected.push(Statement { line, text })?)
+    }
+
+    fn take_record(&mut self, text: &str) -> Result<(), Trouble> {
+        let (seconds, rest) = first_number(text)?;
+        let (fraction, rest) = first_number(rest)?;
+        let (captured, rest) = first_number(rest)?;
+        let frame = Frame::zeros(self.alloc, captured, number(rest)?);
+        self.capture.push_record(seconds, fraction, &frame)
+    }
+
+    // `N` or `N to M`.
+    fn take_fronts(&mut self, text: &str) -> Result<(), Trouble> {
+        let (low, high) = match text.split_once(" to ") {
+            Some((low, high)) => (number(low)?, number(high)?),
+            None => (number(text)?, number(text)?),
+        };
+        if low > high {
+            return Err(Trouble::Form("from more octets to fewer"));
+        }
+        let end = high
+            .checked_add(1)
+            .ok_or(Trouble::Form("no number below 2^32 - 1"))?;
+        self.fronts = Some((low, end));
+        Ok(())
+    }
+
+    // What happens at a moment: frames, a datagram or a notification.
+    fn take_at(
+        &mut self,
+        names: &Names,
+        line: usize,
+        moment: u32,
+        text: &str,
+    ) -> Result<(), Trouble> {
+        let (kind, rest) = first_word(text);
+        match kind {
+            "frame" => self.take_frames(moment, 1, 0, rest),
+            "frames" => {
+                let (count, rest) = first_number(rest)?;
+                let (word, rest) = first_word(rest);
+                if word != "every" {
+                    return Err(Trouble::Form("no every behind the number of frames"));
+                }
+                let (every, rest) = first_number(rest)?;
+                self.take_frames(moment, count, every, rest)
+            }
+            "trap" => {
+                let trap = Datagram::read(self.alloc, names, kind, rest)?;
+                let digits = hex::encode(self.alloc, &trap.octets)?;
+                let text = format!(in self.alloc; "{moment} trap {digits}")?;
+                self.expect(line, text.as_str())
+            }
+            "octets" => self.ask(moment, Datagram::of_octets(self.alloc, rest)?),
+            _ => self.ask(moment, Datagram::read(self.alloc, names, kind, rest)?),
+        }
+    }
+
+    fn take_frames(
+        &mut self,
+        moment: u32,
+        count: u32,
+        every: u32,
+        text: &str,
+    ) -> Result<(), Trouble> {
+        let frame = read_frame(self.alloc, text)?;
+        self.capture
+            .push_frames(self.given.lead, moment, count, every, &frame)
+    }
+
+    // Adds a line to the request file. Its answer comes next.
+    fn ask(&mut self, moment: u32, datagram: Datagram) -> Result<(), Trouble> {
+        self.end()?;
+        let digits = hex::encode(self.alloc, &datagram.octets)?;
+        let text = format!(in self.alloc; "{moment} {digits}\n")?;
+        self.requests.extend_from_slice(text.as_bytes())?;
+        self.asked = self.asked.saturating_add(1);
+        self.waiting = Some((moment, datagram));
+        Ok(())
+    }
+
+    fn take_answer(&mut self, names: &Names, line: usize, text: &str) -> Result<(), Trouble> {
+        let Some((moment, datagram)) = self.waiting.take() else {
+            return Err(Trouble::Form("an answer without a datagram"));
+        };
+        let answer = datagram.answer(self.alloc, names, text)?;
+        let number = self.asked;
+        let text = format!(in self.alloc; "{moment} {number} {answer}")?;
+        self.expect(line, text.as_str())
+    }
+
+    /// The text that the run writes.
+    pub fn text(&self) -> Result<String, Trouble> {
+        let mut text = String::new(self.alloc);
+        for line in &self.expected {
+            writeln!(text, "{}", line.text)?;
+        }
+        Ok(text)
+    }
+}

@@ -1,0 +1,91 @@
+//! Judges files of cases: what a run of the probe is given, and what it is to write. It reads the file `names` and each file
+//! `*.cases` of the folder that it runs in, and prints a line for each of them, or what is the first thing wrong with it.
+//! README.md says the form.
+#![tactic(auto)]
+
+mod address;
+mod ber;
+mod binding;
+mod capture;
+mod case;
+mod frame;
+mod given;
+mod names;
+mod octets;
+mod request;
+mod status;
+mod text;
+mod trial;
+mod trouble;
+mod verdict;
+
+use crate::names::Names;
+use crate::text::statements;
+use crate::verdict::{Verdict, judge};
+use std::process::ExitCode;
+use std::rt::Files;
+use std::{fs, io};
+
+/// The file of names.
+const NAMES: &str = "names";
+
+// The names of the files of cases, in the order of their letters.
+fn files_of_cases(rt: &HostRuntime) -> io::Result<Vec<String>> {
+    let mut files = Vec::new(rt.alloc());
+    for entry in fs::read_dir(rt, ".")? {
+        let entry = entry?;
+        let name = entry.file_name();
+        if name.ends_with(".cases") {
+            files.push(String::from_str(rt.alloc(), name)?)?;
+        }
+    }
+    files.sort()?;
+    Ok(files)
+}
+
+// Reads the file of names. The verdict tells what is wrong with it.
+fn read_names(rt: &HostRuntime) -> io::Result<Result<Names, Verdict>> {
+    let text = fs::read_to_string(rt, NAMES)?;
+    let mut names = Names::new(rt.alloc());
+    let statements = match statements(rt.alloc(), text.as_str()) {
+        Ok(statements) => statements,
+        Err(trouble) => return Ok(Err(Verdict::Unread { line: 0, trouble })),
+    };
+    for statement in &statements {
+        if let Err(trouble) = names.take(statement) {
+            let line = statement.line;
+            return Ok(Err(Verdict::Unread { line, trouble }));
+        }
+    }
+    Ok(Ok(names))
+}
+
+// Judges each file, and prints the verdicts. The result is whether all are good.
+fn judge_all(rt: &HostRuntime) -> io::Result<bool> {
+    let names = match read_names(rt)? {
+        Ok(names) => names,
+        Err(verdict) => {
+            rt.println(verdict.text(rt.alloc(), NAMES)?)?;
+            return Ok(false);
+        }
+    };
+    let mut is_good = true;
+    for name in &files_of_cases(rt)? {
+        let text = fs::read_to_string(rt, name.as_str())?;
+        let verdict = judge(rt.alloc(), &names, text.as_str());
+        rt.println(verdict.text(rt.alloc(), name.as_str())?)?;
+        is_good = is_good && verdict.is_good();
+    }
+    Ok(is_good)
+}
+
+fn main(rt: HostRuntime) -> ExitCode {
+    match judge_all(&rt) {
+        Ok(true) => ExitCode::from(0),
+        Ok(false) => ExitCode::from(1),
+        Err(error) => {
+            let _ = eprintln!(rt; "cases: {error}");
+            ExitCode::from(2)
+        }
+    }
+}

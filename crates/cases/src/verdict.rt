@@ -1,0 +1,161 @@
+// The verdict on a file of cases.
+use crate::case::Case;
+use crate::names::Names;
+use crate::text::{Statement, first_word, statements};
+use crate::trial::{Difference, try_case};
+use crate::trouble::Trouble;
+use std::alloc::{AllocError, Global};
+
+/// How many cases a file has, and how many datagrams they ask.
+#[derive(Clone, Copy)]
+pub struct Counts {
+    pub cases: usize,
+    pub datagrams: usize,
+}
+
+/// The verdict on a file of cases.
+#[derive(Drop)]
+pub enum Verdict {
+    /// Each of its cases is as its run.
+    Good(Counts),
+    /// This statement isn't of the form, or the file has no case.
+    Unread {
+        line: usize,
+        trouble: Trouble,
+    },
+    /// The first case that is other than its run.
+    Bad {
+        title: String,
+        difference: Difference,
+    },
+}
+
+impl Verdict {
+    /// Whether each of the cases is as its run.
+    pub fn is_good(&self) -> bool {
+        matches!(self, Verdict::Good(_))
+    }
+
+    /// The lines that tell it of a file with that name.
+    pub fn text(&self, alloc: Global, name: &str) -> Result<String, AllocError> {
+        match self {
+            Verdict::Good(counts) => {
+                let cases = counts.cases;
+                let datagrams = counts.datagrams;
+                format!(in alloc; "{name}: cases {cases}, datagrams {datagrams}")
+            }
+            Verdict::Unread { line, trouble } => {
+                let text = trouble.text();
+                format!(in alloc; "{name}, line {line}: unread: {text}")
+            }
+            Verdict::Bad { title, difference } => {
+                let Difference {
+                    line,
+                    expected,
+                    written,
+                } = difference;
+                format!(in alloc;
+                    "{name}, line {line}: {title}\n  expected {expected}\n  written  {written}"
+                )
+            }
+        }
+    }
+}
+
+/// Judges a file of cases, up to the first that isn't as its run.
+pub fn judge(alloc: Global, names: &Names, text: &str) -> Verdict {
+    let statements = match statements(alloc, text) {
+        Ok(statements) => statements,
+        Err(trouble) => return Verdict::Unread { line: 0, trouble },
+    };
+    let mut counts = Counts {
+        cases: 0,
+        datagrams: 0,
+    };
+    let common = common(&statements);
+    let mut current = None;
+    for statement in &statements {
+        match step(alloc, names, common, statement, &mut current, &mut counts) {
+            Ok(None) => {}
+            Ok(Some(verdict)) => return verdict,
+            Err(trouble) => {
+                return Verdict::Unread {
+                    line: statement.line,
+                    trouble,
+                };
+            }
+        }
+    }
+    match finish(alloc, current, &mut counts) {
+        Ok(None) => Verdict::Good(counts),
+        Ok(Some(verdict)) => verdict,
+        Err(trouble) => {
+            let line = statements.last().map_or(0, |statement| statement.line);
+            Verdict::Unread { line, trouble }
+        }
+    }
+}
+
+// The statements before the first case, which each case begins with.
+fn common(statements: &[Statement]) -> &[Statement] {
+    let first = statements
+        .iter()
+        .position(|statement| statement.begins_case());
+    match first {
+        Some(first) => statements.get(..first).unwrap_or(statements),
+        None => &[],
+    }
+}
+
+// Takes a statement. A verdict comes where it ends a case that isn't as its run.
+fn step(
+    alloc: Global,
+    names: &Names,
+    common: &[Statement],
+    statement: &Statement,
+    current: &mut Option<Case>,
+    counts: &mut Counts,
+) -> Result<Option<Verdict>, Trouble> {
+    if statement.begins_case() {
+        let (_, title) = first_word(statement.text.as_str());
+        let mut next = Case::new(alloc, statement.line, title)?;
+        for statement in common {
+            next.take(names, statement)?;
+        }
+        return match current.replace(next) {
+            None => Ok(None),
+            Some(case) => end_case(alloc, &case, counts),
+        };
+    }
+    match current {
+        None => Ok(None),
+        Some(case) => {
+            case.take(names, statement)?;
+            Ok(None)
+        }
+    }
+}
+
+// Ends the last case of a file.
+fn finish(
+    alloc: Global,
+    current: Option<Case>,
+    counts: &mut Counts,
+) -> Result<Option<Verdict>, Trouble> {
+    match current {
+        None => Err(Trouble::Form("no case")),
+        Some(case) => end_case(alloc, &case, counts),
+    }
+}
+
+// Runs a case, and counts it where it is as its run.
+fn end_case(alloc: Global, case: &Case, counts: &mut Counts) -> Result<Option<Verdict>, Trouble> {
+    case.end()?;
+    if let Some(difference) = try_case(alloc, case)? {
+        let title = String::from_str(alloc, case.title.as_str())?;
+        return Ok(Some(Verdict::Bad { title, difference }));
+    }
+    counts.cases = counts.cases.saturating_add(1);
+    counts.datagrams = counts.datagrams.saturating_add(case.asked);
+    Ok(None)
+}
