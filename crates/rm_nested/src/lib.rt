@@ -4,6 +4,8 @@
 mod inner_rows;
 mod nested;
 mod number;
+#[cfg(test)]
+mod tests;
 
 pub use inner_rows::InnerRows;
 pub use nested::Nested;

@@ -9,7 +9,7 @@ use rm_status::{RowIndexes, append_from, numbers_from};
 use rm_val::Oid;
 
 /// Inner rows, in order of their control rows and then of their inner indexes.
-#[derive(Clone, Copy)]
+#[derive(Clone, Copy, Drop)]
 pub struct Nested<R> {
     /// The rows.
     pub rows: R,
