@@ -1,5 +1,5 @@
 -- Where there is no channel, no frame fires an event.
-use Rattle.std.proofs.Common.{◌≡◌, ℕ, ◌⊎◌, inl, inr, List, [], ◌∷◌, ◌++◌, Bool, true, false, cond, ◌&&◌, ◌||◌, not, Option, None, refl, ap, ◌∙◌, nat_eq, arith, option_map, filter_map}
+use Rattle.std.proofs.Common.{◌≡◌, ℕ, ◌⊎◌, inl, inr, List, [], ◌∷◌, ◌++◌, Bool, true, false, cond, ◌&&◌, ◌||◌, not, Option, None, refl, ap, ◌∙◌, nat_eq, option_map}
 use Rattle.std.specs.List.{list_any, starts_with, cons_option}
 use Rattle.std.specs.Cmp.Lexicographic.{slice_cmp}
 use Rattle.std.specs.Ordering.{nat_cmp}

@@ -1,9 +1,9 @@
 -- That the frames seen are those since a row became valid.
 use Rattle.std.proofs.Common.{◌≡◌, ℕ, List, [], ◌∷◌, Bool, true, false, cond, refl, ap, map}
-use Rattle.rm_model.specs.Journal.{Act, Frame, Journal, passes, assigns, samples, frames_in}
+use Rattle.rm_model.specs.Journal.{Act, Journal, passes, assigns, samples, frames_in}
 use Rattle.rm_model.specs.ControlTable.{ControlTable}
 use Rattle.rm_model.specs.ControlRows.{Beginning, stays_valid, since}
-use Rattle.rm_acts.specs.Seen.{Seen, with_act, seen_since}
+use Rattle.rm_acts.specs.Seen.{with_act, seen_since}
 
 module _ (table : ControlTable) (beginning : Beginning) (index : List ℕ) where
   pub frames_seen : (journal : Journal) → map (λ seen. seen.frame) (seen_since table beginning journal index) ≡ frames_in (since table beginning journal index)

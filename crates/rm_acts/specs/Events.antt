@@ -1,6 +1,6 @@
 -- The control table of events (RFC 1757, section 5), and the event that a sample asks for.
 use Rattle.std.specs.Prelude.{ℕ, pos, List, [], ◌∷◌, true, false}
-use Rattle.rm_val.specs.Val.{Val, int, octets}
+use Rattle.rm_val.specs.Val.{int, octets}
 use Rattle.rm_model.specs.Journal.{Journal}
 use Rattle.rm_model.specs.ControlTable.{Column, ControlTable, number, text, owner_column}
 use Rattle.rm_acts.specs.Alarms.{up_from, alarm_column}

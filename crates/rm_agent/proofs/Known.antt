@@ -1,5 +1,5 @@
 -- What isn't dropped has a community that is known, and that is short.
-use Rattle.std.proofs.Common.{◌≡◌, ◌≤◌, ℕ, Bool, true, false, ◌||◌, if◌then◌else◌, List, length, Option, Some, None, refl, ap, arith, bytes_eq}
+use Rattle.std.proofs.Common.{◌≡◌, ◌≤◌, ℕ, Bool, true, false, ◌||◌, if◌then◌else◌, List, length, Some, None, refl, ap, arith, bytes_eq}
 use Rattle.std.proofs.lemmas.Slice.Eq.{bytes_eq-Decides}
 use Rattle.rm_pdu.specs.Message.{Message}
 use Rattle.rm_pdu.specs.Verdict.{message}

@@ -11,7 +11,7 @@ use Rattle.rm_val.specs.declared.error.ErrorStatus.{ErrorStatus}
 use Rattle.rm_val.specs.declared.error.ErrorStatus.TheVariants.{InconsistentValue, WrongValue}
 use Rattle.rm_model.specs.Journal.{Act, Frame, Journal, passes, assigns, samples, value_given}
 use Rattle.rm_model.specs.ControlTable.{default_of}
-use Rattle.rm_model.specs.ControlRows.{no_rows, cell_name, entry_status_ask, value_ask, set_ask, next_state, is_absent, is_valid, set_value, stays_valid}
+use Rattle.rm_model.specs.ControlRows.{no_rows, cell_name, entry_status_ask, value_ask, set_ask, next_state, is_absent, is_valid, stays_valid}
 use Rattle.rm_model.specs.Judgement.{Bindings, name_at, place_of, first_pass, second_pass, together_fault, alone_fault, value_fault, column_kind, is_in, is_ready_with, is_again, is_crowded, row_fault, rows_after, unless}
 use Rattle.rm_model.specs.Accepted.{assignments_of}
 use Rattle.rm_acts.specs.Alarms.{alarm_entry, alarm_table, alarm_state, interval_of, due_of, IsNextDue, number_of, up_from}

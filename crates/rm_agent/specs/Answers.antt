@@ -1,5 +1,5 @@
 -- What a datagram is answered.
-use Rattle.std.specs.Prelude.{◌≡◌, ◌≤◌, ℕ, Bool, true, List, if◌then◌else◌, Option, Some, None, length, take}
+use Rattle.std.specs.Prelude.{◌≡◌, ◌≤◌, ℕ, true, List, if◌then◌else◌, Option, Some, None, length, take}
 use Rattle.rm_model.specs.Journal.{Journal}
 use Rattle.rm_pdu.specs.Message.{Message, message_octets}
 use Rattle.rm_pdu.specs.Verdict.{Verdict, too_long, malformed, other_version, not_request, message, IsVerdict}

@@ -1,5 +1,5 @@
 // What a trap tells of its alarm.
-ghost use Rattle.std.specs.Prelude.{◌≡◌, ℕ, ◌≤◌, List, [], ◌∷◌, true};
+ghost use Rattle.std.specs.Prelude.{◌≡◌, ℕ, ◌≤◌, List, true};
 ghost use Rattle.rm_val.specs.Val.{val_of, name};
 ghost use Rattle.rm_val.specs.Spellable.{IsSpellable, HasSpelling};
 ghost use Rattle.rm_acts.specs.Alarms.{number_of};

@@ -1,5 +1,5 @@
 -- What the rows show is what the table shows after the journal.
-use Rattle.std.proofs.Common.{◌≡◌, ℕ, List, [], ◌∷◌, refl, sym, subst, ◌∙◌, ◌||◌, ap, true, false, cond, Option, Some, None, nat_eq}
+use Rattle.std.proofs.Common.{◌≡◌, ℕ, List, [], ◌∷◌, refl, sym, ◌∙◌, ap, false, cond, Option, Some, None, nat_eq}
 use Rattle.std.specs.Prelude.{ℤ, pos, unwrap_or, not}
 use Rattle.std.specs.Option.{option_map_or}
 use Rattle.rm_val.specs.Val.{Val, int}

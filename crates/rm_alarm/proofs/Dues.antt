@@ -1,7 +1,6 @@
 -- The sample that falls due first.
 use Rattle.std.proofs.Common.{◌≡◌, inl, inr, ℕ, Option, Some, None, refl, sym, ◌∙◌}
 use Rattle.rm_acts.specs.Alarms.{IsNextDue}
-use Rattle.rm_status.specs.declared.due.Due.{Due}
 use Rattle.rm_status.specs.Due.{ComesFirst, IsFirst}
 
 pub sample_due : (due : ℕ → Option ℕ) (moment number : ℕ) → IsNextDue due (Some (moment, number))

@@ -1,18 +1,16 @@
 -- Rows of a control table, and the columns of alarms among them.
-use Rattle.std.proofs.Common.{◌≡◌, ℕ, ◌≤◌, List, [], ◌∷◌, Bool, true, false, cond, ◌&&◌, Option, Some, None, refl, sym, ap, subst, ◌∙◌, nat_eq, nat_le, option_map, arith}
+use Rattle.std.proofs.Common.{◌≡◌, ℕ, List, [], ◌∷◌, true, false, Option, Some, None, refl, sym, ap, subst, ◌∙◌, option_map}
 use Rattle.std.specs.Prelude.{ℤ, pos, unwrap_or, nat_abs}
 use Rattle.std.specs.Option.{option_and_then}
 use Rattle.std.specs.Ordering.{int_eq}
-use Rattle.std.proofs.lemmas.Bool.Decides.{nat_tests}
 use borrow.Author.Tests.{eqb-true}
 use Rattle.rm_val.specs.Val.{int, name}
 use Rattle.rm_model.specs.Journal.{Journal}
 use Rattle.rm_model.specs.ControlRows.{no_rows, is_absent, set_value}
-use Rattle.rm_model.specs.Judgement.{is_row_number}
 use Rattle.rm_model.specs.Alike.{HasSameColumns}
 use Rattle.rm_acts.specs.Alarms.{number_of, name_of, alarm_table, alarm_state, interval_of, variable_of, is_delta, bounds_of}
 use Rattle.rm_status.specs.declared.row.Row.{Row}
-use Rattle.rm_status.specs.Rows.{row_in, state_seen, columns_seen, AreControlRows, AllThere, with_columns}
+use Rattle.rm_status.specs.Rows.{row_in, state_seen, columns_seen}
 use Rattle.rm_status.specs.RowsAfter.{AreRowsAfter}
 use Rattle.rm_alarm.specs.declared.row.AlarmRow.{AlarmRow}
 use Rattle.rm_alarm.specs.declared.sample_type.SampleType.{SampleType}

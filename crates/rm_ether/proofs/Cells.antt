@@ -1,7 +1,6 @@
 -- What the rows show is what the table shows after the journal.
-use Rattle.std.proofs.Common.{◌≡◌, ℕ, ◌≤◌, ◌%◌, ◌^◌, List, [], ◌∷◌, refl, sym, ◌∙◌, ap, subst, Bool, true, false, cond, ◌&&◌, Option, Some, None, nat_eq, nat_le, arith}
+use Rattle.std.proofs.Common.{◌≡◌, ℕ, ◌%◌, ◌^◌, List, [], ◌∷◌, refl, sym, ◌∙◌, ap, true, cond, Option, Some, None}
 use Rattle.std.specs.Prelude.{not, is_some}
-use Rattle.std.proofs.lemmas.Bool.Decides.{nat_tests}
 use Rattle.std.proofs.Math.Pow.{mod-mod-pow}
 use borrow.Author.Tests.{eqb-true}
 use Rattle.rm_val.specs.Val.{Val, int, counter}
@@ -10,11 +9,10 @@ use Rattle.rm_model.specs.Journal.{Journal}
 use Rattle.rm_model.specs.Names.{IsLeastAbove}
 use Rattle.rm_model.specs.Cells.{cells_of, cell_at, instance_of, is_cell_name, IsNext}
 use Rattle.rm_model.specs.ControlRows.{entry_status, is_absent}
-use Rattle.rm_model.specs.Judgement.{is_row_number}
 use Rattle.rm_model.specs.declared.instance.Instance.{Instance}
 use Rattle.rm_model.proofs.Tables.{table_next, table_end}
 use Rattle.rm_status.specs.declared.row.Row.{Row}
-use Rattle.rm_status.specs.Rows.{row_in, columns_seen, AreControlRows, AllThere}
+use Rattle.rm_status.specs.Rows.{row_in, AreControlRows}
 use Rattle.rm_status.specs.Indexes.{is_index_in}
 use Rattle.rm_status.specs.RowsAfter.{AreRowsAfter}
 use Rattle.rm_status.proofs.RowsAfterLemmas.{is_row_after}

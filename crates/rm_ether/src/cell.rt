@@ -5,7 +5,6 @@ ghost use Rattle.rm_val.specs.Val.{val_of};
 ghost use Rattle.rm_val.specs.Spellable.{HasSpelling};
 ghost use Rattle.rm_model.specs.Cells.{cells_of, cell_at};
 ghost use Rattle.rm_ether.specs.EtherStats.{ether_entry};
-ghost use Rattle.rm_ether.specs.Columns.{column_of};
 ghost use Rattle.rm_ether.specs.Shown.{row_value, rows_table};
 
 use crate::column::{COLUMNS, Column};

@@ -1,5 +1,4 @@
 // What frames and Sets make of the sums of each row.
-ghost use Rattle.std.specs.Prelude.{◌≡◌};
 ghost use Rattle.rm_ether.specs.StatisticsRows.{counting, resting};
 
 use crate::row::StatisticsRow;

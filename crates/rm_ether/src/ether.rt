@@ -1,5 +1,5 @@
 // The group statistics.
-ghost use Rattle.std.specs.Prelude.{◌≡◌, ℕ, ◌+◌, ◌<◌, ◌≤◌, List, [], ◌∷◌, None};
+ghost use Rattle.std.specs.Prelude.{◌≡◌, ◌+◌, ◌<◌, ◌≤◌, [], ◌∷◌};
 
 use crate::cell::{cell_of, entry};
 use crate::change::{Counting, Resting};

@@ -1,12 +1,12 @@
 -- The indexes that the rows of a control table can have.
-use Rattle.std.proofs.Common.{◌≡◌, ℕ, ◌⊎◌, inl, inr, List, [], ◌∷◌, ◌++◌, refl, ◌∙◌, ap, Bool, true, false, cond, ◌&&◌, not, Option, Some, None, nat_eq, arith, Contains, bytes_eq, option_map, find, filter_map}
+use Rattle.std.proofs.Common.{◌≡◌, ℕ, ◌⊎◌, inl, inr, List, [], ◌∷◌, refl, ◌∙◌, ap, Bool, true, false, cond, ◌&&◌, not, Option, Some, None, nat_eq, arith, Contains, bytes_eq, option_map, find}
 use Rattle.std.specs.Prelude.{is_some}
 use Rattle.std.specs.List.{cons_option}
 use Rattle.std.proofs.lemmas.Bool.Decides.{nat_tests}
 use Rattle.std.proofs.lemmas.Slice.Eq.{bytes_eq-Decides}
 use Rattle.std.proofs.lemmas.List.Elements.{Contains-append_left, Contains-append_right}
 use Rattle.rm_val.specs.Val.{Val}
-use Rattle.rm_model.specs.Journal.{Act, passes, assigns, samples, Journal, Assignment, Assignments, value_given}
+use Rattle.rm_model.specs.Journal.{Act, passes, assigns, samples, Journal, Assignments, value_given}
 use Rattle.rm_model.specs.Cells.{instance_of}
 use Rattle.rm_model.specs.ControlTable.{ControlTable}
 use Rattle.rm_model.specs.Indexes.{index_named, indexes_named, indexes_of}

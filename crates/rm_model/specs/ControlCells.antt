@@ -1,5 +1,5 @@
 -- The cells of a control table.
-use Rattle.std.specs.Prelude.{ℕ, ℤ, pos, List, Bool, not, is_some, nat_eq, if◌then◌else◌}
+use Rattle.std.specs.Prelude.{ℕ, ℤ, pos, List, not, is_some, nat_eq, if◌then◌else◌}
 use Rattle.rm_val.specs.Val.{Val, int}
 use Rattle.rm_model.specs.Journal.{Journal}
 use Rattle.rm_model.specs.Cells.{Table}

@@ -1,5 +1,5 @@
 -- The columns of a control table that a description of the code describes.
-use Rattle.std.specs.Prelude.{ℕ, List, [], ◌∷◌, Bool, true, false, not, ◌&&◌, nat_eq, map}
+use Rattle.std.specs.Prelude.{List, [], ◌∷◌, Bool, true, false, not, ◌&&◌, nat_eq, map}
 use Rattle.std.specs.List.{list_all}
 use Rattle.rm_val.specs.Val.{Val, int, octets, name}
 use Rattle.rm_model.specs.Interfaces.{interface_name}

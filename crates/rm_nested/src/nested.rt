@@ -1,5 +1,5 @@
 // Inner rows, as the search for the next cell sees them.
-ghost use Rattle.std.specs.Prelude.{◌≡◌, ℕ, ◌+◌, ◌≤◌, ◌∷◌, length, IfSome, refl, slice_index, drop};
+ghost use Rattle.std.specs.Prelude.{◌≡◌, ◌+◌, ◌≤◌, ◌∷◌, length, IfSome, refl, drop};
 ghost use Rattle.rm_model.specs.Names.{IsLeastAbove};
 ghost use Rattle.rm_nested.specs.Nested.{is_nested, IsFirstAbove};
 

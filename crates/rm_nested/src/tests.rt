@@ -1,5 +1,4 @@
 // A walk over nested rows at a concrete type, through its bound.
-ghost use Rattle.std.specs.Prelude.{◌≡◌};
 ghost use Rattle.rm_model.specs.Numbers.{IsNumberAbove};
 ghost use Rattle.rm_nested.specs.MadeUp.{is_rank};
 
@@ -29,7 +28,7 @@ impl Ranks {
 }
 
 impl InnerRows for Ranks {
-    ghost use Rattle.std.specs.Prelude.{◌≡◌, nat_le, refl};
+    ghost use Rattle.std.specs.Prelude.{nat_le, refl};
     ghost use Rattle.std.proofs.Common.{rules};
     ghost use Rattle.rm_nested.specs.MadeUp.{is_rank, no_rank};
     ghost use Rattle.rm_nested.specs.Nested.{is_number};

@@ -1,5 +1,5 @@
 ghost use Rattle.std.specs.Prelude.{◌≡◌, ◌≤◌, ◌+◌, ℕ, List, length, drop, None, Some, IfOk, IfErr, MatchResult};
-ghost use Rattle.rm_edge.specs.Outside.{File, Absent, Rose};
+ghost use Rattle.rm_edge.specs.Outside.{File, Rose};
 ghost use Rattle.rm_pcap.specs.Records.{fault_at, time_of, found_at};
 ghost use Rattle.rm_pcap.specs.Filling.{IsFront};
 ghost use Rattle.rm_pcap.specs.Calls.{IsFaultAt, IsBroken};

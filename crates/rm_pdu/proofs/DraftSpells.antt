@@ -2,7 +2,7 @@
 use Rattle.std.proofs.Common.{◌≡◌, ◌≤◌, ℕ, pos, List, [], ◌∷◌, ◌++◌, length, flat_map, All, refl, sym, subst, append_assoc, length-append, rules, arith}
 use Rattle.std.proofs.lemmas.List.{append-nil}
 use Rattle.std.proofs.lemmas.List.Elements.{All-head, All-tail}
-use Rattle.rm_val.specs.Val.{Val, int, octets, null, name, ip, counter, gauge, ticks, opaque_octets, big, no_object, no_instance, end_of_view}
+use Rattle.rm_val.specs.Val.{Val, int, octets, name, opaque_octets}
 use Rattle.rm_val.specs.Spellable.{HasSpelling}
 use Rattle.rm_ber.specs.Element.{length_octets, element, value_element}
 use Rattle.rm_ber.specs.Grammar.{StandsFirst, ValueFirst}

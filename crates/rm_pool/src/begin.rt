@@ -1,5 +1,5 @@
 // The parts of rows that begin.
-ghost use Rattle.std.specs.Prelude.{◌≡◌, ℕ, ◌<◌, length, Some, None, false, nat_eq, is_none};
+ghost use Rattle.std.specs.Prelude.{◌≡◌, ℕ, ◌<◌, length, Some, None, false, nat_eq};
 ghost use Rattle.rm_pool.specs.Pools.{in_use, IsThere};
 ghost use Rattle.rm_pool.specs.Slots.{AreApart, part_in};
 

@@ -1,5 +1,5 @@
 // A change of the part of each row.
-ghost use Rattle.std.specs.Prelude.{◌≡◌, ℕ, length, Some, true};
+ghost use Rattle.std.specs.Prelude.{◌≡◌, ℕ, length, Some};
 ghost use Rattle.rm_pool.specs.Each.{EachBecomes, SlotBecomes, IsAllowed, AreAllowed};
 ghost use Rattle.rm_pool.specs.Pools.{Became, Allowed};
 ghost use Rattle.rm_pool.specs.Slots.{kept, part_in};

@@ -4,7 +4,7 @@ ghost use Rattle.rm_model.specs.Reserves.{count_valid};
 ghost use Rattle.rm_model.specs.Judgement.{count_below};
 ghost use Rattle.rm_status.specs.Rows.{rows_before};
 ghost use Rattle.rm_pool.specs.Follow.{AreBegun};
-ghost use Rattle.rm_pool.specs.Pools.{in_use, valid_in, IsOfValid, IsThere};
+ghost use Rattle.rm_pool.specs.Pools.{valid_in, IsOfValid, IsThere};
 ghost use Rattle.rm_pool.specs.Slots.{kept, part_in, has_part, released};
 
 use crate::begin::Begin;

@@ -1,6 +1,5 @@
 // The top calls.
-ghost use Rattle.std.specs.Prelude.{◌≡◌, ◌+◌, ◌≤◌, ◌↔◌, ◌∷◌, ℕ, List, length, Some, None, MatchOption};
-ghost use Rattle.rm_edge.specs.Outside.{Held};
+ghost use Rattle.std.specs.Prelude.{◌≡◌, ◌+◌, ◌≤◌, ◌↔◌, length, Some, None, MatchOption};
 ghost use Rattle.rm_agent.specs.declared.settings.Settings.{Settings};
 ghost use Rattle.rm_probe.specs.Defaults.{AreDefault, default_lead};
 ghost use Rattle.rm_probe.specs.Ends.{Ends, IsComplete, IsExact, IsSilent, OfReplay, replay_of, is_operand};

@@ -1,5 +1,5 @@
 // The lines that are written.
-ghost use Rattle.std.specs.Prelude.{◌≡◌, ◌+◌, ◌≤◌, ◌++◌, List, [], codes, decimal, length};
+ghost use Rattle.std.specs.Prelude.{◌≡◌, ◌+◌, ◌≤◌, ◌++◌, [], decimal, length};
 ghost use Rattle.hex.specs.Hex.{encode_lower};
 ghost use Rattle.rm_agent.specs.Answers.{IsShort};
 ghost use Rattle.rm_probe.specs.Text.{reason_text, answer_text, answer_line, last_line};

@@ -1,8 +1,8 @@
 // The lines of a request file.
-ghost use Rattle.std.specs.Prelude.{◌≡◌, ◌+◌, ◌≤◌, ◌<◌, ◌^◌, ℕ, List, [], ◌∷◌, length, take, drop, MatchOption, MatchResult, Some, None, Ok, Err, IsOk, position, ◌==◌};
+ghost use Rattle.std.specs.Prelude.{◌≡◌, ◌+◌, ◌≤◌, ◌<◌, ◌^◌, [], ◌∷◌, length, take, MatchOption, MatchResult, Some, None, Ok, Err, IsOk, position, ◌==◌};
 ghost use Rattle.std.specs.Str.Lines.{lines, strip_carriage_return};
 ghost use Rattle.rm_probe.specs.Taking.{Takes};
-ghost use Rattle.rm_probe.specs.Lines.{TimedDatagram, is_blank, moment_of, datagram_of, request_of, requests_of};
+ghost use Rattle.rm_probe.specs.Lines.{is_blank, moment_of, datagram_of, request_of, requests_of};
 
 /// How many octets the longest datagram of a line has.
 pub const MOST_DATAGRAM: usize = 65_535;

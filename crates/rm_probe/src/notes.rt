@@ -1,5 +1,5 @@
 // Where the notifications of a probe go.
-ghost use Rattle.std.specs.Prelude.{◌≡◌, ◌≤◌, List, [], ◌∷◌, ◌++◌, length};
+ghost use Rattle.std.specs.Prelude.{◌≤◌, List, [], ◌∷◌, ◌++◌, length};
 ghost use Rattle.rm_probe.specs.Notes.{Note};
 
 use rm_agent::MOST_REPLY;

@@ -1,5 +1,5 @@
 // The output of a run.
-ghost use Rattle.std.specs.Prelude.{◌≡◌, ◌⊎◌, ◌≤◌, Bool, true, false, [], OnOk, OnErr, refl};
+ghost use Rattle.std.specs.Prelude.{◌≡◌, ◌⊎◌, ◌≤◌, true, false, OnOk, OnErr, refl};
 ghost use Rattle.std.specs.Result.{is_err};
 ghost use Rattle.rm_edge.specs.Outside.{Puts, Rose};
 ghost use Rattle.rm_probe.specs.Notes.{HasNoted, nothing_noted};

@@ -1,5 +1,5 @@
 // The text of a run: a capture is read again, and the datagrams of a request file are answered, which were judged before.
-ghost use Rattle.std.specs.Prelude.{◌≡◌, ◌+◌, ◌≤◌, ◌<◌, ◌^◌, ℕ, true, false, List, length, Some, Ok, Err, OnOk, OnErr, IsOk, IfErr, []};
+ghost use Rattle.std.specs.Prelude.{◌≡◌, ◌≤◌, ◌<◌, ◌^◌, ℕ, false, List, length, Some, Ok, Err, OnOk, IsOk, IfErr, []};
 ghost use Rattle.rm_edge.specs.Outside.{Rose, File};
 ghost use Rattle.rm_model.specs.Journal.{Frame, Journal};
 ghost use Rattle.rm_pcap.specs.View.{progress_of};

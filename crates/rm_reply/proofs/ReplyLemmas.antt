@@ -1,5 +1,5 @@
 -- How drafts are replies.
-use Rattle.std.proofs.Common.{◌≡◌, ◌≤◌, ℕ, List, [], ◌++◌, length, take, drop, refl, ap, subst, ◌∙◌, append_assoc}
+use Rattle.std.proofs.Common.{◌≡◌, ◌≤◌, ℕ, List, [], ◌++◌, take, drop, refl, subst, append_assoc}
 use Rattle.rm_pdu.specs.Message.{Binding, Message}
 use Rattle.rm_pdu.specs.Draft.{Drafted, drafted}
 use Rattle.rm_reply.specs.declared.answers.Answers.{Answers}

@@ -1,5 +1,5 @@
 // A request, and the drafts of its replies.
-ghost use Rattle.std.specs.Prelude.{◌≡◌, ◌≤◌, ◌<◌, ◌↔◌, IsTrue, ℕ, List, [], length, All, slice_range, MatchResult, false, nat_lt};
+ghost use Rattle.std.specs.Prelude.{◌≡◌, ◌≤◌, ◌<◌, ◌↔◌, IsTrue, [], length, All, slice_range, MatchResult, false, nat_lt};
 ghost use Rattle.rm_reply.specs.Replies.{counting};
 
 use crate::given::Given;

@@ -1,5 +1,5 @@
 -- The first of what falls due.
-use Rattle.std.proofs.Common.{◌≡◌, ◌⊎◌, inl, inr, ℕ, ◌<◌, ◌≤◌, Option, Some, None, sym, ◌∙◌, subst, arith}
+use Rattle.std.proofs.Common.{◌≡◌, ◌⊎◌, inl, inr, ◌<◌, ◌≤◌, Option, Some, None, sym, ◌∙◌, subst, arith}
 use Rattle.rm_status.specs.declared.due.Due.{Due}
 use Rattle.rm_status.specs.Due.{ComesFirst, IsFirst, IsSooner}
 

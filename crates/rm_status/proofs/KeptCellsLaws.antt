@@ -1,21 +1,20 @@
 -- The cells of the rows that are held are those after the journal.
 use Rattle.std.proofs.Common.{◌≡◌, ℕ, List, [], ◌∷◌, Bool, true, false, cond, Option, Some, None, refl, sym, ap, ◌∙◌, nat_eq, find}
-use Rattle.std.specs.Prelude.{not, is_some, unwrap_or}
+use Rattle.std.specs.Prelude.{is_some, unwrap_or}
 use Rattle.std.specs.List.{AllByRecursion}
 use Rattle.std.specs.Option.{option_and_then}
 use borrow.Author.Tests.{eqb-true}
-use Rattle.rm_val.specs.Val.{Val, int, null}
+use Rattle.rm_val.specs.Val.{Val, int}
 use Rattle.rm_model.specs.Journal.{Journal}
 use Rattle.rm_model.specs.Cells.{cells_of, cell_at, instance_of}
 use Rattle.rm_model.specs.ControlTable.{Column, ControlTable, column_of, default_of}
 use Rattle.rm_model.specs.ControlRows.{Beginning, is_absent, state_of, value_of}
 use Rattle.rm_model.specs.ControlCells.{status_number, control_value, control_cells}
-use Rattle.rm_model.specs.Alike.{IsSameColumn, HasSameColumns}
+use Rattle.rm_model.specs.Alike.{IsSameColumn}
 use Rattle.rm_model.specs.Judgement.{rows_after}
 use Rattle.rm_model.specs.declared.instance.Instance.{Instance}
-use Rattle.rm_model.specs.declared.row.State.{State}
 use Rattle.rm_status.specs.declared.row.Row.{Row}
-use Rattle.rm_status.specs.Rows.{row_in, state_seen, columns_seen, columns_in, state_in, AreControlRows, rows_before}
+use Rattle.rm_status.specs.Rows.{row_in, state_seen, columns_seen, AreControlRows, rows_before}
 use Rattle.rm_status.specs.Indexes.{is_index_in}
 use Rattle.rm_status.specs.RowsAfter.{AreRowsAfter}
 use Rattle.rm_status.specs.KeptCells.{shows, kept_value, kept_cells}

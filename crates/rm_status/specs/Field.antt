@@ -1,5 +1,5 @@
 -- What a column of a control row is kept in, and the values with which columns begin.
-use Rattle.std.specs.Prelude.{◌≡◌, ℕ, List, [], ◌∷◌, Bool, true, nat_eq, if◌then◌else◌, Option, Some, None, is_some, unwrap_or, find}
+use Rattle.std.specs.Prelude.{◌≡◌, ℕ, List, [], ◌∷◌, Bool, true, nat_eq, if◌then◌else◌, Option, Some, None, unwrap_or, find}
 use Rattle.std.specs.Option.{option_map}
 use Rattle.rm_val.specs.Val.{Val}
 use Rattle.rm_model.specs.ControlTable.{Kind, Column, ControlTable, default_of}

@@ -1,12 +1,12 @@
 -- What holds of rows whose table is described as data.
-use Rattle.std.proofs.Common.{◌≡◌, ℕ, List, [], ◌∷◌, Bool, true, false, cond, ◌&&◌, ◌||◌, Option, Some, None, refl, sym, ap, subst, ◌∙◌, nat_eq, find, map, arith}
+use Rattle.std.proofs.Common.{◌≡◌, ℕ, List, [], ◌∷◌, Bool, true, false, cond, ◌&&◌, ◌||◌, Option, Some, None, refl, sym, ap, ◌∙◌, nat_eq, find, arith}
 use Rattle.std.specs.Prelude.{not, is_some, is_none, unwrap_or}
 use Rattle.std.specs.List.{list_all, AllByRecursion}
 use Rattle.std.specs.Option.{option_map, option_map_or, option_copied}
 use Rattle.std.specs.Borrow.{Bor}
 use Rattle.std.proofs.lemmas.Bool.Decides.{nat_tests}
 use Rattle.rm_val.specs.Val.{Val, null}
-use Rattle.rm_model.specs.ControlTable.{Kind, Column, ControlTable, default_of}
+use Rattle.rm_model.specs.ControlTable.{Column, ControlTable, default_of}
 use Rattle.rm_model.specs.Judgement.{of_columns}
 use Rattle.rm_model.specs.Alike.{IsSameColumn, HasSameColumns}
 use Rattle.rm_model.specs.Sheet.{are_apart, column_of, columns_of}

@@ -1,5 +1,5 @@
 // Two groups as one.
-ghost use Rattle.std.specs.Prelude.{◌≡◌, ℕ, ◌≤◌, List, ◌||◌, ◌⊎◌, max};
+ghost use Rattle.std.specs.Prelude.{◌||◌, ◌⊎◌, max};
 ghost use Rattle.std.specs.Option.{option_or};
 ghost use Rattle.rm_model.proofs.Finite.{both_finite};
 

@@ -5,7 +5,7 @@ mod each;
 mod judge;
 mod valid;
 
-ghost use Rattle.std.specs.Prelude.{◌≡◌, ℕ, ◌<◌, ◌≤◌, ◌+◌, List, [], length, Bool, true, false, Option, Some, None, is_some, IfSome, OnSome, IfNone, IsTrue, position, find, nat_eq, nat_lt, if◌then◌else◌, slice_get};
+ghost use Rattle.std.specs.Prelude.{◌≡◌, ℕ, ◌<◌, ◌≤◌, ◌+◌, List, [], length, false, Option, Some, None, is_some, IfSome, OnSome, IfNone, IsTrue, position, find, nat_eq, nat_lt, if◌then◌else◌, slice_get};
 ghost use Rattle.std.specs.Option.{option_copied};
 ghost use Rattle.std.specs.List.{position_or_len};
 ghost use Rattle.std.specs.Borrow.{sem};

@@ -1,9 +1,9 @@
 // What a Set gives to a row of a control table.
-ghost use Rattle.std.specs.Prelude.{◌≡◌, ℕ, ◌<◌, ◌∷◌, [], length, None};
+ghost use Rattle.std.specs.Prelude.{◌≡◌, ◌<◌, ◌∷◌, [], length, None};
 ghost use Rattle.rm_val.specs.Val.{val_of};
 ghost use Rattle.rm_val.specs.Spellable.{HasSpelling};
 ghost use Rattle.rm_model.specs.ControlRows.{set_ask};
-ghost use Rattle.rm_model.specs.Judgement.{IsFirstFault, Bindings, place_of, writable_kind, value_fault, alone_fault, first_pass, is_again, row_fault};
+ghost use Rattle.rm_model.specs.Judgement.{IsFirstFault, place_of, writable_kind, value_fault, alone_fault, first_pass, is_again, row_fault};
 ghost use Rattle.rm_status.specs.Commit.{put_at, put_all};
 
 use crate::assigns::Assigns;

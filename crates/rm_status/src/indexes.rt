@@ -1,5 +1,5 @@
 // The rows of a control table, as the search for the next cell sees them.
-ghost use Rattle.std.specs.Prelude.{◌≡◌, [], ◌∷◌, refl};
+ghost use Rattle.std.specs.Prelude.{[], ◌∷◌, refl};
 ghost use Rattle.std.specs.Option.{option_map};
 ghost use Rattle.rm_model.specs.Names.{IsLeastAbove};
 ghost use Rattle.rm_status.specs.Indexes.{is_index_in};

@@ -1,5 +1,5 @@
 // Where a name stands in a table.
-ghost use Rattle.std.specs.Prelude.{◌≡◌, ℕ, ◌+◌, ◌≤◌, List, ◌++◌, length, drop};
+ghost use Rattle.std.specs.Prelude.{◌≡◌, ◌+◌, ◌≤◌, ◌++◌, length, drop};
 ghost use Rattle.rm_model.specs.Cells.{instance_of};
 
 use rm_model::Instance;

@@ -1,5 +1,5 @@
 // A table with one row.
-ghost use Rattle.std.specs.Prelude.{◌≡◌, ℕ, List, [], ◌∷◌, refl};
+ghost use Rattle.std.specs.Prelude.{◌≡◌, [], ◌∷◌, refl};
 ghost use Rattle.std.specs.Str.{bytes_eq};
 
 use crate::row_indexes::RowIndexes;

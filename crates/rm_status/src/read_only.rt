@@ -1,5 +1,5 @@
 // Objects of which none is writable.
-ghost use Rattle.std.specs.Prelude.{◌≡◌, length};
+ghost use Rattle.std.specs.Prelude.{length};
 ghost use Rattle.rm_model.specs.Cells.{is_of_column};
 ghost use Rattle.rm_model.specs.Judgement.{IsFirstFault};
 ghost use Rattle.rm_status.specs.Alone.{alone_at, read_only};

@@ -1,5 +1,5 @@
 // The search for the next cell of a table.
-ghost use Rattle.std.specs.Prelude.{◌≡◌, ℕ, ◌+◌, ◌≤◌, List, [], ◌∷◌, ◌++◌, length, drop, find, nat_lt, IsTrue, IfSome};
+ghost use Rattle.std.specs.Prelude.{◌≡◌, ◌+◌, ◌≤◌, length, drop, find, nat_lt, IsTrue, IfSome};
 ghost use Rattle.rm_val.specs.Spellable.{IsSpellable};
 ghost use Rattle.rm_model.specs.Names.{IsLeastAbove};
 ghost use Rattle.rm_model.specs.Cells.{is_cell_name};

@@ -1,6 +1,6 @@
 -- Names that have a spelling in a message (X.690, 8.19).
-use Rattle.std.specs.Prelude.{◌≡◌, ◌⊎◌, ◌≤◌, ◌<◌, ℕ, ◌+◌, ◌*◌, ◌^◌, List, [], ◌∷◌}
-use Rattle.rm_val.specs.Val.{Val, int, octets, null, name, ip, counter, gauge, ticks, opaque_octets, big, no_object, no_instance, end_of_view}
+use Rattle.std.specs.Prelude.{◌≤◌, ◌<◌, ℕ, ◌+◌, ◌*◌, ◌^◌, List, [], ◌∷◌}
+use Rattle.rm_val.specs.Val.{Val, name}
 
 -- At least two numbers. The first is 0, 1 or 2, the second is at most 39 below a first 0 or 1, and both
 -- together fit in 32 bits.

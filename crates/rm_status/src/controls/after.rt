@@ -1,5 +1,5 @@
 // The rows as a Set will leave them.
-ghost use Rattle.std.specs.Prelude.{◌≡◌, ℕ, ◌≤◌, [], ◌∷◌, length};
+ghost use Rattle.std.specs.Prelude.{◌≡◌, ℕ, [], ◌∷◌, length};
 ghost use Rattle.rm_model.specs.Judgement.{IsFirstFault, first_pass, second_pass};
 ghost use Rattle.rm_model.specs.Reserves.{state_after};
 ghost use Rattle.rm_status.specs.Rows.{rows_before, state_in};

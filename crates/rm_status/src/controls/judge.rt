@@ -1,5 +1,5 @@
 // How a Set is judged on the rows of a control table.
-ghost use Rattle.std.specs.Prelude.{◌≡◌, ℕ, ◌<◌, ◌≤◌, [], ◌∷◌, length, false};
+ghost use Rattle.std.specs.Prelude.{◌≡◌, ◌<◌, ◌≤◌, [], ◌∷◌, length, false};
 ghost use Rattle.rm_model.specs.ControlRows.{is_absent};
 ghost use Rattle.rm_model.specs.Judgement.{IsFirstFault, first_pass, second_pass, name_at, place_of, is_again, is_crowded, is_ready_with};
 ghost use Rattle.rm_status.specs.Rows.{AreControlRows, rows_before, state_in};

@@ -1,5 +1,5 @@
 // Sets of the made-up table that no row takes: of values of another type, and of a name with an index of two numbers.
-ghost use Rattle.std.specs.Prelude.{◌≡◌, ℕ, pos, List, [], ◌∷◌};
+ghost use Rattle.std.specs.Prelude.{pos, [], ◌∷◌};
 ghost use Rattle.rm_val.specs.Val.{null, int};
 
 use crate::tests::made_up::{MadeUp, STATUS, entry};

@@ -1,5 +1,5 @@
 // A Set of two scalars, which reads no variable.
-ghost use Rattle.std.specs.Prelude.{◌≡◌, ℕ, List, [], ◌∷◌, None};
+ghost use Rattle.std.specs.Prelude.{[], ◌∷◌, None};
 ghost use Rattle.rm_val.specs.Val.{null};
 
 use crate::{Assigns, Look, Reading};

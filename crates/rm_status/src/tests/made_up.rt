@@ -1,8 +1,7 @@
 // The rows of a made-up control table, and Sets of it. Its entry is 1.3.6.1.4.1.9.5, its status column 7. Column 2 is 1 to 9 and
 // needed, column 3 is 1 to 3600, column 4 is 1 to 100 and may always be set.
-ghost use Rattle.std.specs.Prelude.{◌≡◌, ◌≤◌, ℕ, pos, List, [], ◌∷◌, ◌++◌, map, length, None, refl};
+ghost use Rattle.std.specs.Prelude.{◌≡◌, [], ◌∷◌, map, None, refl};
 ghost use Rattle.rm_val.specs.Val.{int};
-ghost use Rattle.rm_model.specs.Journal.{Assignment};
 ghost use Rattle.rm_status.specs.MadeUp.{table, set_to, with_value, blank_alike, set_with};
 
 use crate::{Assigns, Columns};

@@ -1,5 +1,5 @@
 // A group with one row, which is there once a frame has passed.
-ghost use Rattle.std.specs.Prelude.{◌≡◌, ℕ, ◌+◌, ◌<◌, ◌^◌, List, [], ◌∷◌, ◌&&◌, nat_lt, length, None, refl};
+ghost use Rattle.std.specs.Prelude.{◌≡◌, ◌+◌, ◌<◌, ◌^◌, [], ◌∷◌, ◌&&◌, nat_lt, length, None, refl};
 ghost use Rattle.std.specs.Str.{bytes_eq};
 ghost use Rattle.rm_val.specs.Val.{counter};
 ghost use Rattle.rm_model.specs.Journal.{Journal, Frame, frames_in, passes};

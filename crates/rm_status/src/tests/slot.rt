@@ -1,5 +1,5 @@
 // A group that holds a slot for a Set, where it has one.
-ghost use Rattle.std.specs.Prelude.{◌≡◌, ℕ, List, [], ◌∷◌, length, false, not, None};
+ghost use Rattle.std.specs.Prelude.{◌≡◌, [], ◌∷◌, length, false, not, None};
 ghost use Rattle.rm_val.specs.declared.error.ErrorStatus.TheVariants.{WrongValue};
 ghost use Rattle.rm_model.specs.Cells.{is_of_column};
 ghost use Rattle.rm_model.specs.Judgement.{unless};

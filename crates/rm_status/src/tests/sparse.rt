@@ -1,5 +1,5 @@
 // Rows whose indexes have one to three numbers.
-ghost use Rattle.std.specs.Prelude.{◌≡◌, ℕ, List, [], ◌∷◌, ◌||◌, refl};
+ghost use Rattle.std.specs.Prelude.{[], ◌∷◌, ◌||◌, refl};
 ghost use Rattle.std.specs.Str.{bytes_eq};
 
 use crate::RowIndexes;

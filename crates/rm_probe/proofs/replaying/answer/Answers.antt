@@ -1,4 +1,3 @@
-use Rattle.std.proofs.Common.{rules}
 use Rattle.rm_probe.specs.Text.{answer_text, IsAnswer}
 use Rattle.rm_probe.proofs.replaying.answer.Goals as goal
 

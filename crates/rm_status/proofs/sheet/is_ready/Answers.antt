@@ -1,4 +1,4 @@
-use Rattle.std.proofs.Common.{◌≡◌, sym, ap, ◌∙◌, ◌&&◌, ◌||◌}
+use Rattle.std.proofs.Common.{sym, ap, ◌∙◌, ◌&&◌, ◌||◌}
 use Rattle.std.specs.Prelude.{not, is_some}
 use Rattle.std.specs.List.{list_all}
 use Rattle.rm_status.specs.Field.{shown_with}

@@ -1,5 +1,3 @@
-use Rattle.std.proofs.Common.{◌≡◌, ℕ, Option, Some, None, subst, sym}
-use Rattle.rm_acts.specs.Alarms.{IsNextDue}
 use Rattle.rm_alarm.specs.Group.{due_in}
 use Rattle.rm_alarm.proofs.Dues.{sample_due, no_sample_due}
 use Rattle.rm_alarm.proofs.due.AlarmsFallsDue.next_due.Goals as goal
