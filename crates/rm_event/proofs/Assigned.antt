@@ -1,6 +1,6 @@
 -- What is kept of events after a Set with which nothing is wrong.
-use Rattle.std.proofs.Common.{◌≡◌, ℕ, ◌<◌, ◌≤◌, List, [], ◌∷◌, length, Bool, true, false, cond, ◌&&◌, Option, Some, None, refl, sym, ap, subst, ◌∙◌}
-use Rattle.std.specs.Prelude.{unwrap_or}
+use Rattle.std.proofs.Common.{◌≡◌, ℕ, ◌<◌, List, [], ◌∷◌, length, Bool, true, false, cond, ◌&&◌, Option, Some, None, refl, sym, ap, subst, ◌∙◌}
+use Rattle.std.specs.Prelude.{unwrap_or, is_some}
 use Rattle.std.specs.Option.{option_or}
 use Rattle.rm_model.specs.Settings.{Settings}
 use Rattle.rm_model.specs.Journal.{Assignments, Journal, assigns, value_given}
@@ -18,17 +18,19 @@ use Rattle.rm_status.proofs.Bares.{state_then}
 use Rattle.rm_status.proofs.Puts.{all_fine}
 use Rattle.rm_status.proofs.RowsAfterLemmas.{rows_assigns, fixed_column}
 use Rattle.rm_event.specs.declared.log.Log.{Log}
+use Rattle.rm_pool.specs.declared.slot.Slot.{Slot}
 use Rattle.rm_event.specs.EventType.{type_in}
 use Rattle.rm_event.specs.EventTable.{event_table, event_state, type_of}
 use Rattle.rm_event.specs.declared.event_row.EventRow.{EventRow}
 use Rattle.rm_event.specs.EventRows.{set_to, with_column, blank_row, blank_alike, set_with}
 use Rattle.rm_acts.specs.Fired.{firings}
 use Rattle.rm_event.specs.Log.{IsLog}
-use Rattle.rm_event.specs.Logs.{log_in, HasNew, valid_in}
-use Rattle.rm_event.specs.Held.{AreOfValid}
+use Rattle.rm_event.specs.Log.{IsNew}
+use Rattle.rm_pool.specs.Slots.{part_in, has_part}
+use Rattle.rm_pool.specs.Pools.{valid_in, IsOfValid, IsThere}
 use Rattle.rm_event.specs.Standing.{IsLogOf, AreLogs}
 use Rattle.rm_status.proofs.RowFacts.{valid_there}
-use Rattle.rm_event.proofs.Spares.{not_some}
+use Rattle.rm_pool.proofs.Spares.{not_there}
 
 valid_is : (s : State) → is_valid s ≡ true → s ≡ Valid
 valid_is Absent h = cc
@@ -60,10 +62,10 @@ module _ (settings : Settings) (journal : Journal) (moment : ℕ) (bs : Bindings
   pub rows_with_set : AreRowsAfter event_table no_rows set_to new with_set
   rows_with_set = rows_assigns event_table no_rows set_to with_column blank_row set_with blank_alike refl journal moment bs values gives (all_fine event_table bs alone) rows new held is after
 
-  module _ (logs logs_new : List Log) (of_valid : AreOfValid logs rows) (of_valid_new : AreOfValid logs_new new)
-      (stays : (row : ℕ) (log : Log) → 1 ≤ row → valid_in new row ≡ true → log_in logs row ≡ Some log → log_in logs_new row ≡ Some log)
-      (begun : (row : ℕ) → 1 ≤ row → valid_in new row ≡ true → log_in logs row ≡ None → HasNew logs_new row)
-      (are : AreLogs logs journal (firings settings journal)) (event : ℕ) (some : 1 ≤ event) where
+  module _ (logs logs_new : List (Slot Log)) (of_valid : IsOfValid logs rows) (of_valid_new : IsOfValid logs_new new)
+      (stays : (row : ℕ) → valid_in new row ≡ true → has_part logs row ≡ true → part_in logs_new row ≡ part_in logs row)
+      (begun : (row : ℕ) → valid_in new row ≡ true → part_in logs row ≡ None → IsThere IsNew (part_in logs_new row))
+      (are : AreLogs logs journal (firings settings journal)) (event : ℕ) where
     abbrev place : List ℕ
     place = event ∷ []
 
@@ -88,7 +90,7 @@ module _ (settings : Settings) (journal : Journal) (moment : ℕ) (bs : Bindings
         ∙ ap (λ b. type_in (unwrap_or (cond b None (set_value event_table no_rows journal place 3)) (default_of event_table 3))) (valid_there (event_state journal place) old)
 
     -- one that stays valid
-    goes_on : stays_valid event_table no_rows (assigns moment values) journal place ≡ true → (o : Option Log) → log_in logs event ≡ o → IsLogOf (event_state journal place) (type_of journal event) (firings settings journal event) o → IsIt (log_in logs_new event)
+    goes_on : stays_valid event_table no_rows (assigns moment values) journal place ≡ true → (o : Option Log) → part_in logs event ≡ o → IsLogOf (event_state journal place) (type_of journal event) (firings settings journal event) o → IsIt (part_in logs_new event)
     goes_on remains None here idle =
         let old : is_valid (event_state journal place) ≡ true = (both (is_valid (event_state journal place)) (is_valid (event_state with_set place)) remains).0 in
         let no : ◌≡◌ {A = Bool} true false = sym old ∙ idle in
@@ -97,28 +99,32 @@ module _ (settings : Settings) (journal : Journal) (moment : ℕ) (bs : Bindings
         let each = both (is_valid (event_state journal place)) (is_valid (event_state with_set place)) remains in
         let right : valid_in new event ≡ true = ap is_valid now ∙ each.1 in
         let same : firings settings journal event ≡ firings settings with_set event = sym (ap (λ b. cond b (firings settings journal event) []) remains) in
-        subst IsIt (sym (stays event log some right here))
+        subst IsIt (sym (stays event right (ap is_some here) ∙ here))
         (each.1, subst (λ k. IsLog log k (firings settings with_set event)) (sym (same_type each.0 each.1)) (subst (IsLog log (type_of journal event)) same held_log.1))
 
     -- one that becomes valid
-    starts : stays_valid event_table no_rows (assigns moment values) journal place ≡ false → is_valid (event_state with_set place) ≡ true → IsIt (log_in logs_new event)
+    starts : stays_valid event_table no_rows (assigns moment values) journal place ≡ false → is_valid (event_state with_set place) ≡ true → IsIt (part_in logs_new event)
     starts begins valid =
         let old : is_valid (event_state journal place) ≡ false = not_first (is_valid (event_state journal place)) (is_valid (event_state with_set place)) valid begins in
-        let none : log_in logs event ≡ None = not_some (log_in logs event) (of_valid event some ∙ ap is_valid was ∙ old) in
-        let fresh = begun event some (ap is_valid now ∙ valid) none in
+        let none : part_in logs event ≡ None = not_there (part_in logs event) (of_valid event ∙ ap is_valid was ∙ old) in
+        let fresh = begun event (ap is_valid now ∙ valid) none in
         let nothing : [] ≡ firings settings with_set event = sym (ap (λ b. cond b (firings settings journal event) []) begins) in
-        subst IsIt (sym fresh.here) (valid, subst (IsLog fresh.log (type_of with_set event)) nothing (fresh.new (type_of with_set event)))
+        of_new (part_in logs_new event) fresh nothing
+      where
+        of_new : (o : Option Log) → IsThere IsNew o → [] ≡ firings settings with_set event → IsIt o
+        of_new None fresh nothing = absurd fresh
+        of_new (Some log) fresh nothing = (valid, subst (IsLog log (type_of with_set event)) nothing (fresh (type_of with_set event)))
 
     -- one that isn't valid
-    rests : is_valid (event_state with_set place) ≡ false → IsIt (log_in logs_new event)
+    rests : is_valid (event_state with_set place) ≡ false → IsIt (part_in logs_new event)
     rests idle =
-        let none : log_in logs_new event ≡ None = not_some (log_in logs_new event) (of_valid_new event some ∙ ap is_valid now ∙ idle) in
+        let none : part_in logs_new event ≡ None = not_there (part_in logs_new event) (of_valid_new event ∙ ap is_valid now ∙ idle) in
         subst IsIt (sym none) idle
 
-    pub logs_with_set : IsIt (log_in logs_new event)
-    logs_with_set = elim (stays_valid event_table no_rows (assigns moment values) journal place) as (λ t. stays_valid event_table no_rows (assigns moment values) journal place ≡ t → IsIt (log_in logs_new event)) [
-      | true ↦ λ remains. goes_on remains (log_in logs event) refl (are event some)
-      | false ↦ λ begins. elim (is_valid (event_state with_set place)) as (λ t. is_valid (event_state with_set place) ≡ t → IsIt (log_in logs_new event)) [
+    pub logs_with_set : IsIt (part_in logs_new event)
+    logs_with_set = elim (stays_valid event_table no_rows (assigns moment values) journal place) as (λ t. stays_valid event_table no_rows (assigns moment values) journal place ≡ t → IsIt (part_in logs_new event)) [
+      | true ↦ λ remains. goes_on remains (part_in logs event) refl (are event)
+      | false ↦ λ begins. elim (is_valid (event_state with_set place)) as (λ t. is_valid (event_state with_set place) ≡ t → IsIt (part_in logs_new event)) [
         | true ↦ λ valid. starts begins valid
         | false ↦ λ idle. rests idle
       ] refl

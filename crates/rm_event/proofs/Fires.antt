@@ -1,5 +1,5 @@
 -- What is kept of events in an act that fires them.
-use Rattle.std.proofs.Common.{◌≡◌, ℕ, ◌≤◌, List, [], ◌∷◌, ◌++◌, Bool, true, false, cond, Option, Some, None, refl, sym, ap, ◌∙◌, subst, nat_eq}
+use Rattle.std.proofs.Common.{◌≡◌, ℕ, List, [], ◌∷◌, ◌++◌, Bool, true, false, cond, Option, Some, None, refl, sym, ap, ◌∙◌, subst, nat_eq}
 use Rattle.std.specs.Prelude.{pos, unwrap_or}
 use Rattle.std.specs.Option.{option_and_then}
 use Rattle.rm_val.specs.Val.{Val, int, octets}
@@ -17,6 +17,7 @@ use Rattle.rm_event.specs.declared.event_type.EventType.{EventType}
 use Rattle.rm_event.specs.declared.event_type.EventType.TheVariants as kind
 use Rattle.rm_event.specs.declared.fired.Fired.TheVariants as fired
 use Rattle.rm_event.specs.declared.log.Log.{Log}
+use Rattle.rm_pool.specs.declared.slot.Slot.{Slot}
 use Rattle.rm_event.specs.EventType.{numbered, number_of, type_in, fired_as}
 use Rattle.rm_event.specs.EventTable.{event_table, event_state, event_set, type_of}
 use Rattle.rm_event.specs.declared.event_row.EventRow.{EventRow}
@@ -24,9 +25,9 @@ use Rattle.rm_event.specs.EventRows.{set_to}
 use Rattle.rm_acts.specs.Fired.{firings, firings_with, moments_in}
 use Rattle.rm_event.specs.Firings.{is_set}
 use Rattle.rm_event.specs.Log.{IsLog, HasFired}
-use Rattle.rm_event.specs.Logs.{log_in}
+use Rattle.rm_pool.specs.Slots.{part_in}
 use Rattle.rm_event.specs.Standing.{IsLogOf, AreLogs, fired_of, community_of}
-use Rattle.rm_event.proofs.Spares.{eq_is, same_number}
+use Rattle.rm_pool.proofs.Spares.{eq_is, eq_itself}
 use Rattle.rm_status.proofs.RowFacts.{valid_there, valid_columns}
 use Rattle.rm_event.specs.Moments.{moments_more, valid_with, idle_with}
 
@@ -120,9 +121,9 @@ module _ (settings : Settings) (act : Act) (earlier : Journal) (unset : is_set a
   idle_still event idle = idle_with act earlier unset event (some ++ firing ∷ []) (firings settings earlier event) idle ∙ sym (idle_with act earlier unset event some (firings settings earlier event) idle)
 
   -- an event whose row isn't valid is to fire
-  pub logs_without : (logs : List Log) → is_valid (event_state earlier (index ∷ [])) ≡ false → AreLogs logs earlier so_far → AreLogs logs earlier with_it
-  logs_without logs idle are event row =
-      subst (λ l. IsLogOf (event_state earlier (event ∷ [])) (type_of earlier event) l (log_in logs event)) (sym same) (are event row)
+  pub logs_without : (logs : List (Slot Log)) → is_valid (event_state earlier (index ∷ [])) ≡ false → AreLogs logs earlier so_far → AreLogs logs earlier with_it
+  logs_without logs idle are event =
+      subst (λ l. IsLogOf (event_state earlier (event ∷ [])) (type_of earlier event) l (part_in logs event)) (sym same) (are event)
     where
       same : with_it event ≡ so_far event
       same = elim (nat_eq index event) as (λ t. nat_eq index event ≡ t → with_it event ≡ so_far event) [
@@ -131,34 +132,31 @@ module _ (settings : Settings) (act : Act) (earlier : Journal) (unset : is_set a
       ] refl
 
   -- an event whose row is valid fires
-  module _ (logs new : List Log) (type : EventType) (moment : ℕ) (at : moment_of act ≡ moment) (valid : is_valid (event_state earlier (index ∷ [])) ≡ true) (type_is : type ≡ type_of earlier index)
-      (itself : (log : Log) → log_in logs index ≡ Some log → (fired : Log) × (log_in new index ≡ Some fired) × HasFired type moment log fired)
-      (others : (event : ℕ) → nat_eq index event ≡ false → log_in new event ≡ log_in logs event)
+  module _ (logs new : List (Slot Log)) (type : EventType) (moment : ℕ) (at : moment_of act ≡ moment) (valid : is_valid (event_state earlier (index ∷ [])) ≡ true) (type_is : type ≡ type_of earlier index)
+      (itself : (log : Log) → part_in logs index ≡ Some log → (fired : Log) × (part_in new index ≡ Some fired) × HasFired type moment log fired)
+      (others : (event : ℕ) → nat_eq index event ≡ false → part_in new event ≡ part_in logs event)
       (are : AreLogs logs earlier so_far) where
-    has_fired : (o : Option Log) → log_in logs index ≡ o → IsLogOf (event_state earlier (index ∷ [])) (type_of earlier index) (so_far index) o → IsLogOf (event_state earlier (index ∷ [])) (type_of earlier index) (with_it index) (log_in new index)
+    has_fired : (o : Option Log) → part_in logs index ≡ o → IsLogOf (event_state earlier (index ∷ [])) (type_of earlier index) (so_far index) o → IsLogOf (event_state earlier (index ∷ [])) (type_of earlier index) (with_it index) (part_in new index)
     has_fired None here idle = absurd (both idle)
       where
         both : is_valid (event_state earlier (index ∷ [])) ≡ false → ⊥
         both idle = let one = sym valid ∙ idle in cc
     has_fired (Some log) here is =
         let after = itself log here in
-        let log_is : IsLog after.0 type (moment ∷ so_far index) = after.2.keeps (so_far index) (subst (λ k. IsLog log k (so_far index)) (sym type_is) is.1) in
+        let log_is : IsLog after.0 type (moment ∷ so_far index) = after.2 (so_far index) (subst (λ k. IsLog log k (so_far index)) (sym type_is) is.1) in
         let moments : moment ∷ so_far index ≡ with_it index = ap (λ m. m ∷ so_far index) (sym at) ∙ sym (more index valid ∙ ap (λ t. cond t (moment_of act ∷ so_far index) (so_far index)) (itself_is index)) in
         subst (λ (o : Option Log). IsLogOf (event_state earlier (index ∷ [])) (type_of earlier index) (with_it index) o) (sym after.1)
         (valid, subst (λ l. IsLog after.0 (type_of earlier index) l) moments (subst (λ k. IsLog after.0 k (moment ∷ so_far index)) type_is log_is))
       where
         itself_is : (n : ℕ) → nat_eq n n ≡ true
-        itself_is n = same_number n
+        itself_is n = eq_itself n
 
     pub logs_with : AreLogs new earlier with_it
-    logs_with event row = elim (nat_eq index event) as (λ t. nat_eq index event ≡ t → IsLogOf (event_state earlier (event ∷ [])) (type_of earlier event) (with_it event) (log_in new event)) [
+    logs_with event = elim (nat_eq index event) as (λ t. nat_eq index event ≡ t → IsLogOf (event_state earlier (event ∷ [])) (type_of earlier event) (with_it event) (part_in new event)) [
       | true ↦ λ e.
           let same : index ≡ event = eq_is index event e in
-          subst (λ n. IsLogOf (event_state earlier (n ∷ [])) (type_of earlier n) (with_it n) (log_in new n)) same (has_fired (log_in logs index) refl (are_it (subst (λ n. 1 ≤ n) (sym same) row)))
+          subst (λ n. IsLogOf (event_state earlier (n ∷ [])) (type_of earlier n) (with_it n) (part_in new n)) same (has_fired (part_in logs index) refl (are index))
       | false ↦ λ apart.
-          subst (λ l. IsLogOf (event_state earlier (event ∷ [])) (type_of earlier event) l (log_in new event)) (sym (other_with event apart))
-          (subst (λ (o : Option Log). IsLogOf (event_state earlier (event ∷ [])) (type_of earlier event) (so_far event) o) (sym (others event apart)) (are event row))
+          subst (λ l. IsLogOf (event_state earlier (event ∷ [])) (type_of earlier event) l (part_in new event)) (sym (other_with event apart))
+          (subst (λ (o : Option Log). IsLogOf (event_state earlier (event ∷ [])) (type_of earlier event) (so_far event) o) (sym (others event apart)) (are event))
     ] refl
-      where
-        are_it : 1 ≤ index → IsLogOf (event_state earlier (index ∷ [])) (type_of earlier index) (so_far index) (log_in logs index)
-        are_it row = are index row

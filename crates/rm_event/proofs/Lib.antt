@@ -1,9 +1,6 @@
 mod OneFiring
-mod Spares
 mod Fires
-mod Begun
 mod Counts
-mod Walks
 mod SameCells
 mod Judged
 mod Assigned

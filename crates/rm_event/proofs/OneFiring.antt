@@ -61,18 +61,12 @@ module _ (kind : EventType) (moment : ℕ) (moments : List ℕ) (log new : Log) 
   }
 
 -- a firing that is logged, and one that isn't
-module _ (kind : EventType) (moment : ℕ) (log new : Log) (row : new.row ≡ log.row) (sent : new.sent ≡ tick_of moment) where
+module _ (kind : EventType) (moment : ℕ) (log new : Log) (sent : new.sent ≡ tick_of moment) where
   pub fires_logged : is_logged kind ≡ true → log.added < most_entries → new.added ≡ log.added + 1 → new.ring.items ≡ take most_shown (tick_of moment ∷ log.ring.items) → HasFired kind moment log new
-  fires_logged e few added ring = record { row = row; keeps = λ moments is. logs_it kind moment moments log new is sent e few added ring }
+  fires_logged e few added ring = λ moments is. logs_it kind moment moments log new is sent e few added ring
 
   pub fires_full : is_logged kind ≡ true → most_entries ≤ log.added → new.added ≡ log.added → new.ring.items ≡ log.ring.items → HasFired kind moment log new
-  fires_full e full added ring = record {
-    row = row;
-    keeps = λ moments is. passes_it kind moment moments log new is sent (no_more kind moment moments e (omega (arith, is.added, full))) added ring;
-  }
+  fires_full e full added ring = λ moments is. passes_it kind moment moments log new is sent (no_more kind moment moments e (omega (arith, is.added, full))) added ring
 
   pub fires_silent : is_logged kind ≡ false → new.added ≡ log.added → new.ring.items ≡ log.ring.items → HasFired kind moment log new
-  fires_silent e added ring = record {
-    row = row;
-    keeps = λ moments is. passes_it kind moment moments log new is sent (silent kind moment moments e (moment ∷ moments) ∙ sym (silent kind moment moments e moments)) added ring;
-  }
+  fires_silent e added ring = λ moments is. passes_it kind moment moments log new is sent (silent kind moment moments e (moment ∷ moments) ∙ sym (silent kind moment moments e moments)) added ring

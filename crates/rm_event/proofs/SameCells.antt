@@ -1,5 +1,5 @@
 -- What the rows and the logs show is what the tables show after the journal.
-use Rattle.std.proofs.Common.{◌≡◌, ℕ, zero, suc, ◌+◌, ◌-◌, ◌<◌, ◌≤◌, List, [], ◌∷◌, length, take, map, refl, sym, ◌∙◌, ap, subst, Bool, true, false, cond, ◌&&◌, Option, Some, None, nat_eq, nat_le, arith}
+use Rattle.std.proofs.Common.{◌≡◌, ℕ, zero, suc, ◌+◌, ◌-◌, ◌<◌, ◌≤◌, List, [], ◌∷◌, length, take, map, refl, sym, ◌∙◌, ap, subst, Bool, true, false, cond, ◌&&◌, Option, Some, None, nat_eq, arith}
 use Rattle.std.specs.Prelude.{pos, is_some, slice_get, unwrap_or}
 use Rattle.std.specs.Option.{option_or, option_map_or}
 use Rattle.std.proofs.lemmas.Bool.Decides.{nat_tests}
@@ -7,41 +7,38 @@ use Rattle.rm_val.specs.Val.{Val, int, octets, ticks, null}
 use Rattle.rm_model.specs.Settings.{Settings}
 use Rattle.rm_model.specs.Journal.{Journal}
 use Rattle.rm_model.specs.Cells.{cells_of, cell_at, instance_of, IsNext}
-use Rattle.rm_model.specs.ControlRows.{no_rows, entry_status, is_absent, is_valid}
+use Rattle.rm_model.specs.ControlRows.{no_rows, is_absent, is_valid}
 use Rattle.rm_model.specs.declared.instance.Instance.{Instance}
 use Rattle.rm_status.specs.declared.row.Row.{Row}
-use Rattle.rm_status.specs.Rows.{row_in, state_in, columns_in, state_seen, columns_seen, AreControlRows}
-use Rattle.rm_status.specs.Indexes.{is_index_in}
+use Rattle.rm_status.specs.Rows.{row_in, state_in, AreControlRows}
 use Rattle.rm_status.specs.RowsAfter.{AreRowsAfter}
 use Rattle.rm_status.proofs.KeptCellsLaws.{same_control_cells}
 use Rattle.rm_event.specs.declared.log_column.LogColumn.{LogColumn}
 use Rattle.rm_event.specs.declared.log_column.LogColumn.TheVariants as log
 use Rattle.rm_event.specs.declared.log.Log.{Log}
+use Rattle.rm_pool.specs.declared.slot.Slot.{Slot}
 use Rattle.rm_event.specs.Columns.{event_columns, log_columns, log_column}
-use Rattle.rm_event.specs.EventTable.{event_entry, event_table, event_state, event_set, type_of}
+use Rattle.rm_event.specs.EventTable.{event_table, event_state, event_set, type_of}
 use Rattle.rm_event.specs.declared.event_row.EventRow.{EventRow}
 use Rattle.rm_event.specs.EventRows.{set_to}
 use Rattle.rm_acts.specs.Fired.{firings}
 use Rattle.rm_event.specs.Firings.{last_sent, tick_of, most_shown}
 use Rattle.rm_event.specs.Tables.{event_other, events_table, log_entry, log_of, is_shown, time_at, is_entry, log_value, log_table}
 use Rattle.rm_event.specs.Log.{IsLog, kept_time}
-use Rattle.rm_event.specs.Logs.{log_in}
-use Rattle.rm_event.specs.Held.{AreOfValid}
+use Rattle.rm_pool.specs.Slots.{part_in}
+use Rattle.rm_pool.specs.Pools.{IsOfValid}
 use Rattle.rm_event.specs.Standing.{IsLogOf, AreLogs}
 use Rattle.rm_event.specs.Shown.{sent_in, kept_other, rows_table, description_in, is_kept, entry_value, entry_in, logs_table, cells_shown}
 use Rattle.rm_status.proofs.RowFacts.{found_there, valid_there, valid_columns, valid_fits}
 use Rattle.rm_event.specs.Moments.{idle_firings}
-use Rattle.rm_event.proofs.Fires.{description_is, type_shown_is, community_is, owner_is}
-
-le_yes : (a b : ℕ) → a ≤ b → nat_le a b ≡ true
-le_yes a b h = grind (arith, nat_tests)
+use Rattle.rm_event.proofs.Fires.{description_is}
 
 -- eventTable
-module _ (rows : List (Row EventRow)) (held : AreControlRows rows) (logs : List Log) (settings : Settings) (journal : Journal)
+module _ (rows : List (Row EventRow)) (held : AreControlRows rows) (logs : List (Slot Log)) (settings : Settings) (journal : Journal)
     (is : AreRowsAfter event_table no_rows set_to rows journal) (are : AreLogs logs journal (firings settings journal)) where
   -- when an event fired last
-  sent_is : (i : ℕ) → 1 ≤ i → sent_in logs i ≡ last_sent (firings settings journal i)
-  sent_is i some = of_log (log_in logs i) (are i some)
+  sent_is : (i : ℕ) → sent_in logs i ≡ last_sent (firings settings journal i)
+  sent_is i = of_log (part_in logs i) (are i)
     where
       of_log : (o : Option Log) → IsLogOf (event_state journal (i ∷ [])) (type_of journal i) (firings settings journal i) o → option_map_or (λ log. log.sent) o 0 ≡ last_sent (firings settings journal i)
       of_log None idle = sym (ap last_sent (idle_firings settings journal i idle))
@@ -51,20 +48,10 @@ module _ (rows : List (Row EventRow)) (held : AreControlRows rows) (logs : List 
   there i row here = (found_there rows i row held.1 here).1
 
   same_other : (column i : ℕ) (row : Row EventRow) → row_in rows i ≡ Some row → kept_other logs column (i ∷ []) ≡ event_other settings journal column (i ∷ [])
-  same_other column i row here = ap (λ s. cond (nat_eq column 1) (int (pos i)) (ticks s)) (sent_is i (first (found_there rows i row held.1 here).0))
-    where
-      first : (nat_le 1 i && nat_le i 65535) ≡ true → 1 ≤ i
-      first h = grind (arith, nat_tests)
+  same_other column i row here = ap (λ s. cond (nat_eq column 1) (int (pos i)) (ticks s)) (sent_is i)
 
   same_events : (name : List ℕ) → cells_of (rows_table rows logs) name ≡ cells_of (events_table settings journal) name
   same_events = same_control_cells event_table no_rows set_to rows held journal is event_columns (kept_other logs) (event_other settings journal) there same_other
-
-  -- there is no row 0
-  no_row_0 : is_valid (event_state journal (0 ∷ [])) ≡ false
-  no_row_0 = elim (is_valid (event_state journal (0 ∷ []))) as (λ t. is_valid (event_state journal (0 ∷ [])) ≡ t → t ≡ false) [
-    | true ↦ λ e. let fits = (valid_fits rows 0 held.1 (ap is_valid (is.alike.states 0) ∙ e)).0 in absurd (omega (arith, fits))
-    | false ↦ λ _. refl
-  ] refl
 
   -- The entries of a log.
 
@@ -114,11 +101,8 @@ module _ (rows : List (Row EventRow)) (held : AreControlRows rows) (logs : List 
       entry_is : is_entry settings journal (i ∷ number ∷ []) ≡ is_shown kept.added number
       entry_is = ap (λ b. b && is_shown (length (log_of settings journal i)) number) it.0 ∙ ap (λ n. is_shown n number) (sym it.1.added)
 
-  of_pair : (i number : ℕ) (column : LogColumn) → cond (is_kept logs (i ∷ number ∷ [])) (Some (entry_in i (log_in logs i) (description_in rows i) number column)) None ≡ shown_after i number column
-  of_pair zero number column = sym (ap (λ b. cond (b && is_shown (length (log_of settings journal 0)) number) (Some (log_value settings journal 0 number column)) None) no_row_0)
-  of_pair (suc i) number column =
-      ap (λ b. cond (b && option_map_or (λ kept. is_shown kept.added number) (log_in logs (suc i)) false) (Some (entry_in (suc i) (log_in logs (suc i)) (description_in rows (suc i)) number column)) None) (le_yes 1 (suc i) (omega arith))
-      ∙ of_log (suc i) number column (log_in logs (suc i)) (are (suc i) (omega arith))
+  of_pair : (i number : ℕ) (column : LogColumn) → cond (is_kept logs (i ∷ number ∷ [])) (Some (entry_in i (part_in logs i) (description_in rows i) number column)) None ≡ shown_after i number column
+  of_pair i number column = of_log i number column (part_in logs i) (are i)
 
   entry_cell_at : (at : Option Instance) → cell_at (logs_table rows logs) at ≡ cell_at (log_table settings journal) at
   entry_cell_at None = refl
@@ -141,6 +125,5 @@ module _ (rows : List (Row EventRow)) (held : AreControlRows rows) (logs : List 
   next_cell asked found value next = subst (λ (cells : List ℕ → Option Val). IsNext cells asked value found) (λ d name. same_cells name d) next
 
 -- no log is of a row above the greatest index
-pub logs_fit : (rows : List (Row EventRow)) (held : AreControlRows rows) (logs : List Log) → AreOfValid logs rows → (row : ℕ) → is_some (log_in logs row) ≡ true → row ≤ 65535
-logs_fit rows held logs of_valid zero has = omega arith
-logs_fit rows held logs of_valid (suc row) has = (valid_fits rows (suc row) held.1 (sym (of_valid (suc row) (omega arith)) ∙ has)).1
+pub logs_fit : (rows : List (Row EventRow)) (held : AreControlRows rows) (logs : List (Slot Log)) → IsOfValid logs rows → (row : ℕ) → is_some (part_in logs row) ≡ true → row ≤ 65535
+logs_fit rows held logs of_valid row has = (valid_fits rows row held.1 (sym (of_valid row) ∙ has)).1

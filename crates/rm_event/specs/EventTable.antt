@@ -1,10 +1,8 @@
 -- The control table of events (RFC 1757, section 5), by the journal.
-use Rattle.std.specs.Prelude.{ℕ, pos, List, [], ◌∷◌, true, false}
-use Rattle.rm_val.specs.Val.{Val, int, octets}
+use Rattle.std.specs.Prelude.{ℕ, List, [], ◌∷◌}
+use Rattle.rm_val.specs.Val.{Val}
 use Rattle.rm_model.specs.Journal.{Journal}
-use Rattle.rm_model.specs.ControlTable.{Column, ControlTable, number, text}
 use Rattle.rm_model.specs.ControlRows.{no_rows, state_of, value_of}
-use Rattle.rm_model.specs.declared.row.StatusKind.TheVariants.{EntryStatus}
 use Rattle.rm_model.specs.declared.row.State.{State}
 use Rattle.rm_event.specs.declared.event_type.EventType.{EventType}
 use Rattle.rm_event.specs.EventType.{type_in}

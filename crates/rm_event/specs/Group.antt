@@ -15,7 +15,6 @@ use Rattle.rm_event.specs.declared.events.Events.{Events}
 use Rattle.rm_event.specs.Columns.{event_columns, log_columns}
 use Rattle.rm_event.specs.EventTable.{event_entry, event_table}
 use Rattle.rm_event.specs.EventRows.{set_to}
-use Rattle.rm_event.specs.Logs.{kept}
 use Rattle.rm_event.specs.Tables.{events_table, log_entry, log_table}
 
 -- the cells of eventTable and logTable after a journal
@@ -39,11 +38,11 @@ pub record AreFine (events : Events) (bindings : Bindings) : Type 0 where
 
 -- there is the storage of one row
 abbrev pub IsStocked : Events → Type 0
-IsStocked events = 1 ≤ length (kept events.logs)
+IsStocked events = 1 ≤ length events.logs
 
 -- there is the storage of each row that is valid after a Set
 abbrev pub HasRoom : Events → Bindings → Type 0
-HasRoom events bindings = count_valid_after event_table (rows_before set_to events.rows) bindings ≤ length (kept events.logs)
+HasRoom events bindings = count_valid_after event_table (rows_before set_to events.rows) bindings ≤ length events.logs
 
 -- nothing is wrong with a Set, and there is storage for it
 pub record IsPrepared (events : Events) (bindings : Bindings) : Type 0 where
@@ -52,4 +51,4 @@ pub record IsPrepared (events : Events) (bindings : Bindings) : Type 0 where
 
 -- there is no more storage than that of the valid rows, or that of one row
 abbrev pub IsReleased : Events → Type 0
-IsReleased events = length (kept events.logs) ≤ max 1 (count_valid (rows_before set_to events.rows))
+IsReleased events = length events.logs ≤ max 1 (count_valid (rows_before set_to events.rows))

@@ -6,12 +6,9 @@ pub mod Tables
 pub mod EventRows
 pub mod EventTypes
 pub mod Log
-pub mod Logs
 pub mod Held
 pub mod Standing
 pub mod Group
-pub mod Walk
-pub mod EntryNumbers
 pub mod Shown
 pub mod Finite
 pub mod Moments

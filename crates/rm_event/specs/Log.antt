@@ -15,9 +15,8 @@ abbrev pub IsNew : Log → Type 0
 IsNew log = (kind : EventType) → IsLog log kind []
 
 -- what a firing at a moment makes of the log of an event of that type
-pub record HasFired (kind : EventType) (moment : ℕ) (log new : Log) : Type 0 where
-  pub row : new.row ≡ log.row
-  pub keeps : (moments : List ℕ) → IsLog log kind moments → IsLog new kind (moment ∷ moments)
+abbrev pub HasFired : EventType → ℕ → Log → Log → Type 0
+HasFired kind moment log new = (moments : List ℕ) → IsLog log kind moments → IsLog new kind (moment ∷ moments)
 
 -- the tick of the entry with a number, 0 where it isn't kept
 abbrev pub kept_time : Log → ℕ → ℕ

@@ -1,5 +1,5 @@
 -- When what is kept of events is what a journal gives.
-use Rattle.std.specs.Prelude.{◌≡◌, ℕ, ◌≤◌, List, [], ◌∷◌, true, false, if◌then◌else◌, Option, Some, None}
+use Rattle.std.specs.Prelude.{◌≡◌, ℕ, List, [], ◌∷◌, true, false, if◌then◌else◌, Option, Some, None}
 use Rattle.rm_val.specs.Val.{Val}
 use Rattle.rm_model.specs.Settings.{Settings}
 use Rattle.rm_model.specs.Journal.{Act, Journal}
@@ -13,12 +13,13 @@ use Rattle.rm_event.specs.declared.event_type.EventType.{EventType}
 use Rattle.rm_event.specs.declared.fired.Fired.{Fired}
 use Rattle.rm_event.specs.declared.fired.Fired.TheVariants as fired
 use Rattle.rm_event.specs.declared.log.Log.{Log}
+use Rattle.rm_pool.specs.declared.slot.Slot.{Slot}
 use Rattle.rm_event.specs.EventType.{fired_as}
 use Rattle.rm_event.specs.EventTable.{event_table, event_state, event_set, type_of}
 use Rattle.rm_event.specs.EventRows.{set_to}
 use Rattle.rm_acts.specs.Fired.{firings, firings_with}
 use Rattle.rm_event.specs.Log.{IsLog}
-use Rattle.rm_event.specs.Logs.{kept, log_in}
+use Rattle.rm_pool.specs.Slots.{part_in}
 
 -- the rows that are kept are those after a journal
 abbrev pub HasRows : Events → Journal → Type 0
@@ -30,20 +31,20 @@ IsLogOf state kind moments (Some log) = (is_valid state ≡ true) × IsLog log k
 IsLogOf state kind moments None = is_valid state ≡ false
 
 -- the logs that are kept are those of the valid rows after a journal, where each event fired at these moments
-abbrev pub AreLogs : List Log → Journal → (ℕ → List ℕ) → Type 0
+abbrev pub AreLogs : List (Slot Log) → Journal → (ℕ → List ℕ) → Type 0
 AreLogs logs journal moments =
-    (event : ℕ) → 1 ≤ event
-    → IsLogOf (event_state journal (event ∷ [])) (type_of journal event) (moments event) (log_in logs event)
+    (event : ℕ)
+    → IsLogOf (event_state journal (event ∷ [])) (type_of journal event) (moments event) (part_in logs event)
 
 -- The group stands for a journal: its rows are those after the journal, and its logs have the firings that the journal gives.
 pub record Stands (events : Events) (settings : Settings) (journal : Journal) : Type 0 where
   pub rows : HasRows events journal
-  pub logs : AreLogs (kept events.logs) journal (firings settings journal)
+  pub logs : AreLogs events.logs journal (firings settings journal)
 
 -- The group is in an act, which is no Set, after a journal: these events were fired by it so far.
 pub record IsUnderWay (events : Events) (settings : Settings) (act : Act) (earlier : Journal) (some : List Firing) : Type 0 where
   pub rows : HasRows events earlier
-  pub logs : AreLogs (kept events.logs) earlier (λ event. firings_with act earlier event some (firings settings earlier event))
+  pub logs : AreLogs events.logs earlier (λ event. firings_with act earlier event some (firings settings earlier event))
 
 -- what becomes of an event that is to fire, by its state and its type
 abbrev pub fired_of : State → EventType → Fired

@@ -7,12 +7,12 @@ ghost use Rattle.rm_status.specs.Rows.{rows_before};
 ghost use Rattle.rm_event.specs.EventTable.{event_table};
 ghost use Rattle.rm_event.specs.EventRows.{set_to};
 ghost use Rattle.rm_event.specs.Group.{AreFine, IsStocked, HasRoom, IsPrepared, IsReleased};
-ghost use Rattle.rm_event.specs.Logs.{kept};
 ghost use Rattle.rm_event.specs.Standing.{Stands};
 
 use crate::event_cell::event_entry;
 use crate::event_row::EVENT_STATUS;
 use crate::events::Events;
+use crate::log::NoEntries;
 use rm_status::{Assigns, Denied};
 use std::alloc::Global;
 
@@ -43,7 +43,7 @@ impl Events {
         requires stocked { IsStocked self.old }
         ensures rows { self.new.rows ≡ self.old.rows }
         ensures stands { (settings : Settings) (journal : Journal) → Stands self.old settings journal → Stands self.new settings journal }
-        ensures more { length (kept self.old.logs) ≤ length (kept self.new.logs) }
+        ensures more { length self.old.logs ≤ length self.new.logs }
         ensures room { IfNone result (HasRoom self.new (A.bindings set.now)) }
         ensures denied { IfSome result (λ denied. Reserves event_table (rows_before set_to self.old.rows) (A.bindings set.now) denied.index) }
     {
@@ -70,10 +70,11 @@ impl Events {
     // storage for.
     fn first_activated<A: Assigns>(&self, set: &A) -> u32
         requires stocked { IsStocked self.now }
-        requires few { length (kept self.now.logs) < count_valid_after event_table (rows_before set_to self.now.rows) (A.bindings set.now) }
+        requires few { length self.now.logs < count_valid_after event_table (rows_before set_to self.now.rows) (A.bindings set.now) }
         ensures { Reserves event_table (rows_before set_to self.now.rows) (A.bindings set.now) result }
     {
         prove!(self.rows.len() <= 16);
+        prove!(self.logs.len() >= 1);
         self.rows
             .first_activated(set, &event_entry(), EVENT_STATUS)
             .unwrap()
@@ -100,6 +101,6 @@ impl Events {
     {
         prove!(self.rows.len() <= 16);
         self.rows.commit(set, &event_entry(), EVENT_STATUS);
-        self.logs.follow(&self.rows);
+        self.logs.follow(&self.rows, &NoEntries);
     }
 }

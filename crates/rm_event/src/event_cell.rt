@@ -5,12 +5,12 @@ ghost use Rattle.rm_val.specs.Val.{val_of, int, ticks};
 ghost use Rattle.rm_val.specs.Spellable.{IsSpellable, HasSpelling};
 ghost use Rattle.rm_model.specs.Cells.{cells_of, cell_at, IsNext};
 ghost use Rattle.rm_event.specs.EventTable.{event_entry};
-ghost use Rattle.rm_event.specs.Logs.{kept};
 ghost use Rattle.rm_event.specs.Shown.{sent_in, rows_table};
 
 use crate::event_row::{EVENT_ENTRY, EVENT_SHOWN, EVENT_STATUS, EventRow};
-use crate::logs::Logs;
+use crate::log::Log;
 use rm_model::Instance;
+use rm_pool::Pool;
 use rm_status::{Controls, StatusKind, instance_of, next_name};
 use rm_val::{Oid, Value};
 
@@ -24,10 +24,10 @@ pub(crate) fn event_entry() -> Oid
 /// The value of the cell of eventTable with that name, by the rows and the logs. None where the table has no such cell.
 pub(crate) fn event_cell<'a>(
     rows: &'a Controls<EventRow>,
-    logs: &Logs,
+    logs: &Pool<Log>,
     name: &Oid,
 ) -> Option<Value<'a>>
-    ensures value { option_map val_of result ≡ cells_of (rows_table rows.now (kept logs.now)) name.now }
+    ensures value { option_map val_of result ≡ cells_of (rows_table rows.now logs.now) name.now }
     ensures spelling { IfSome result (λ value. HasSpelling (val_of value)) }
 {
     let at = instance_of(name, &event_entry(), &EVENT_SHOWN)?;
@@ -38,12 +38,12 @@ pub(crate) fn event_cell<'a>(
 /// Its name is put into `out`. None where no cell of the table has a greater name; `out` is then as before.
 pub(crate) fn next_event<'a>(
     rows: &'a Controls<EventRow>,
-    logs: &Logs,
+    logs: &Pool<Log>,
     name: &Oid,
     now: u32,
     out: &mut Oid,
 ) -> Option<Value<'a>>
-    ensures next { IsNext (cells_of (rows_table rows.now (kept logs.now))) name.now (option_map val_of result) out.new }
+    ensures next { IsNext (cells_of (rows_table rows.now logs.now)) name.now (option_map val_of result) out.new }
     ensures stays { IfNone result (out.new ≡ out.old) }
     ensures name_spelling { OnSome result (IsSpellable out.new) }
     ensures spelling { IfSome result (λ value. HasSpelling (val_of value)) }
@@ -53,8 +53,12 @@ pub(crate) fn next_event<'a>(
 }
 
 // The value at an instance, if there is such a row.
-fn instance_value<'a>(rows: &'a Controls<EventRow>, logs: &Logs, at: &Instance) -> Option<Value<'a>>
-    ensures value { option_map val_of result ≡ cell_at (rows_table rows.now (kept logs.now)) (Some at.now) }
+fn instance_value<'a>(
+    rows: &'a Controls<EventRow>,
+    logs: &Pool<Log>,
+    at: &Instance,
+) -> Option<Value<'a>>
+    ensures value { option_map val_of result ≡ cell_at (rows_table rows.now logs.now) (Some at.now) }
     ensures spelling { IfSome result (λ value. HasSpelling (val_of value)) }
 {
     if at.index.len() != 1 {
@@ -67,8 +71,8 @@ fn instance_value<'a>(rows: &'a Controls<EventRow>, logs: &Logs, at: &Instance) 
 }
 
 // When the event of a row fired last, 0 where it has no log.
-fn last_sent(logs: &Logs, index: u32) -> u32
-    ensures { result ≡ sent_in (kept logs.now) index }
+fn last_sent(logs: &Pool<Log>, index: u32) -> u32
+    ensures { result ≡ sent_in logs.now index }
 {
     match logs.get(index) {
         Some(log) => log.sent,

@@ -1,5 +1,5 @@
 // Events that fire.
-ghost use Rattle.std.specs.Prelude.{◌≡◌, ℕ, List, [], ◌∷◌, ◌++◌, ◌≤◌, length, true, false, OnOk, IfSome, IfNone, Option, Some};
+ghost use Rattle.std.specs.Prelude.{◌≡◌, ℕ, List, [], ◌∷◌, ◌++◌, ◌≤◌, length, true, false, OnOk, IfSome, IfNone, Option, Some, nat_eq};
 ghost use Rattle.std.specs.Option.{option_map};
 ghost use Rattle.rm_val.specs.Val.{octets};
 ghost use Rattle.rm_model.specs.Settings.{Settings};
@@ -9,6 +9,9 @@ ghost use Rattle.rm_status.specs.Rows.{state_in, columns_in};
 ghost use Rattle.rm_acts.specs.declared.firing.Firing.{Firing};
 ghost use Rattle.rm_event.specs.declared.fired.Fired.TheVariants as FiredTo;
 ghost use Rattle.rm_event.specs.declared.event_row.EventRow.{EventRow as Columns};
+ghost use Rattle.rm_pool.specs.Slots.{part_in, has_part};
+ghost use Rattle.rm_event.specs.declared.log.Log.{Log as Kept};
+ghost use Rattle.rm_event.specs.Log.{HasFired};
 ghost use Rattle.rm_event.specs.EventTable.{event_state, type_of};
 ghost use Rattle.rm_event.specs.Firings.{is_set};
 ghost use Rattle.rm_event.specs.Group.{IsStocked, IsReleased};
@@ -17,7 +20,8 @@ ghost use Rattle.rm_event.specs.Standing.{HasRows, Stands, IsUnderWay, fired_of,
 use crate::event_type::EventType;
 use crate::events::Events;
 use crate::fired::Fired;
-use crate::logs::Logs;
+use crate::log::Log;
+use rm_pool::Pool;
 use rm_status::{Controls, State, StatusKind};
 use rm_val::NoMemory;
 use std::alloc::Global;
@@ -30,7 +34,7 @@ impl Events {
     {
         Events {
             rows: Controls::new(StatusKind::EntryStatus),
-            logs: Logs::new(),
+            logs: Pool::new(),
         }
     }
 
@@ -40,7 +44,7 @@ impl Events {
         ensures stands { (settings : Settings) (journal : Journal) → Stands self.old settings journal → Stands self.new settings journal }
         ensures released { IsReleased self.old → IsReleased self.new }
     {
-        self.logs.grow(alloc, 1)
+        self.logs.reserve(alloc)
     }
 
     /// Fires the event with that index at a moment, in milliseconds, and tells what became of it. Only an event with a valid row
@@ -58,7 +62,7 @@ impl Events {
     {
         match self.valid_type(index) {
             Some(event_type) => {
-                self.logs.fire(index, event_type, moment);
+                fire_log(&mut self.logs, index, event_type, moment);
                 event_type.fired()
             }
             None => Fired::Absent,
@@ -99,5 +103,18 @@ impl Events {
             Some(row) => Some(row.community.as_slice()),
             None => None,
         }
+    }
+}
+
+// Notes in the log of a row that its event, which is of that type, fires at a moment in milliseconds.
+fn fire_log(logs: &mut Pool<Log>, row: u32, event_type: EventType, moment: u32)
+    ensures itself { (log : Kept) → part_in logs.old row ≡ Some log → (new : Kept) × (part_in logs.new row ≡ Some new)
+        × HasFired event_type moment log new }
+    ensures others { (other : ℕ) → nat_eq row other ≡ false → part_in logs.new other ≡ part_in logs.old other }
+    ensures same { (other : ℕ) → has_part logs.new other ≡ has_part logs.old other }
+    ensures size { length logs.new ≡ length logs.old }
+{
+    if let Some(log) = logs.get_mut(row) {
+        log.fire(event_type, moment);
     }
 }

@@ -15,7 +15,6 @@ mod group;
 mod log;
 mod log_cell;
 mod log_column;
-mod logs;
 #[cfg(test)]
 mod tests;
 

@@ -1,9 +1,10 @@
 // The log of an event.
-ghost use Rattle.std.specs.Prelude.{◌≡◌, ◌≤◌, IfOk};
+ghost use Rattle.std.specs.Prelude.{◌≡◌, ◌≤◌};
 ghost use Rattle.rm_event.specs.declared.log.TheConstants.{MOST_ENTRIES, MOST_SHOWN};
 
 use crate::event_type::EventType;
 use circular_buffer::HeapCircularBuffer;
+use rm_pool::{Begin, Part};
 use rm_val::NoMemory;
 use std::alloc::Global;
 
@@ -17,8 +18,6 @@ pub const MOST_SHOWN: u32 = 32;
 /// hundredths of a second.
 #[derive(Drop)]
 pub struct Log {
-    /// The index of the event's row, 0 where the storage is spare.
-    pub row: u32,
     /// When the event fired last, 0 before it did.
     pub sent: u32,
     /// How many entries were added.
@@ -32,28 +31,13 @@ pub struct Log {
 impl Log {
     ghost use Rattle.rm_event.specs.Log.{IsNew, HasFired, kept_time};
     ghost use Rattle.rm_event.specs.Tables.{is_shown};
-    ghost use Rattle.rm_event.specs.Walk.{IsNumberAbove, shows_any};
+    ghost use Rattle.rm_model.specs.Numbers.{IsNumberAbove};
 
-    /// Storage that is spare. NoMemory where there is none.
-    pub fn spare(alloc: Global) -> Result<Log, NoMemory>
-        ensures { IfOk result (λ log. log.row ≡ 0) }
-    {
-        let ring = HeapCircularBuffer::with_capacity(alloc, MOST_SHOWN as usize);
-        Ok(Log {
-            row: 0,
-            sent: 0,
-            added: 0,
-            ring: ring.map_err(|_| NoMemory)?,
-        })
-    }
-
-    /// Begins the log of a row.
-    pub fn begin(&mut self, row: u32)
-        ensures row { self.new.row ≡ row }
-        ensures empty { IsNew self.new }
+    /// Begins the log anew, with no entry.
+    pub fn begin(&mut self)
+        ensures { IsNew self.new }
     {
         self.ring.clear();
-        self.row = row;
         self.sent = 0;
         self.added = 0;
     }
@@ -77,13 +61,6 @@ impl Log {
         1 <= number && number <= self.added && self.added < number + MOST_SHOWN
     }
 
-    /// Whether any entry is shown: the last one, then.
-    pub fn shows_any(&self) -> bool
-        ensures { result ≡ shows_any self.now.added }
-    {
-        self.shows(self.added)
-    }
-
     /// The least number above one of an entry that is shown. None where none above is shown.
     pub fn number_above(&self, number: u32) -> Option<u32>
         ensures { IsNumberAbove (is_shown self.now.added) number result }
@@ -103,5 +80,30 @@ impl Log {
             Some(tick) => *tick,
             None => 0,
         }
+    }
+}
+
+impl Part for Log {
+    fn spare(alloc: Global) -> Result<Log, NoMemory> {
+        let ring = HeapCircularBuffer::with_capacity(alloc, MOST_SHOWN as usize);
+        Ok(Log {
+            sent: 0,
+            added: 0,
+            ring: ring.map_err(|_| NoMemory)?,
+        })
+    }
+}
+
+/// How the log of an event begins: with no entry.
+#[derive(Drop)]
+pub(crate) struct NoEntries;
+
+impl Begin<Log> for NoEntries {
+    ghost use Rattle.rm_event.specs.Log.{IsNew};
+
+    ghost begun = { λ s row log. IsNew log };
+
+    fn begin(&self, _row: u32, log: &mut Log) {
+        log.begin();
     }
 }

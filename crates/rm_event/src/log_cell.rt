@@ -4,7 +4,7 @@ ghost use Rattle.std.specs.Option.{option_map};
 ghost use Rattle.rm_val.specs.Val.{val_of};
 ghost use Rattle.rm_val.specs.Spellable.{IsSpellable, HasSpelling};
 ghost use Rattle.rm_model.specs.Cells.{cells_of, cell_at, IsNext};
-ghost use Rattle.rm_event.specs.Logs.{kept, log_in, AreDistinct};
+ghost use Rattle.rm_pool.specs.Slots.{part_in};
 ghost use Rattle.rm_event.specs.Shown.{description_in, entry_value, logs_table};
 ghost use Rattle.rm_event.specs.Tables.{log_entry};
 
@@ -12,8 +12,9 @@ use crate::entries::Entries;
 use crate::event_row::EventRow;
 use crate::log::Log;
 use crate::log_column::{LOG_COLUMNS, LogColumn};
-use crate::logs::Logs;
 use rm_model::Instance;
+use rm_nested::Nested;
+use rm_pool::Pool;
 use rm_status::{Controls, instance_of, next_name};
 use rm_val::{Oid, Value};
 
@@ -28,11 +29,11 @@ pub(crate) fn log_entry() -> Oid
 /// table has no such cell.
 pub(crate) fn log_cell<'a>(
     rows: &'a Controls<EventRow>,
-    logs: &Logs,
+    logs: &Pool<Log>,
     name: &Oid,
 ) -> Option<Value<'a>>
-    requires numbered { (row : ℕ) → is_some (log_in (kept logs.now) row) ≡ true → row ≤ 65535 }
-    ensures value { option_map val_of result ≡ cells_of (logs_table rows.now (kept logs.now)) name.now }
+    requires numbered { (row : ℕ) → is_some (part_in logs.now row) ≡ true → row ≤ 65535 }
+    ensures value { option_map val_of result ≡ cells_of (logs_table rows.now logs.now) name.now }
     ensures spelling { IfSome result (λ value. HasSpelling (val_of value)) }
 {
     let at = instance_of(name, &log_entry(), &LOG_COLUMNS)?;
@@ -44,27 +45,32 @@ pub(crate) fn log_cell<'a>(
 /// before.
 pub(crate) fn next_entry<'a>(
     rows: &'a Controls<EventRow>,
-    logs: &Logs,
+    logs: &Pool<Log>,
     name: &Oid,
     now: u32,
     out: &mut Oid,
 ) -> Option<Value<'a>>
-    requires numbered { (row : ℕ) → is_some (log_in (kept logs.now) row) ≡ true → row ≤ 65535 }
-    requires distinct { AreDistinct (kept logs.now) }
-    ensures next { IsNext (cells_of (logs_table rows.now (kept logs.now))) name.now (option_map val_of result) out.new }
+    requires numbered { (row : ℕ) → is_some (part_in logs.now row) ≡ true → row ≤ 65535 }
+    ensures next { IsNext (cells_of (logs_table rows.now logs.now)) name.now (option_map val_of result) out.new }
     ensures stays { IfNone result (out.new ≡ out.old) }
     ensures name_spelling { OnSome result (IsSpellable out.new) }
     ensures spelling { IfSome result (λ value. HasSpelling (val_of value)) }
 {
-    let entries = Entries { logs };
+    let entries = Nested {
+        rows: Entries { logs },
+    };
     *out = next_name(&entries, &log_entry(), &LOG_COLUMNS, name, now)?;
     log_cell(rows, logs, out)
 }
 
 // The value at an instance, if such an entry is shown.
-fn instance_value<'a>(rows: &'a Controls<EventRow>, logs: &Logs, at: &Instance) -> Option<Value<'a>>
-    requires numbered { (row : ℕ) → is_some (log_in (kept logs.now) row) ≡ true → row ≤ 65535 }
-    ensures value { option_map val_of result ≡ cell_at (logs_table rows.now (kept logs.now)) (Some at.now) }
+fn instance_value<'a>(
+    rows: &'a Controls<EventRow>,
+    logs: &Pool<Log>,
+    at: &Instance,
+) -> Option<Value<'a>>
+    requires numbered { (row : ℕ) → is_some (part_in logs.now row) ≡ true → row ≤ 65535 }
+    ensures value { option_map val_of result ≡ cell_at (logs_table rows.now logs.now) (Some at.now) }
     ensures spelling { IfSome result (λ value. HasSpelling (val_of value)) }
 {
     if at.index.len() != 2 {
@@ -72,9 +78,6 @@ fn instance_value<'a>(rows: &'a Controls<EventRow>, logs: &Logs, at: &Instance) 
     }
     let event = at.index.at(0);
     let number = at.index.at(1);
-    if event == 0 {
-        return None;
-    }
     let log = logs.get(event)?;
     if !log.shows(number) {
         return None;

@@ -1,11 +1,10 @@
-use Rattle.std.proofs.Common.{◌≤◌, length, sym, subst}
-use Rattle.rm_event.specs.Logs.{kept}
+use Rattle.std.proofs.Common.{◌≤◌, length, sym, subst, arith}
 use Rattle.rm_event.proofs.Assigned.{valid_after, rows_with_set, logs_with_set}
 use Rattle.rm_event.proofs.events.Events.assign.Goals as goal
 
-pub follow-requires-clause-enough : goal.follow-requires-clause-enough
-follow-requires-clause-enough g c =
-    subst (λ n. n ≤ length (kept c.args.self.now.logs)) (sym (valid_after (g.A.Assigns.bindings c.args.set.now) c.args.self.now.rows c.commit.new.self c.commit.ensures)) c.requires.ready.room
+pub follow-requires : goal.follow-requires
+follow-requires g c =
+    (omega arith, subst (λ n. n ≤ length c.args.self.now.logs) (sym (valid_after (g.A.Assigns.bindings c.args.set.now) c.args.self.now.rows c.commit.new.self c.commit.ensures)) c.requires.ready.room)
 
 pub returns-clause-stands : goal.returns-clause-stands
 returns-clause-stands g c settings journal now values stands gives =
@@ -13,5 +12,5 @@ returns-clause-stands g c settings journal now values stands gives =
     record {
       rows = rows_with_set settings journal now bs values gives c.requires.ready.fine.alone c.args.self.now.rows c.commit.new.self c.len.ensures.rows c.requires.ready.fine.together c.commit.ensures stands.rows;
       logs = logs_with_set settings journal now bs values gives c.requires.ready.fine.alone c.args.self.now.rows c.commit.new.self c.len.ensures.rows c.requires.ready.fine.together c.commit.ensures stands.rows
-          (kept c.args.self.now.logs) (kept c.follow.new.self) c.args.self.now.of_valid c.follow.ensures.of_valid c.follow.ensures.stays c.follow.ensures.begun stands.logs;
+          c.args.self.now.logs c.follow.new.self c.args.self.now.of_valid c.follow.ensures.of_valid c.follow.ensures.stays c.follow.ensures.begun stands.logs;
     }
