@@ -1,7 +1,6 @@
 -- The rows and the histories after a Set with which nothing is wrong.
-use Rattle.std.proofs.Common.{◌≡◌, ℕ, ◌<◌, ◌≤◌, List, [], ◌∷◌, length, map, Bool, true, false, cond, ◌&&◌, Option, Some, None, refl, sym, ◌∙◌, ap, subst, nat_eq, arith}
+use Rattle.std.proofs.Common.{◌≡◌, ℕ, ◌<◌, ◌≤◌, List, [], ◌∷◌, length, Bool, true, false, cond, ◌&&◌, Option, Some, None, refl, sym, ◌∙◌, ap, subst, nat_eq, arith}
 use Rattle.std.specs.Prelude.{pos, is_some, unwrap_or}
-use Rattle.std.specs.List.{AllByRecursion}
 use Rattle.std.specs.Option.{option_or, option_and_then}
 use Rattle.rm_val.specs.Val.{Val, int, name}
 use Rattle.rm_model.specs.Settings.{Settings}
@@ -29,11 +28,13 @@ use Rattle.rm_status.specs.Values.{natural_in}
 use Rattle.rm_history.specs.ControlColumns.{set_to, blank_columns, with_column}
 use Rattle.rm_history.specs.ColumnLaws.{blank_alike, set_with}
 use Rattle.rm_history.specs.Run.{Keeps}
-use Rattle.rm_history.specs.Runs.{run_in, valid_in, released, Fits, IsBegun}
+use Rattle.rm_pool.specs.declared.slot.Slot.{Slot}
+use Rattle.rm_pool.specs.Slots.{part_in, has_part}
+use Rattle.rm_pool.specs.Pools.{valid_in, IsOfValid, IsThere, Allowed}
+use Rattle.rm_history.specs.Runs.{Fits, AllFit, IsBegun}
 use Rattle.rm_history.specs.Standing.{IsRun, IsHistory, AreHistories}
-use Rattle.rm_history.specs.Begun.{plan_from, if_valid, valid_columns, Begins, AllBegin}
+use Rattle.rm_history.specs.Begun.{plan_from, if_valid, valid_columns, Begins}
 use Rattle.rm_history.proofs.InRange.{is_after}
-use Rattle.rm_history.proofs.Spares.{released_in, all_map}
 
 valid_is : (s : State) → is_valid s ≡ true → s ≡ Valid
 valid_is Absent h = cc
@@ -53,21 +54,6 @@ both_true false b h k = absurd (cc)
 first_false : (a b : Bool) → a ≡ false → (a && b) ≡ false
 first_false true b h = absurd (cc)
 first_false false b h = refl
-
--- the histories that are left of rows that stay valid are those that there were
-pub left_used : (valid : ℕ → Bool) (runs : List Run) (row : ℕ) → 1 ≤ row → is_some (run_in (map (released valid) runs) row) ≡ true → valid row ≡ true
-left_used valid runs row some there =
-    elim (valid row) as (λ t. is_some (cond t (run_in runs row) None) ≡ true → t ≡ true) [
-      | true ↦ λ _. refl
-      | false ↦ λ no. absurd (cc)
-    ] (ap is_some (sym (released_in valid runs row some)) ∙ there)
-
-pub left_fit : (valid : ℕ → Bool) (last frames : ℕ) (runs : List Run) → AllByRecursion (Fits last frames) runs → AllByRecursion (Fits last frames) (map (released valid) runs)
-left_fit valid last frames runs fits = all_map (Fits last frames) (released valid) (λ run fit. fit) runs fits
-
-pub later_fit : (last now frames : ℕ) → last ≤ now → (runs : List Run) → AllByRecursion (Fits last frames) runs → AllByRecursion (Fits now frames) runs
-later_fit last now frames later [] fits = tt
-later_fit last now frames later (run ∷ runs) fits = ((omega (arith, fits.0.0, later), fits.0.1), later_fit last now frames later runs fits.1)
 
 -- what a plan has of the columns of a row
 abbrev planned : ℕ → Val → Val → Plan
@@ -176,7 +162,7 @@ module _ (settings : Settings) (journal : Journal) (now : ℕ) (bs : Bindings) (
       no_frames : counted_frames with_set place ≡ []
       no_frames = ap (λ acts. frames_of (control_set with_set place 2) (frames_in acts)) (since_starts history_control no_rows (assigns now values) journal place starts)
 
-      run_begins : (run : Run) → IsBegun i row.columns.source (plan_from row.columns now) run → IsRun run settings with_set i
+      run_begins : (run : Run) → IsBegun row.columns.source (plan_from row.columns now) run → IsRun run settings with_set i
       run_begins run begun = record {
         valid = valid_is (control_state with_set place) valid_then;
         plan = begun.plan_is ∙ new_plan;
@@ -186,28 +172,63 @@ module _ (settings : Settings) (journal : Journal) (now : ℕ) (bs : Bindings) (
       }
 
     -- what becomes of the history of a row
-    history_then : (o new_run : Option Run) (t : Bool) (p : Option (Row ControlColumns)) → row_in new i ≡ p → is_valid (state_seen p) ≡ t → IsHistory settings journal i o → Begins now i (cond t o None) (if_valid p) new_run → IsHistory settings with_set i new_run
-    history_then o n true None e k was b = absurd (cc)
-    history_then (Some run) n true (Some row) e k was b =
-        subst (IsHistory settings with_set i) (sym b) (run_stays (ap is_valid was.valid) (ap (λ x. is_valid (state_seen x)) e ∙ k) run was)
-    history_then None n true (Some row) e k was b =
-        at_new n (subst (λ c. Begins now i None c n) (ap (λ t. cond t (Some row.columns) None) k) b)
-      where
-        at_new : (n : Option Run) → Begins now i None (Some row.columns) n → IsHistory settings with_set i n
-        at_new None begun = absurd begun
-        at_new (Some run) begun = run_begins was row e k run begun
-    history_then o n false p e k was b =
-        let none : n ≡ None = subst (λ c. Begins now i None c n) (gone p k) b in
-        subst (IsHistory settings with_set i) (sym none) (ap is_valid (sym new_state) ∙ ap (λ x. is_valid (state_seen x)) e ∙ k)
-      where
-        gone : (p : Option (Row ControlColumns)) → is_valid (state_seen p) ≡ false → if_valid p ≡ None
-        gone None k = refl
-        gone (Some row) k = ap (λ t. cond t (Some row.columns) None) k
+    stays_there : (o n : Option Run) → IsHistory settings journal i o → valid_in new i ≡ true → is_some o ≡ true → n ≡ o → IsHistory settings with_set i n
+    stays_there None n was valid has same = absurd (cc)
+    stays_there (Some run) n was valid has same = subst (IsHistory settings with_set i) (sym same) (run_stays (ap is_valid was.valid) valid run was)
 
-  pub histories_with_set : (runs kept_now : List Run) → AreHistories runs settings journal → AllBegin now new (map (released (valid_in new)) runs) kept_now → AreHistories kept_now settings with_set
-  histories_with_set runs kept_now are all i some =
-      history_then i (run_in runs i) (run_in kept_now i) (valid_in new i) (row_in new i) refl refl (are i some)
-      (subst (λ o. Begins now i o (valid_columns new i) (run_in kept_now i)) (released_in (valid_in new) runs i some) (all i some))
+    begins_there : (o : Option (Row ControlColumns)) (n : Option Run) → row_in new i ≡ o → is_valid (state_seen o) ≡ true → is_valid (control_state journal place) ≡ false → IsThere (Begins now (if_valid o)) n → IsHistory settings with_set i n
+    begins_there None n e valid idle begun = absurd (cc)
+    begins_there (Some row) None e valid idle begun = absurd begun
+    begins_there (Some row) (Some run) e valid idle begun =
+        run_begins idle row e valid run (subst (λ c. Begins now c run) (ap (λ t. cond t (Some row.columns) None) valid) begun)
+
+    none_there : (n : Option Run) → valid_in new i ≡ false → is_some n ≡ false → IsHistory settings with_set i n
+    none_there None idle none = ap is_valid (sym new_state) ∙ idle
+    none_there (Some run) idle none = absurd (cc)
+
+    history_then : (o n : Option Run) (t : Bool) → valid_in new i ≡ t → IsHistory settings journal i o → is_some n ≡ t
+        → (t ≡ true → is_some o ≡ true → n ≡ o) → (t ≡ true → o ≡ None → IsThere (Begins now (valid_columns new i)) n) → IsHistory settings with_set i n
+    history_then o n false e was held kept begun = none_there n e held
+    history_then None n true e was held kept begun = begins_there (row_in new i) n refl e was (begun refl refl)
+    history_then (Some run) n true e was held kept begun = stays_there (Some run) n was e refl (kept refl refl)
+
+  pub histories_with_set : (runs then : List (Slot Run)) → AreHistories runs settings journal → IsOfValid then new
+      → ((row : ℕ) → valid_in new row ≡ true → has_part runs row ≡ true → part_in then row ≡ part_in runs row)
+      → ((row : ℕ) → valid_in new row ≡ true → part_in runs row ≡ None → IsThere (Begins now (valid_columns new row)) (part_in then row))
+      → AreHistories then settings with_set
+  histories_with_set runs then are of_valid kept begun i =
+      history_then i (part_in runs i) (part_in then i) (valid_in new i) refl (are i) (of_valid i) (kept i) (begun i)
+
+-- a history that has just begun has no frame, and one that fits at a moment fits later
+module _ (last now frames : ℕ) (later : last ≤ now) where
+  fits_then : (o : Option ControlColumns) (run : Run) → is_some o ≡ true → Begins now o run → Fits now frames run
+  fits_then None run some begun = absurd (cc)
+  fits_then (Some columns) run some begun = (
+    subst (λ n. end_of run.plan n ≤ now) (sym begun.closed) (subst (λ (p : Plan). end_of p 0 ≤ now) (sym begun.plan_is) (omega arith)),
+    omega (arith, begun.packets),
+  )
+
+  has_columns : (o : Option (Row ControlColumns)) → is_valid (state_seen o) ≡ true → is_some (if_valid o) ≡ true
+  has_columns None valid = absurd (cc)
+  has_columns (Some row) valid = ap (λ t. is_some (cond t (Some row.columns) None)) valid
+
+  fit_later : (o : Option Run) → Allowed (Fits last frames) o → Allowed (Fits now frames) o
+  fit_later None fit = tt
+  fit_later (Some run) fit = (omega (arith, fit.0, later), fit.1)
+
+  fit_at : (o n : Option Run) (row : Option (Row ControlColumns)) (t : Bool) → is_valid (state_seen row) ≡ t → is_some n ≡ t → Allowed (Fits last frames) o
+      → (t ≡ true → is_some o ≡ true → n ≡ o) → (t ≡ true → o ≡ None → IsThere (Begins now (if_valid row)) n) → Allowed (Fits now frames) n
+  fit_at o None row t e held fit kept begun = tt
+  fit_at o (Some run) row false e held fit kept begun = absurd (cc)
+  fit_at None (Some run) row true e held fit kept begun = fits_then (if_valid row) run (has_columns row e) (begun refl refl)
+  fit_at (Some old) (Some run) row true e held fit kept begun = subst (Allowed (Fits now frames)) (sym (kept refl refl)) (fit_later (Some old) fit)
+
+  pub all_fit_then : (rows : List (Row ControlColumns)) (runs then : List (Slot Run)) → AllFit last frames runs → IsOfValid then rows
+      → ((row : ℕ) → valid_in rows row ≡ true → has_part runs row ≡ true → part_in then row ≡ part_in runs row)
+      → ((row : ℕ) → valid_in rows row ≡ true → part_in runs row ≡ None → IsThere (Begins now (valid_columns rows row)) (part_in then row))
+      → AllFit now frames then
+  all_fit_then rows runs then fits of_valid kept begun row =
+      fit_at (part_in runs row) (part_in then row) (row_in rows row) (valid_in rows row) refl (of_valid row) (fits row) (kept row) (begun row)
 
 -- as many rows are valid after a Set as it says
 pub count_then : (bs : Bindings) (rows new : List (Row ControlColumns)) → ((i : ℕ) → row_in new i ≡ row_after history_control with_column blank_columns bs i (row_in rows i)) → count_valid (rows_before set_to new) ≡ count_valid_after history_control (rows_before set_to rows) bs

@@ -1,12 +1,8 @@
 mod Examples
 mod Rings
 mod Frames
-mod Each
-mod Spares
 mod Becoming
 mod Storage
 mod InRange
-mod Begins
 mod AfterSets
-mod Walks
 mod SameCells

@@ -1,5 +1,5 @@
 -- What the rows and the histories show is what the tables show after the journal.
-use Rattle.std.proofs.Common.{◌≡◌, ℕ, zero, suc, ◌+◌, ◌-◌, ◌*◌, ◌/◌, ◌%◌, ◌^◌, ◌<◌, ◌≤◌, List, [], ◌∷◌, refl, sym, ◌∙◌, ap, subst, Bool, true, false, cond, ◌&&◌, Option, Some, None, nat_le, nat_lt, arith}
+use Rattle.std.proofs.Common.{◌≡◌, ℕ, ◌+◌, ◌-◌, ◌*◌, ◌/◌, ◌%◌, ◌^◌, ◌<◌, ◌≤◌, List, [], ◌∷◌, refl, sym, ◌∙◌, ap, subst, Bool, true, false, cond, ◌&&◌, Option, Some, None, nat_le, nat_lt, arith}
 use Rattle.std.specs.Prelude.{pos, not, is_some}
 use Rattle.std.specs.Option.{option_or, option_and_then, option_map_or}
 use Rattle.std.proofs.lemmas.Bool.Decides.{nat_tests}
@@ -11,8 +11,6 @@ use Rattle.rm_model.specs.Alike.{HasSameColumns}
 use Rattle.rm_model.specs.Cells.{cells_of, cell_at, instance_of, IsNext}
 use Rattle.rm_model.specs.ControlRows.{no_rows, entry_status, is_absent, is_valid, set_value}
 use Rattle.rm_model.specs.declared.instance.Instance.{Instance}
-use Rattle.rm_model.specs.declared.row.State.{State}
-use Rattle.rm_model.specs.declared.row.State.TheVariants.{Absent, UnderCreation, Valid}
 use Rattle.rm_status.specs.declared.row.Row.{Row}
 use Rattle.rm_status.specs.Rows.{row_in, state_seen, columns_seen, AreControlRows}
 use Rattle.rm_status.specs.Values.{natural_in}
@@ -33,11 +31,11 @@ use Rattle.rm_history.specs.HistoryControl.{control_entry, history_control, cont
 use Rattle.rm_history.specs.EtherHistory.{sample_entry, is_sample, sample_sum, sample_value, sample_table}
 use Rattle.rm_history.specs.Buckets.{length_of, begin_of, complete_at, is_shown, utilization, bucket_sum}
 use Rattle.rm_history.specs.Run.{kept_counter}
-use Rattle.rm_history.specs.Runs.{run_in}
+use Rattle.rm_pool.specs.declared.slot.Slot.{Slot}
+use Rattle.rm_pool.specs.Slots.{part_in}
 use Rattle.rm_history.specs.Shown.{granted_in, row_value, value_in, rows_table, is_kept, bucket_value, bucket_in, runs_table, cells_shown}
 use Rattle.rm_history.specs.Standing.{IsRun, IsHistory, AreHistories}
-use Rattle.rm_history.proofs.Rings.{le_yes}
-use Rattle.rm_status.proofs.RowFacts.{row_there, no_row_0 as row_0}
+use Rattle.rm_status.proofs.RowFacts.{row_there}
 
 -- historyControl
 module _ (rows : List (Row ControlColumns)) (held : AreControlRows rows) (journal : Journal) (is : AreRowsAfter history_control no_rows set_to rows journal) where
@@ -80,15 +78,6 @@ module _ (rows : List (Row ControlColumns)) (held : AreControlRows rows) (journa
 
   pub same_control : (name : List ℕ) → cells_of (rows_table rows) name ≡ cells_of (control_table journal) name
   same_control name = control_at (instance_of control_entry control_columns name)
-
-  -- there is no row 0
-  pub no_row_0 : is_valid (control_state journal (0 ∷ [])) ≡ false
-  no_row_0 = of_state (control_state journal (0 ∷ [])) (is_row (0 ∷ []) ∙ ap is_some (row_0 rows held.1))
-    where
-      of_state : (s : State) → not (is_absent s) ≡ false → is_valid s ≡ false
-      of_state Absent e = refl
-      of_state UnderCreation e = absurd (cc)
-      of_state Valid e = absurd (cc)
 
 -- What a history shows, where it is that of a row after the journal.
 module _ (settings : Settings) (journal : Journal) (now : ℕ) (later : last_moment journal ≤ now) (row : ℕ) (run : Run) (is : IsRun run settings journal row) where
@@ -133,8 +122,7 @@ module _ (settings : Settings) (journal : Journal) (now : ℕ) (later : last_mom
     bucket_shows sample.Utilization = λ d. int (pos (utilization (counts Pkts d) (counts Octets d) (is.plan d).seconds))
 
 -- etherHistory
-module _ (runs : List Run) (settings : Settings) (journal : Journal) (histories : AreHistories runs settings journal) (now : ℕ) (later : last_moment journal ≤ now)
-    (no_first : is_valid (control_state journal (0 ∷ [])) ≡ false) where
+module _ (runs : List (Slot Run)) (settings : Settings) (journal : Journal) (histories : AreHistories runs settings journal) (now : ℕ) (later : last_moment journal ≤ now) where
   abbrev shown_in : ℕ → ℕ → SampleColumn → Option Run → Option Val
   shown_in row bucket column o = cond (option_map_or (λ run. is_shown run.plan now bucket) o false) (Some (bucket_in row o bucket column)) None
 
@@ -154,11 +142,8 @@ module _ (runs : List Run) (settings : Settings) (journal : Journal) (histories 
       is_there : is_sample journal now (row ∷ bucket ∷ []) ≡ is_shown run.plan now bucket
       is_there = ap (λ s. is_valid s && is_shown (plan_of journal (row ∷ [])) now bucket) is.valid ∙ ap (λ plan. is_shown plan now bucket) (sym is.plan)
 
-  of_pair : (row bucket : ℕ) (column : SampleColumn) → cond (is_kept runs now (row ∷ bucket ∷ [])) (Some (bucket_in row (run_in runs row) bucket column)) None ≡ shown_after row bucket column
-  of_pair zero bucket column = sym (ap (λ b. cond (b && is_shown (plan_of journal (0 ∷ [])) now bucket) (Some (sample_value settings journal 0 bucket column)) None) no_first)
-  of_pair (suc row) bucket column =
-      ap (λ b. cond (b && option_map_or (λ run. is_shown run.plan now bucket) (run_in runs (suc row)) false) (Some (bucket_in (suc row) (run_in runs (suc row)) bucket column)) None) (le_yes 1 (suc row) (omega arith))
-      ∙ of_history (suc row) bucket column (run_in runs (suc row)) (histories (suc row) (omega arith))
+  of_pair : (row bucket : ℕ) (column : SampleColumn) → cond (is_kept runs now (row ∷ bucket ∷ [])) (Some (bucket_in row (part_in runs row) bucket column)) None ≡ shown_after row bucket column
+  of_pair row bucket column = of_history row bucket column (part_in runs row) (histories row)
 
   sample_cell_at : (at : Option Instance) → cell_at (runs_table runs now) at ≡ cell_at (sample_table settings journal now) at
   sample_cell_at None = refl
@@ -174,10 +159,10 @@ module _ (runs : List Run) (settings : Settings) (journal : Journal) (histories 
   same_samples name = sample_cell_at (instance_of sample_entry sample_columns name)
 
 -- both
-module _ (rows : List (Row ControlColumns)) (held : AreControlRows rows) (runs : List Run) (settings : Settings) (journal : Journal)
+module _ (rows : List (Row ControlColumns)) (held : AreControlRows rows) (runs : List (Slot Run)) (settings : Settings) (journal : Journal)
     (is : AreRowsAfter history_control no_rows set_to rows journal) (histories : AreHistories runs settings journal) (now : ℕ) (later : last_moment journal ≤ now) where
   pub same_cells : (name : List ℕ) → cells_shown rows runs now name ≡ option_or (cells_of (control_table journal) name) (cells_of (sample_table settings journal now) name)
-  same_cells name = λ d. option_or (same_control rows held journal is name d) (same_samples runs settings journal histories now later (no_row_0 rows held journal is) name d)
+  same_cells name = λ d. option_or (same_control rows held journal is name d) (same_samples runs settings journal histories now later name d)
 
   -- what is next among the cells that are shown is next among those of the journal
   pub next_cell : (asked found : List ℕ) (value : Option Val) → IsNext (cells_shown rows runs now) asked value found → IsNext (λ name. option_or (cells_of (control_table journal) name) (cells_of (sample_table settings journal now) name)) asked value found

@@ -18,7 +18,6 @@ use Rattle.rm_history.specs.Columns.{control_columns, sample_columns}
 use Rattle.rm_history.specs.HistoryControl.{control_entry, history_control}
 use Rattle.rm_history.specs.EtherHistory.{sample_entry}
 use Rattle.rm_history.specs.ControlColumns.{set_to}
-use Rattle.rm_history.specs.Runs.{kept}
 use Rattle.rm_history.specs.Standing.{AreHistories}
 
 -- how many frames the group was given
@@ -33,7 +32,7 @@ last_given history = history.last
 -- valid ones.
 pub record Stands (history : History) (settings : Settings) (journal : Journal) : Type 0 where
   pub rows : AreRowsAfter history_control no_rows set_to history.rows journal
-  pub histories : AreHistories (kept history.runs) settings journal
+  pub histories : AreHistories history.runs settings journal
 
 -- the objects of the group: the columns of both tables
 abbrev pub history_objects : List ℕ → Bool
@@ -51,13 +50,13 @@ pub record AreFine (history : History) (bindings : Bindings) : Type 0 where
 
 -- there is the storage of one row, whether it is spare or not
 abbrev pub IsStocked : History → Type 0
-IsStocked history = 1 ≤ length (kept history.runs)
+IsStocked history = 1 ≤ length history.runs
 
 -- nothing is wrong with a Set, and there is storage for each row that is valid after it
 pub record IsPrepared (history : History) (bindings : Bindings) : Type 0 where
   pub fine : AreFine history bindings
-  pub enough : count_valid_after history_control (rows_before set_to history.rows) bindings ≤ length (kept history.runs)
+  pub enough : count_valid_after history_control (rows_before set_to history.rows) bindings ≤ length history.runs
 
 -- there is storage for the valid rows only, or for one row where none is valid
 abbrev pub IsReleased : History → Type 0
-IsReleased history = length (kept history.runs) ≤ max 1 (count_valid (rows_before set_to history.rows))
+IsReleased history = length history.runs ≤ max 1 (count_valid (rows_before set_to history.rows))

@@ -11,7 +11,5 @@ pub mod Shown
 pub mod Begun
 pub mod WellHeld
 pub mod Group
-pub mod Walk
-pub mod SampleNumbers
 pub mod Finite
 pub mod Sampled

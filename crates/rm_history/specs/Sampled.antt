@@ -12,7 +12,7 @@ use Rattle.rm_history.specs.declared.run.Run.{Run}
 use Rattle.rm_history.specs.ControlColumns.{set_to}
 use Rattle.rm_history.specs.HistoryControl.{history_control, control_state, control_set, plan_of, counted_frames}
 use Rattle.rm_history.specs.Run.{Keeps}
-use Rattle.rm_history.specs.Runs.{kept, run_in}
+use Rattle.rm_pool.specs.Slots.{part_in}
 use Rattle.rm_history.specs.Standing.{IsRun, IsHistory}
 use Rattle.rm_history.specs.Group.{Stands}
 
@@ -67,5 +67,5 @@ module _ (settings : Settings) (journal : Journal) (moment alarm : ℕ) (reading
     pub history_sampled : (history : History) → Stands history settings journal → Stands history settings after
     history_sampled history stands = record {
       rows = rows_samples history_control no_rows set_to refl history.rows journal moment alarm reading stands.rows;
-      histories = λ row some. same_history row (run_in (kept history.runs) row) (stands.histories row some);
+      histories = λ row. same_history row (part_in history.runs row) (stands.histories row);
     }

@@ -1,5 +1,6 @@
 -- What the rows and the histories that are kept show.
-use Rattle.std.specs.Prelude.{ℕ, pos, ◌/◌, ◌%◌, ◌^◌, List, [], ◌∷◌, Bool, false, ◌&&◌, nat_le, if◌then◌else◌, Option, Some, None}
+use Rattle.std.proofs.Common.{refl, ap, cond}
+use Rattle.std.specs.Prelude.{◌≡◌, ℕ, pos, ◌/◌, ◌%◌, ◌^◌, List, [], ◌∷◌, Bool, false, is_some, if◌then◌else◌, Option, Some, None}
 use Rattle.std.specs.Option.{option_map_or, option_or}
 use Rattle.rm_val.specs.Val.{Val, int, octets, name, counter, ticks, null}
 use Rattle.rm_model.specs.Cells.{Cells, Table, cells_of}
@@ -21,7 +22,9 @@ use Rattle.rm_history.specs.HistoryControl.{control_entry, granted}
 use Rattle.rm_history.specs.EtherHistory.{sample_entry}
 use Rattle.rm_history.specs.Buckets.{begin_of, is_shown, utilization}
 use Rattle.rm_history.specs.Run.{kept_counter}
-use Rattle.rm_history.specs.Runs.{run_in}
+use Rattle.rm_pool.specs.declared.slot.Slot.{Slot}
+use Rattle.rm_pool.specs.Slots.{part_in, has_part}
+use Rattle.rm_nested.specs.Nested.{is_nested, is_number}
 
 -- how many buckets are granted to a row, by its state and how many it requests
 abbrev pub granted_in : State → ℕ → ℕ
@@ -51,10 +54,17 @@ rows_table rows = record {
   value = λ column index. value_in (row_number index) (row_in rows (row_number index)) (control_column column);
 }
 
+-- whether a bucket of a row is shown at a moment, if its history is kept
+abbrev pub shows : List (Slot Run) → ℕ → ℕ → ℕ → Bool
+shows runs now row bucket = option_map_or (λ run. is_shown run.plan now bucket) (part_in runs row) false
+
+-- whether these numbers are the index of such a bucket in the history of a row
+abbrev pub is_kept_of : List (Slot Run) → ℕ → ℕ → List ℕ → Bool
+is_kept_of runs now row index = is_number (shows runs now row) index
+
 -- whether these numbers are those of a row whose history is kept and of a bucket of it that is shown at a moment
-abbrev pub is_kept : List Run → ℕ → List ℕ → Bool
-is_kept runs now (row ∷ bucket ∷ []) = nat_le 1 row && option_map_or (λ run. is_shown run.plan now bucket) (run_in runs row) false
-is_kept runs now index = false
+abbrev pub is_kept : List (Slot Run) → ℕ → List ℕ → Bool
+is_kept runs now index = is_nested (is_kept_of runs now) index
 
 -- what a column of a bucket shows, by the history of its row
 abbrev pub bucket_value : ℕ → Run → ℕ → SampleColumn → Val
@@ -70,12 +80,12 @@ bucket_in row None bucket column = null
 bucket_in row (Some run) bucket column = bucket_value row run bucket column
 
 -- the same by the numbers of an index
-abbrev pub bucket_at : List Run → List ℕ → SampleColumn → Val
-bucket_at runs (row ∷ bucket ∷ []) column = bucket_in row (run_in runs row) bucket column
+abbrev pub bucket_at : List (Slot Run) → List ℕ → SampleColumn → Val
+bucket_at runs (row ∷ bucket ∷ []) column = bucket_in row (part_in runs row) bucket column
 bucket_at runs index column = null
 
 -- etherHistory with these histories, at a moment
-abbrev pub runs_table : List Run → ℕ → Table
+abbrev pub runs_table : List (Slot Run) → ℕ → Table
 runs_table runs now = record {
   entry = sample_entry;
   columns = sample_columns;
@@ -84,5 +94,15 @@ runs_table runs now = record {
 }
 
 -- the cells of both, at a moment
-abbrev pub cells_shown : List (Row ControlColumns) → List Run → ℕ → Cells
+abbrev pub cells_shown : List (Row ControlColumns) → List (Slot Run) → ℕ → Cells
 cells_shown rows runs now asked = option_or (cells_of (rows_table rows) asked) (cells_of (runs_table runs now) asked)
+
+-- a row that has no history shows no bucket
+hides : (o : Option Run) (now bucket : ℕ) → is_some o ≡ false → option_map_or (λ run. is_shown run.plan now bucket) o false ≡ false
+hides None now bucket none = refl
+hides (Some run) now bucket none = ap (λ t. cond t (is_shown run.plan now bucket) false) none
+
+pub no_bucket : (runs : List (Slot Run)) (now row : ℕ) (index : List ℕ) → has_part runs row ≡ false → is_kept_of runs now row index ≡ false
+no_bucket runs now row [] none = refl
+no_bucket runs now row (bucket ∷ []) none = hides (part_in runs row) now bucket none
+no_bucket runs now row (bucket ∷ next ∷ more) none = refl

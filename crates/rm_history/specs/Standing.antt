@@ -10,7 +10,8 @@ use Rattle.rm_history.specs.declared.run.Run.{Run}
 use Rattle.rm_history.specs.Buckets.{end_of}
 use Rattle.rm_history.specs.HistoryControl.{control_state, control_set, plan_of, counted_frames}
 use Rattle.rm_history.specs.Run.{Keeps}
-use Rattle.rm_history.specs.Runs.{run_in}
+use Rattle.rm_pool.specs.declared.slot.Slot.{Slot}
+use Rattle.rm_pool.specs.Slots.{part_in}
 
 -- A history is that of a row after a journal: the row is valid, its buckets have what the frames give that it counts, and none
 -- is closed that ends later than the last act.
@@ -27,5 +28,5 @@ IsHistory settings journal row (Some run) = IsRun run settings journal row
 IsHistory settings journal row None = is_valid (control_state journal (row ∷ [])) ≡ false
 
 -- the histories that are kept are those of the valid rows
-abbrev pub AreHistories : List Run → Settings → Journal → Type 0
-AreHistories runs settings journal = (row : ℕ) → 1 ≤ row → IsHistory settings journal row (run_in runs row)
+abbrev pub AreHistories : List (Slot Run) → Settings → Journal → Type 0
+AreHistories runs settings journal = (row : ℕ) → IsHistory settings journal row (part_in runs row)

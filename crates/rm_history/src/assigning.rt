@@ -4,7 +4,7 @@ ghost use Rattle.rm_model.specs.Settings.{Settings};
 ghost use Rattle.rm_model.specs.Journal.{Assignments, Journal, assigns, last_moment, value_given};
 ghost use Rattle.rm_history.specs.Group.{Stands, IsPrepared, IsReleased, IsStocked, frames_given, last_given};
 
-use crate::beginning::begin_all;
+use crate::beginning::Beginning;
 use crate::control_cell::control_entry;
 use crate::control_columns::STATUS;
 use crate::history::History;
@@ -29,8 +29,8 @@ impl History {
         prove!(self.rows.len() <= 16);
         self.rows.commit(set, &control_entry(), STATUS);
         prove!(self.rows.len() <= 16);
-        self.runs.release(&self.rows);
-        begin_all(&mut self.runs, &self.rows, now);
+        let rows = &self.rows;
+        self.runs.follow(rows, &Beginning { rows, now });
         self.last = now;
         self.give_back();
     }

@@ -5,13 +5,14 @@ ghost use Rattle.rm_val.specs.Val.{val_of};
 ghost use Rattle.rm_val.specs.Spellable.{IsSpellable, HasSpelling};
 ghost use Rattle.rm_model.specs.Cells.{IsNext};
 ghost use Rattle.rm_history.specs.ControlColumns.{AreAllInRange};
-ghost use Rattle.rm_history.specs.Runs.{kept, run_in, AreDistinct};
+ghost use Rattle.rm_pool.specs.Slots.{part_in};
 ghost use Rattle.rm_history.specs.Shown.{cells_shown};
 
 use crate::control_cell::{control_cell, next_control};
 use crate::control_columns::ControlColumns;
-use crate::runs::Runs;
+use crate::run::Run;
 use crate::sample_cell::{next_sample, sample_cell};
+use rm_pool::Pool;
 use rm_status::{Controls, choose_nearer};
 use rm_val::{Oid, Value};
 
@@ -19,13 +20,13 @@ use rm_val::{Oid, Value};
 /// most. None where neither table has such a cell.
 pub(crate) fn cell_of<'a>(
     rows: &'a Controls<ControlColumns>,
-    runs: &Runs,
+    runs: &Pool<Run>,
     name: &Oid,
     now: u32,
 ) -> Option<Value<'a>>
     requires in_range { AreAllInRange rows.now }
-    requires numbered { (row : ℕ) → is_some (run_in (kept runs.now) row) ≡ true → row ≤ 65535 }
-    ensures value { option_map val_of result ≡ cells_shown rows.now (kept runs.now) now name.now }
+    requires numbered { (row : ℕ) → is_some (part_in runs.now row) ≡ true → row ≤ 65535 }
+    ensures value { option_map val_of result ≡ cells_shown rows.now runs.now now name.now }
     ensures spelling { IfSome result (λ value. HasSpelling (val_of value)) }
 {
     match control_cell(rows, name) {
@@ -39,15 +40,14 @@ pub(crate) fn cell_of<'a>(
 /// greater name; `out` is then as before.
 pub(crate) fn next_of<'a>(
     rows: &'a Controls<ControlColumns>,
-    runs: &Runs,
+    runs: &Pool<Run>,
     name: &Oid,
     now: u32,
     out: &mut Oid,
 ) -> Option<Value<'a>>
     requires in_range { AreAllInRange rows.now }
-    requires numbered { (row : ℕ) → is_some (run_in (kept runs.now) row) ≡ true → row ≤ 65535 }
-    requires distinct { AreDistinct (kept runs.now) }
-    ensures next { IsNext (cells_shown rows.now (kept runs.now) now) name.now (option_map val_of result) out.new }
+    requires numbered { (row : ℕ) → is_some (part_in runs.now row) ≡ true → row ≤ 65535 }
+    ensures next { IsNext (cells_shown rows.now runs.now now) name.now (option_map val_of result) out.new }
     ensures stays { IfNone result (out.new ≡ out.old) }
     ensures name_spelling { OnSome result (IsSpellable out.new) }
     ensures spelling { IfSome result (λ value. HasSpelling (val_of value)) }

@@ -106,12 +106,11 @@ impl Readable for History {
     ghost use Rattle.rm_model.specs.Cells.{cells_of};
     ghost use Rattle.rm_history.specs.HistoryControl.{control_table};
     ghost use Rattle.rm_history.specs.EtherHistory.{sample_table};
-    ghost use Rattle.rm_history.specs.Runs.{kept};
     ghost use Rattle.rm_history.specs.Shown.{cells_shown};
 
     ghost sampleable = { λ settings journal now name. option_or (cells_of (control_table journal) name) (cells_of (sample_table settings journal now) name) };
 
-    ghost shown = { λ s now. cells_shown s.rows (kept s.runs) now };
+    ghost shown = { λ s now. cells_shown s.rows s.runs now };
 
     fn value(&self, name: &Oid, now: u32) -> Option<Value<'_>> {
         prove!(self.rows.len() <= 16);

@@ -1,13 +1,15 @@
 // The group history.
-ghost use Rattle.std.specs.Prelude.{◌≡◌, ℕ, ◌+◌, ◌<◌, ◌≤◌, [], ◌∷◌, is_some, OnOk};
-ghost use Rattle.std.specs.List.{AllByRecursion};
+ghost use Rattle.std.specs.Prelude.{◌≡◌, ℕ, ◌+◌, ◌<◌, ◌≤◌, [], ◌∷◌, OnOk};
 ghost use Rattle.rm_status.specs.declared.bounds.TheConstants.{MOST_OCTETS, MOST_FRAMES};
 ghost use Rattle.rm_history.specs.ControlColumns.{AreAllInRange};
-ghost use Rattle.rm_history.specs.Runs.{kept, run_in, valid_in, AreDistinct, Fits};
-ghost use Rattle.rm_history.specs.WellHeld.{all_in_range_prop, distinct_prop, all_fit_prop};
+ghost use Rattle.rm_pool.specs.Pools.{IsOfValid};
+ghost use Rattle.rm_history.specs.Runs.{AllFit};
+ghost use Rattle.rm_history.specs.WellHeld.{all_in_range_prop, all_fit_prop, of_valid_prop};
 
 use crate::control_columns::ControlColumns;
-use crate::runs::Runs;
+use crate::counted_frame::CountedFrame;
+use crate::run::Run;
+use rm_pool::Pool;
 use rm_proto::Facts;
 use rm_status::{Controls, MOST_FRAMES, MOST_OCTETS, StatusKind};
 use rm_val::NoMemory;
@@ -18,15 +20,14 @@ use std::alloc::Global;
 #[derive(Drop)]
 pub struct History {
     pub(crate) rows: Controls<ControlColumns>,
-    pub(crate) runs: Runs,
+    pub(crate) runs: Pool<Run>,
     // How many frames it was given.
     pub(crate) frames: u32,
     // The moment of the last frame or Set, in milliseconds.
     pub(crate) last: u32,
     ghost in_range: { AreAllInRange rows } by { all_in_range_prop rows },
-    ghost distinct: { AreDistinct (kept runs) } by { distinct_prop (kept runs) },
-    ghost fits: { AllByRecursion (Fits last frames) (kept runs) } by { all_fit_prop last frames (kept runs) },
-    ghost held: { (row : ℕ) → 1 ≤ row → is_some (run_in (kept runs) row) ≡ valid_in rows row },
+    ghost fits: { AllFit last frames runs } by { all_fit_prop last frames runs },
+    ghost held: { IsOfValid runs rows } by { of_valid_prop runs rows },
 }
 
 impl History {
@@ -43,7 +44,7 @@ impl History {
     {
         History {
             rows: Controls::new(StatusKind::EntryStatus),
-            runs: Runs::new(),
+            runs: Pool::new(),
             frames: 0,
             last: 0,
         }
@@ -56,7 +57,7 @@ impl History {
         ensures frames { frames_given self.new ≡ frames_given self.old }
         ensures last { last_given self.new ≡ last_given self.old }
     {
-        self.runs.grow(alloc, 1)
+        self.runs.reserve(alloc)
     }
 
     /// Counts a frame that passed at a moment, in milliseconds, which isn't below the one given last. Fewer than `MOST_FRAMES`
@@ -72,7 +73,7 @@ impl History {
         ensures last { last_given self.new ≡ moment }
         ensures stocked { IsStocked self.old → IsStocked self.new }
     {
-        self.runs.frame(facts, moment);
+        self.runs.change_each(&CountedFrame { facts, moment });
         self.frames += 1;
         self.last = moment;
     }

@@ -34,6 +34,7 @@ impl History {
         ensures within { IfErr result (λ denied. denied.index ≤ length (A.bindings set.now)) }
     {
         prove!(self.rows.len() <= 16);
+        prove!(self.runs.len() >= 1);
         let Some(index) = self.rows.first_activated(set, &control_entry(), STATUS) else {
             return Ok(());
         };

@@ -1,5 +1,5 @@
 // The history of a row.
-ghost use Rattle.std.specs.Prelude.{◌≡◌, ℕ, ◌+◌, ◌*◌, ◌<◌, ◌≤◌, [], nat_eq, IfOk, if◌then◌else◌};
+ghost use Rattle.std.specs.Prelude.{◌≡◌, ℕ, ◌+◌, ◌*◌, ◌<◌, ◌≤◌, [], nat_eq, if◌then◌else◌};
 ghost use Rattle.rm_status.specs.declared.bounds.TheConstants.{MOST_OCTETS, MOST_FRAMES};
 ghost use Rattle.rm_history.specs.declared.run.TheConstants.{MOST_BUCKETS};
 ghost use Rattle.rm_ether.specs.Standing.{AreBounded};
@@ -7,6 +7,7 @@ ghost use Rattle.rm_ether.specs.Standing.{AreBounded};
 use crate::plan::Plan;
 use circular_buffer::HeapCircularBuffer;
 use rm_ether::Statistics;
+use rm_pool::Part;
 use rm_proto::Facts;
 use rm_status::{MOST_FRAMES, MOST_OCTETS};
 use rm_val::NoMemory;
@@ -18,8 +19,6 @@ pub const MOST_BUCKETS: u32 = 1024;
 /// The history that is taken of a row: its buckets, numbered from 1. They are closed late, once a frame of a later one comes.
 #[derive(Drop)]
 pub struct Run {
-    /// The index of the row, 0 where the storage is spare.
-    pub row: u32,
     /// How it is taken.
     pub plan: Plan,
     /// The interface whose frames it counts.
@@ -37,20 +36,10 @@ pub struct Run {
     ghost bounded: { AreBounded current },
 }
 
-impl Run {
-    ghost use Rattle.rm_ether.specs.Counted.{counted_from};
-    ghost use Rattle.rm_ether.specs.Standing.{counter_of};
-    ghost use Rattle.rm_ether.specs.declared.counter.Counter.{Counter};
-    ghost use Rattle.rm_history.specs.Buckets.{begin_of, end_of, complete_at};
-    ghost use Rattle.rm_history.specs.Run.{kept_counter};
-
-    /// Storage that is spare.
-    pub fn spare(alloc: Global) -> Result<Run, NoMemory>
-        ensures { IfOk result (λ run. (run.row ≡ 0) × (run.closed ≡ 0) × (run.current.packets ≡ 0) × (run.plan.start ≡ 0)) }
-    {
+impl Part for Run {
+    fn spare(alloc: Global) -> Result<Run, NoMemory> {
         let ring = HeapCircularBuffer::with_capacity(alloc, MOST_BUCKETS as usize);
         Ok(Run {
-            row: 0,
             plan: Plan {
                 start: 0,
                 seconds: 1,
@@ -62,14 +51,21 @@ impl Run {
             ring: ring.map_err(|_| NoMemory)?,
         })
     }
+}
 
-    /// Begins the history of a row.
-    pub fn begin(&mut self, row: u32, source: u32, plan: Plan)
+impl Run {
+    ghost use Rattle.rm_ether.specs.Counted.{counted_from};
+    ghost use Rattle.rm_ether.specs.Standing.{counter_of};
+    ghost use Rattle.rm_ether.specs.declared.counter.Counter.{Counter};
+    ghost use Rattle.rm_history.specs.Buckets.{begin_of, end_of, complete_at};
+    ghost use Rattle.rm_history.specs.Run.{kept_counter};
+
+    /// Begins the history of a row, in storage that is spare.
+    pub fn begin(&mut self, source: u32, plan: Plan)
         requires some { 1 ≤ plan.seconds }
         requires hour { plan.seconds ≤ 3600 }
         requires fewer { plan.kept ≤ MOST_BUCKETS }
         ensures buckets { (bucket : ℕ) (each : Counter) → 1 ≤ bucket → kept_counter self.new bucket each ≡ 0 }
-        ensures row { self.new.row ≡ row }
         ensures source { self.new.source ≡ source }
         ensures plan { self.new.plan ≡ plan }
         ensures closed { self.new.closed ≡ 0 }
@@ -78,7 +74,6 @@ impl Run {
         self.ring.clear();
         self.current = Statistics::new();
         self.closed = 0;
-        self.row = row;
         self.source = source;
         self.plan = plan;
     }
@@ -112,7 +107,6 @@ impl Run {
         ensures closed { self.new.closed ≡ complete_at self.old.plan moment }
         ensures plan { self.new.plan ≡ self.old.plan }
         ensures source { self.new.source ≡ self.old.source }
-        ensures row { self.new.row ≡ self.old.row }
         ensures packets { self.new.current.packets ≤ self.old.current.packets + 1 }
     {
         let length = 1000 * self.plan.seconds;
@@ -129,7 +123,6 @@ impl Run {
         ensures closed { self.new.closed ≡ count }
         ensures plan { self.new.plan ≡ self.old.plan }
         ensures source { self.new.source ≡ self.old.source }
-        ensures row { self.new.row ≡ self.old.row }
         ensures packets { self.new.current.packets ≤ self.old.current.packets }
     {
         if count - self.closed > MOST_BUCKETS {
@@ -150,7 +143,6 @@ impl Run {
         ensures closed { self.new.closed ≡ self.old.closed + 1 }
         ensures plan { self.new.plan ≡ self.old.plan }
         ensures source { self.new.source ≡ self.old.source }
-        ensures row { self.new.row ≡ self.old.row }
         ensures packets { self.new.current.packets ≤ self.old.current.packets }
     {
         self.ring.push_front(self.current);

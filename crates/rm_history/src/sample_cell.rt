@@ -8,16 +8,17 @@ ghost use Rattle.rm_ether.specs.Standing.{counter_of};
 ghost use Rattle.rm_ether.specs.declared.counter.Counter.TheVariants.{Octets, Pkts};
 ghost use Rattle.rm_history.specs.EtherHistory.{sample_entry};
 ghost use Rattle.rm_history.specs.Buckets.{begin_of, is_shown, utilization};
-ghost use Rattle.rm_history.specs.Runs.{kept, run_in, AreDistinct};
+ghost use Rattle.rm_pool.specs.Slots.{part_in};
 ghost use Rattle.rm_history.specs.Shown.{bucket_value, runs_table};
 
 use crate::plan::Plan;
 use crate::run::Run;
-use crate::runs::Runs;
 use crate::sample_column::{SAMPLE_COLUMNS, SampleColumn};
 use crate::samples::Samples;
 use rm_ether::{Counter, Statistics};
 use rm_model::Instance;
+use rm_nested::Nested;
+use rm_pool::Pool;
 use rm_status::{counter_32, instance_of, next_name};
 use rm_val::{Oid, Value};
 
@@ -33,9 +34,9 @@ pub(crate) fn sample_entry() -> Oid
 
 /// The value of the cell of etherHistory with that name at a moment in milliseconds, by the histories, whose rows are 65535 at
 /// most. None where the table has no such cell.
-pub(crate) fn sample_cell(runs: &Runs, name: &Oid, now: u32) -> Option<Value<'static>>
-    requires numbered { (row : ℕ) → is_some (run_in (kept runs.now) row) ≡ true → row ≤ 65535 }
-    ensures value { option_map val_of result ≡ cells_of (runs_table (kept runs.now) now) name.now }
+pub(crate) fn sample_cell(runs: &Pool<Run>, name: &Oid, now: u32) -> Option<Value<'static>>
+    requires numbered { (row : ℕ) → is_some (part_in runs.now row) ≡ true → row ≤ 65535 }
+    ensures value { option_map val_of result ≡ cells_of (runs_table runs.now now) name.now }
     ensures spelling { IfSome result (λ value. HasSpelling (val_of value)) }
 {
     let at = instance_of(name, &sample_entry(), &SAMPLE_COLUMNS)?;
@@ -46,27 +47,28 @@ pub(crate) fn sample_cell(runs: &Runs, name: &Oid, now: u32) -> Option<Value<'st
 /// milliseconds, by the histories, whose rows are 65535 at most. Its name is put into `out`. None where no cell of the table has a
 /// greater name; `out` is then as before.
 pub(crate) fn next_sample(
-    runs: &Runs,
+    runs: &Pool<Run>,
     name: &Oid,
     now: u32,
     out: &mut Oid,
 ) -> Option<Value<'static>>
-    requires numbered { (row : ℕ) → is_some (run_in (kept runs.now) row) ≡ true → row ≤ 65535 }
-    requires distinct { AreDistinct (kept runs.now) }
-    ensures next { IsNext (cells_of (runs_table (kept runs.now) now)) name.now (option_map val_of result) out.new }
+    requires numbered { (row : ℕ) → is_some (part_in runs.now row) ≡ true → row ≤ 65535 }
+    ensures next { IsNext (cells_of (runs_table runs.now now)) name.now (option_map val_of result) out.new }
     ensures stays { IfNone result (out.new ≡ out.old) }
     ensures name_spelling { OnSome result (IsSpellable out.new) }
     ensures spelling { IfSome result (λ value. HasSpelling (val_of value)) }
 {
-    let samples = Samples { runs };
+    let samples = Nested {
+        rows: Samples { runs },
+    };
     *out = next_name(&samples, &sample_entry(), &SAMPLE_COLUMNS, name, now)?;
     sample_cell(runs, out, now)
 }
 
 // The value at an instance, if such a bucket is shown.
-fn instance_value(runs: &Runs, at: &Instance, now: u32) -> Option<Value<'static>>
-    requires numbered { (row : ℕ) → is_some (run_in (kept runs.now) row) ≡ true → row ≤ 65535 }
-    ensures value { option_map val_of result ≡ cell_at (runs_table (kept runs.now) now) (Some at.now) }
+fn instance_value(runs: &Pool<Run>, at: &Instance, now: u32) -> Option<Value<'static>>
+    requires numbered { (row : ℕ) → is_some (part_in runs.now row) ≡ true → row ≤ 65535 }
+    ensures value { option_map val_of result ≡ cell_at (runs_table runs.now now) (Some at.now) }
     ensures spelling { IfSome result (λ value. HasSpelling (val_of value)) }
 {
     if at.index.len() != 2 {
@@ -74,9 +76,6 @@ fn instance_value(runs: &Runs, at: &Instance, now: u32) -> Option<Value<'static>
     }
     let row = at.index.at(0);
     let bucket = at.index.at(1);
-    if row == 0 {
-        return None;
-    }
     let run = runs.get(row)?;
     if !run.shows(bucket, now) {
         return None;

@@ -1,110 +1,51 @@
-// The buckets that are shown, as the search for the next cell sees them.
-ghost use Rattle.std.specs.Prelude.{◌≡◌, ℕ, [], ◌∷◌, ◌&&◌, nat_lt, filter, map, min, slice_index, refl};
-ghost use Rattle.std.specs.Option.{option_map};
-ghost use Rattle.std.specs.List.{reduce};
-ghost use Rattle.rm_model.specs.Names.{IsLeastAbove};
-ghost use Rattle.rm_history.specs.Runs.{kept, AreDistinct};
-ghost use Rattle.rm_history.specs.WellHeld.{distinct_prop};
-ghost use Rattle.rm_history.specs.Shown.{is_kept};
-ghost use Rattle.rm_history.specs.Walk.{shows_any};
+// The buckets that are shown, as the walk over nested rows sees them.
+ghost use Rattle.rm_model.specs.Numbers.{IsNumberAbove};
+ghost use Rattle.rm_history.specs.Shown.{shows};
 
 use crate::run::Run;
-use crate::runs::Runs;
-use rm_status::RowIndexes;
+use rm_nested::{InnerRows, first_number, one_number_above};
+use rm_pool::Pool;
 use rm_val::Oid;
 
-/// The buckets that histories show, in order of their rows and then of their numbers. No row has two histories.
-#[derive(Clone, Copy)]
+/// The buckets that histories show, by the rows of the histories and their numbers.
+#[derive(Clone, Copy, Drop)]
 pub(crate) struct Samples<'a> {
     /// The histories.
-    pub runs: &'a Runs,
-    ghost distinct: { AreDistinct (kept runs.now) } by { distinct_prop (kept runs.now) },
+    pub runs: &'a Pool<Run>,
 }
 
-/// The numbers of a bucket.
-#[derive(Clone, Copy)]
-struct Sample {
-    /// The index of its row.
-    row: u32,
-    /// Its number in the history of the row.
-    bucket: u32,
-}
+impl InnerRows for Samples<'_> {
+    ghost use Rattle.std.specs.Prelude.{refl};
+    ghost use Rattle.std.proofs.Common.{rules};
+    ghost use Rattle.rm_pool.specs.Slots.{has_part};
+    ghost use Rattle.rm_history.specs.Shown.{is_kept_of, no_bucket};
 
-impl RowIndexes for Samples<'_> {
-    ghost is_row = { λ s now index. is_kept (kept s.runs.now) now index };
+    ghost is_outer = { λ s row. has_part s.runs.now row };
 
-    ghost longest = { 2 };
+    ghost is_inner = { λ s now row index. is_kept_of s.runs.now now row index };
 
-    ghost not_empty = { λ s now. refl };
+    ghost longest = { 1 };
 
-    fn after(&self, index: &Oid, now: u32) -> Option<Oid> {
-        let next = self.sample_above(number_at(index, 0), number_at(index, 1), now)?;
-        Some(next.index())
+    fn row_after(&self, row: u32) -> Option<u32> {
+        self.runs.after(row)
     }
-}
 
-impl Sample {
-    ghost use Rattle.rm_history.specs.SampleNumbers.{sample_numbers};
-
-    // The numbers, as an index of etherHistory.
-    fn index(self) -> Oid
-        ensures { result ≡ sample_numbers self }
-    {
-        Oid::from_slice(&[self.row, self.bucket]).unwrap()
+    fn inner_after(&self, row: u32, index: &Oid, now: u32) -> Option<Oid> {
+        one_number_above(index, self.bucket_above(row, first_number(index), now))
     }
+
+    ghost not_empty = { λ s now row. refl };
+
+    ghost of_outer = { λ s now row index none. no_bucket s.runs.now now row index none };
+
+    ghost short = { Prim.search rules };
 }
 
 impl Samples<'_> {
-    ghost use Rattle.rm_history.specs.Walk.{IsNumberAbove, row_shows};
-    ghost use Rattle.rm_history.specs.SampleNumbers.{sample_numbers};
-
-    // The next bucket that is shown after one of a row: in the row itself, or the first one of a row above.
-    fn sample_above(&self, row: u32, bucket: u32, now: u32) -> Option<Sample>
-        ensures { IsLeastAbove (is_kept (kept self.now.runs.now) now) (row ∷ bucket ∷ []) (option_map sample_numbers result) }
-    {
-        if let Some(bucket) = self.bucket_above(row, bucket, now) {
-            return Some(Sample { row, bucket });
-        }
-        let row = self.row_above(row, now)?;
-        let bucket = self.bucket_above(row, 0, now)?;
-        Some(Sample { row, bucket })
-    }
-
-    // The least bucket of a row above one that is shown.
+    // The least bucket of a row above one that is shown at a moment in milliseconds.
     fn bucket_above(&self, row: u32, bucket: u32, now: u32) -> Option<u32>
-        ensures { IsNumberAbove (λ bucket. is_kept (kept self.now.runs.now) now (row ∷ bucket ∷ [])) bucket result }
+        ensures { IsNumberAbove (shows self.now.runs.now now row) bucket result }
     {
-        if row == 0 {
-            return None;
-        }
         self.runs.get(row)?.bucket_above(bucket, now)
-    }
-
-    // The least row above one that shows any bucket.
-    fn row_above(&self, row: u32, now: u32) -> Option<u32>
-        ensures { IsNumberAbove (row_shows (kept self.now.runs.now) now) row result }
-    {
-        least_row(self.runs.all(), row, now)
-    }
-}
-
-// The least row above one among those of some histories that show any bucket.
-fn least_row(runs: &[Run], row: u32, now: u32) -> Option<u32>
-    ensures { result ≡ reduce min (map (λ run. run.row) (filter (λ run. nat_lt row run.row && shows_any run.plan now) runs.now)) }
-{
-    runs.iter()
-        .filter(|run| row < run.row && run.shows_any(now))
-        .map(|run| run.row)
-        .min()
-}
-
-// The number of an index at a place, 0 where it has no more.
-fn number_at(index: &Oid, place: usize) -> u32
-    ensures { result ≡ slice_index index.now place }
-{
-    if place < index.len() {
-        index.at(place)
-    } else {
-        0
     }
 }

@@ -1,7 +1,7 @@
 // Which buckets of a history are shown.
 ghost use Rattle.std.specs.Prelude.{◌≡◌};
 ghost use Rattle.rm_history.specs.Buckets.{complete_at, is_shown};
-ghost use Rattle.rm_history.specs.Walk.{IsNumberAbove, shows_any};
+ghost use Rattle.rm_model.specs.Numbers.{IsNumberAbove};
 
 use crate::run::Run;
 
@@ -19,13 +19,6 @@ impl Run {
     {
         let complete = self.complete_at(now);
         1 <= bucket && bucket <= complete && complete - bucket < self.plan.kept
-    }
-
-    /// Whether any bucket is shown at a moment in milliseconds: the last one that is complete, then.
-    pub fn shows_any(&self, now: u32) -> bool
-        ensures { result ≡ shows_any self.now.plan now }
-    {
-        self.shows(self.complete_at(now), now)
     }
 
     /// The least bucket above one that is shown at a moment in milliseconds. None where none above is shown.

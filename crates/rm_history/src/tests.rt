@@ -7,6 +7,7 @@ mod walk;
 use crate::plan::Plan;
 use crate::run::Run;
 use rm_ether::Counter;
+use rm_pool::Part;
 use rm_proto::facts;
 use std::test::Fail;
 
@@ -22,7 +23,7 @@ fn a_frame_at_the_end_of_a_bucket(rt: HostRuntime) -> Result<(), Fail> {
     let alloc = rt.alloc();
     let frame = facts(&[], 60, false);
     let mut run = Run::spare(alloc)?;
-    run.begin(1, 1, PLAN);
+    run.begin(1, PLAN);
     run.frame(&frame, 11999);
     run.frame(&frame, 12000);
     assert_eq!(rt; run.closed, 1);
@@ -38,7 +39,7 @@ fn empty_buckets_after_a_gap(rt: HostRuntime) -> Result<(), Fail> {
     let alloc = rt.alloc();
     let frame = facts(&[], 60, false);
     let mut run = Run::spare(alloc)?;
-    run.begin(1, 1, PLAN);
+    run.begin(1, PLAN);
     run.frame(&frame, 2000);
     run.frame(&frame, 52000);
     assert_eq!(rt; run.closed, 5);
@@ -55,7 +56,7 @@ fn a_bucket_is_kept_until_1024_are_closed_after_it(rt: HostRuntime) -> Result<()
     let frame = facts(&[], 60, false);
     for (last, left) in [(10_242_000, 1), (10_252_000, 0)] {
         let mut run = Run::spare(alloc)?;
-        run.begin(1, 1, PLAN);
+        run.begin(1, PLAN);
         run.frame(&frame, 11999);
         run.frame(&frame, last);
         assert_eq!(rt; run.bucket(1).of(Counter::Pkts), left);

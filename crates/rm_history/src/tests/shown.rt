@@ -6,6 +6,7 @@ use crate::control_cell::control_cell;
 use crate::control_columns::ControlColumns;
 use crate::plan::Plan;
 use crate::run::Run;
+use rm_pool::Part;
 use rm_status::{Columns, Controls, State, StatusKind};
 use rm_val::{Oid, Value};
 use std::process::Abort;
@@ -61,7 +62,7 @@ const NUMBERS: [(u32, [i32; 3]); 5] = [
 #[test]
 fn the_last_complete_buckets_are_shown(rt: HostRuntime) -> Result<(), Fail> {
     let mut run = Run::spare(rt.alloc())?;
-    run.begin(1, 1, PLAN);
+    run.begin(1, PLAN);
     for (bucket, now, shown) in SHOWN {
         assert_eq!(rt; run.shows(bucket, now), shown, "{bucket} {now}");
     }

@@ -1,11 +1,13 @@
 // A walk over the buckets of two rows. What they show was worked out by hand from RFC 1757, section 5.
-ghost use Rattle.std.specs.Prelude.{◌≡◌, ℕ, ◌≤◌, true, None, is_some, length, IfOk};
-ghost use Rattle.std.specs.List.{AllByRecursion};
-ghost use Rattle.rm_history.specs.Runs.{kept, run_in, AreDistinct, Fits};
+ghost use Rattle.std.specs.Prelude.{◌≡◌, ℕ, ◌≤◌, true, is_some, IfOk};
+ghost use Rattle.rm_pool.specs.Slots.{part_in};
+ghost use Rattle.rm_history.specs.declared.run.TheConstants.{MOST_BUCKETS};
 
+use crate::counted_frame::CountedFrame;
 use crate::plan::Plan;
-use crate::runs::Runs;
+use crate::run::Run;
 use crate::sample_cell::{next_sample, sample_cell};
+use rm_pool::{Begin, Pool};
 use rm_proto::facts;
 use rm_val::{NoMemory, Oid, Value};
 use std::alloc::Global;
@@ -61,27 +63,40 @@ const COLUMNS: [(u32, u32, u32, u32); 24] = [
     (9, 20, 15, 0),
 ];
 
-// Storage of two histories.
-fn storage_of_two(alloc: Global) -> Result<Runs, NoMemory>
-    ensures none { IfOk result (λ runs. (row : ℕ) → 1 ≤ row → run_in (kept runs) row ≡ None) }
-    ensures two { IfOk result (λ runs. 2 ≤ length (kept runs)) }
-    ensures distinct { IfOk result (λ runs. AreDistinct (kept runs)) }
-    ensures fits { IfOk result (λ runs. AllByRecursion (Fits 12500 0) (kept runs)) }
-{
-    let mut runs = Runs::new();
-    runs.grow(alloc, 2)?;
-    Ok(runs)
+// A history of interface 1 that begins by a plan.
+#[derive(Drop)]
+struct ByPlan {
+    plan: Plan,
+    ghost some: { 1 ≤ plan.seconds },
+    ghost hour: { plan.seconds ≤ 3600 },
+    ghost fewer: { plan.kept ≤ MOST_BUCKETS },
+}
+
+impl Begin<Run> for ByPlan {
+    ghost use Rattle.rm_history.specs.Runs.{IsBegun};
+
+    ghost begun = { λ s row run. IsBegun 1 s.plan run };
+
+    fn begin(&self, _row: u32, run: &mut Run) {
+        run.begin(1, self.plan);
+    }
 }
 
 // The histories of the rows 3 and 9, with a frame at 12500.
-fn two_histories(alloc: Global) -> Result<Runs, NoMemory>
-    ensures numbered { IfOk result (λ runs. (row : ℕ) → is_some (run_in (kept runs) row) ≡ true → row ≤ 65535) }
-    ensures distinct { IfOk result (λ runs. AreDistinct (kept runs)) }
+fn two_histories(alloc: Global) -> Result<Pool<Run>, NoMemory>
+    ensures numbered { IfOk result (λ runs. (row : ℕ) → is_some (part_in runs row) ≡ true → row ≤ 65535) }
 {
-    let mut runs = storage_of_two(alloc)?;
-    runs.begin(3, 1, THIRD);
-    runs.begin(9, 1, NINTH);
-    runs.frame(&facts(&[], 262_140, false), 12_500);
+    let mut runs: Pool<Run> = Pool::new();
+    prove!(runs.len() <= 0);
+    runs.reserve(alloc)?;
+    runs.begin(3, &ByPlan { plan: THIRD });
+    prove!(runs.len() <= 1);
+    runs.grow(alloc, 2)?;
+    runs.begin(9, &ByPlan { plan: NINTH });
+    runs.change_each(&CountedFrame {
+        facts: &facts(&[], 262_140, false),
+        moment: 12_500,
+    });
     Ok(runs)
 }
 

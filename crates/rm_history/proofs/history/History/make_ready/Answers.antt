@@ -1,35 +1,24 @@
-use Rattle.std.proofs.Common.{◌∙◌, ap, sym, subst, arith}
-use Rattle.std.specs.Prelude.{is_some, IsTrue}
+use Rattle.std.proofs.Common.{sym, subst, arith}
+use Rattle.std.specs.Prelude.{IsTrue}
 use Rattle.rm_model.specs.ControlRows.{no_rows}
 use Rattle.rm_model.specs.Judgement.{rows_after}
 use Rattle.rm_status.specs.Rows.{rows_before}
 use Rattle.rm_history.specs.HistoryControl.{history_control}
 use Rattle.rm_history.specs.ControlColumns.{set_to}
-use Rattle.rm_history.specs.Runs.{kept}
 use Rattle.rm_history.specs.Standing.{IsHistory}
-use Rattle.rm_history.proofs.Storage.{valid_stored, activates_alike, count_after_alike}
+use Rattle.rm_history.proofs.Storage.{used_is, activates_alike, count_after_alike}
 use Rattle.rm_history.proofs.history.History.make_ready.Goals as goal
 
 pub returns-in_default-clause-ready : goal.returns-in_default-clause-ready
 returns-in_default-clause-ready g c =
     let old = c.args.self.now in
-    let stored = valid_stored old.rows c.len.ensures.rows (kept old.runs) old.held in
-    record { fine = c.requires.fine; enough = omega (arith, stored, c.in_default.ensures.none) }
-
-pub invariant_of-self : goal.invariant_of-self
-invariant_of-self g c =
-    let old = c.args.self.now in
-    record {
-      in_range = old.in_range;
-      distinct = c.grow.ensures.distinct old.distinct;
-      fits = c.grow.ensures.fits old.last old.frames old.fits;
-      held = λ row some. ap is_some (c.grow.ensures.same row some) ∙ old.held row some;
-    }
+    let used = used_is old.runs old.rows old.held in
+    record { fine = c.requires.fine; enough = omega (arith, used, c.len-2.ensures.used, c.in_default.ensures.none) }
 
 pub returns-in-Err-clause-stands : goal.returns-in-Err-clause-stands
 returns-in-Err-clause-stands g c settings journal stands = c.give_back.ensures.stands settings journal (record {
   rows = stands.rows;
-  histories = λ row some. subst (IsHistory settings journal row) (sym (c.grow.ensures.same row some)) (stands.histories row some);
+  histories = λ row. subst (IsHistory settings journal row) (sym (c.grow.ensures.parts row)) (stands.histories row);
 })
 
 pub returns-in-Err-clause-denied : goal.returns-in-Err-clause-denied
@@ -45,5 +34,5 @@ returns-in-Err-clause-denied g c settings journal stands =
       within = first.1;
       numbered = first.2;
       activates_row = subst (λ b. IsTrue b) (activates_alike history_control before others bs stands.rows.alike.states first.0) first.3;
-      several = omega (arith, count, c.requires.stocked, c.in-Err.ensures.err, c.count_after-count.ensures);
+      several = omega (arith, count, c.requires.stocked, c.in-Err.ensures.err, c.grow.ensures.more, c.count_after-count.ensures);
     }

@@ -9,7 +9,6 @@ invariant-loop-self l = record {
   within : l.self.closed ≤ l.count;
   plan : l.self.plan ≡ l.fn.self.plan;
   source : l.self.source ≡ l.fn.self.source;
-  row : l.self.row ≡ l.fn.self.row;
   packets : l.self.current.packets ≤ l.fn.self.current.packets;
 }
 

@@ -1,0 +1,30 @@
+// A frame that histories count.
+ghost use Rattle.std.specs.Prelude.{◌≤◌};
+ghost use Rattle.rm_status.specs.declared.bounds.TheConstants.{MOST_OCTETS};
+
+use crate::run::Run;
+use rm_pool::Change;
+use rm_proto::Facts;
+use rm_status::MOST_OCTETS;
+
+/// A frame that each history counts.
+#[derive(Drop)]
+pub(crate) struct CountedFrame<'a> {
+    /// What is known of it.
+    pub facts: &'a Facts,
+    /// The moment at which it passed, in milliseconds.
+    pub moment: u32,
+    ghost length: { facts.now.length ≤ MOST_OCTETS },
+}
+
+impl Change<Run> for CountedFrame<'_> {
+    ghost use Rattle.rm_history.specs.Runs.{IsReady, Counts};
+
+    ghost allows = { λ s run. IsReady s.moment run };
+
+    ghost makes = { λ s run new. Counts s.facts.now s.moment run new };
+
+    fn change(&self, run: &mut Run) {
+        run.frame(self.facts, self.moment);
+    }
+}
