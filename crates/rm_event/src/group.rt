@@ -1,5 +1,4 @@
 // The group event, as a group of objects.
-ghost use Rattle.std.specs.Prelude.{◌≡◌, ℕ, List};
 
 use crate::cells::{cell_of, next_of};
 use crate::event_cell::event_entry;

@@ -1,5 +1,5 @@
 // The group history, as a group of objects.
-ghost use Rattle.std.specs.Prelude.{◌≡◌, ℕ, List, ◌∷◌};
+ghost use Rattle.std.specs.Prelude.{◌∷◌};
 ghost use Rattle.std.specs.Option.{option_or};
 
 use crate::cells::{cell_of, next_of};

@@ -1,5 +1,5 @@
 // The group history.
-ghost use Rattle.std.specs.Prelude.{◌≡◌, ℕ, ◌+◌, ◌<◌, ◌≤◌, [], ◌∷◌, OnOk};
+ghost use Rattle.std.specs.Prelude.{◌≡◌, ◌+◌, ◌<◌, ◌≤◌, [], ◌∷◌, OnOk};
 ghost use Rattle.rm_status.specs.declared.bounds.TheConstants.{MOST_OCTETS, MOST_FRAMES};
 ghost use Rattle.rm_history.specs.ControlColumns.{AreAllInRange};
 ghost use Rattle.rm_pool.specs.Pools.{IsOfValid};

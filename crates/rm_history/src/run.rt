@@ -1,5 +1,5 @@
 // The history of a row.
-ghost use Rattle.std.specs.Prelude.{◌≡◌, ℕ, ◌+◌, ◌*◌, ◌<◌, ◌≤◌, [], nat_eq, if◌then◌else◌};
+ghost use Rattle.std.specs.Prelude.{◌≡◌, ℕ, ◌+◌, ◌*◌, ◌<◌, ◌≤◌, nat_eq, if◌then◌else◌};
 ghost use Rattle.rm_status.specs.declared.bounds.TheConstants.{MOST_OCTETS, MOST_FRAMES};
 ghost use Rattle.rm_history.specs.declared.run.TheConstants.{MOST_BUCKETS};
 ghost use Rattle.rm_ether.specs.Standing.{AreBounded};
@@ -57,7 +57,7 @@ impl Run {
     ghost use Rattle.rm_ether.specs.Counted.{counted_from};
     ghost use Rattle.rm_ether.specs.Standing.{counter_of};
     ghost use Rattle.rm_ether.specs.declared.counter.Counter.{Counter};
-    ghost use Rattle.rm_history.specs.Buckets.{begin_of, end_of, complete_at};
+    ghost use Rattle.rm_history.specs.Buckets.{end_of, complete_at};
     ghost use Rattle.rm_history.specs.Run.{kept_counter};
 
     /// Begins the history of a row, in storage that is spare.

@@ -1,13 +1,13 @@
 // The cells of etherHistory.
 ghost use Rattle.std.specs.Prelude.{◌≡◌, ℕ, ◌<◌, ◌≤◌, ◌^◌, true, is_some, IfSome, OnSome, IfNone};
-ghost use Rattle.std.specs.Option.{option_map, option_copied};
+ghost use Rattle.std.specs.Option.{option_map};
 ghost use Rattle.rm_val.specs.Val.{val_of};
 ghost use Rattle.rm_val.specs.Spellable.{IsSpellable, HasSpelling};
 ghost use Rattle.rm_model.specs.Cells.{cells_of, cell_at, IsNext};
 ghost use Rattle.rm_ether.specs.Standing.{counter_of};
 ghost use Rattle.rm_ether.specs.declared.counter.Counter.TheVariants.{Octets, Pkts};
 ghost use Rattle.rm_history.specs.EtherHistory.{sample_entry};
-ghost use Rattle.rm_history.specs.Buckets.{begin_of, is_shown, utilization};
+ghost use Rattle.rm_history.specs.Buckets.{begin_of, utilization};
 ghost use Rattle.rm_pool.specs.Slots.{part_in};
 ghost use Rattle.rm_history.specs.Shown.{bucket_value, runs_table};
 

@@ -1,5 +1,5 @@
 // Sets of eventTable, and what becomes of them.
-ghost use Rattle.std.specs.Prelude.{◌≡◌, ℕ, List, [], ◌∷◌, map, None, unwrap_or};
+ghost use Rattle.std.specs.Prelude.{◌≡◌, [], ◌∷◌, map, None, unwrap_or};
 ghost use Rattle.std.specs.Option.{option_map, option_or};
 ghost use Rattle.rm_val.specs.Val.{int, octets, null};
 ghost use Rattle.rm_event.specs.Group.{IsStocked};

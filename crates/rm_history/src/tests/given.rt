@@ -1,5 +1,5 @@
 // Sets of historyControl, and what becomes of them.
-ghost use Rattle.std.specs.Prelude.{◌≡◌, ◌≤◌, [], ◌∷◌, map, pos, None};
+ghost use Rattle.std.specs.Prelude.{◌≡◌, ◌≤◌, [], ◌∷◌, map, None};
 ghost use Rattle.rm_val.specs.Val.{int};
 ghost use Rattle.rm_history.specs.Group.{IsStocked, frames_given, last_given};
 

@@ -1,5 +1,5 @@
 // What is shown was worked out by hand from RFC 1757, section 5.
-ghost use Rattle.std.specs.Prelude.{◌≡◌, ◌≤◌};
+ghost use Rattle.std.specs.Prelude.{◌≤◌};
 ghost use Rattle.rm_history.specs.ControlColumns.{AreInRange, AreAllInRange};
 
 use crate::control_cell::control_cell;
