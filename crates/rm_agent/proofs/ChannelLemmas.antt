@@ -11,8 +11,8 @@ use Rattle.rm_model.specs.Journal.{Journal, assigns}
 use Rattle.rm_model.specs.Judgement.{Bindings, name_at, value_at, unless}
 use Rattle.rm_acts.specs.Channels.{channel_entry, channel_table, HasNoChannel}
 use Rattle.rm_acts.proofs.ChannelLaws.{of_another_entry, NamesNoChannel, none_named}
-use Rattle.rm_status.specs.Alone.{AreFineAlone}
-use Rattle.rm_status.specs.System.{system_entry, system_columns}
+use Rattle.rm_group.specs.Alone.{AreFineAlone}
+use Rattle.rm_group.specs.System.{system_entry, system_columns}
 use Rattle.rm_ether.specs.Columns.{ether_columns}
 use Rattle.rm_ether.specs.EtherStats.{ether_entry}
 use Rattle.rm_history.specs.Columns.{control_columns, sample_columns}

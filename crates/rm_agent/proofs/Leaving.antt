@@ -10,7 +10,7 @@ use Rattle.rm_model.specs.Journal.{Journal, assigns}
 use Rattle.rm_model.specs.Judgement.{Bindings, IsFirstFault}
 use Rattle.rm_model.specs.declared.verdict.Verdict.{Verdict}
 use Rattle.rm_model.specs.declared.verdict.Verdict.TheVariants.{Fine}
-use Rattle.rm_status.specs.Alone.{AreFineAlone}
+use Rattle.rm_group.specs.Alone.{AreFineAlone}
 use Rattle.rm_pdu.specs.Message.{Message}
 use Rattle.rm_pdu.specs.declared.kind.Kind.{Kind}
 use Rattle.rm_pdu.specs.declared.kind.Kind.TheVariants.{Get, Next, Response, Set, Bulk, Inform, Trap, Report}

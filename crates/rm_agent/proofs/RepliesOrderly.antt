@@ -16,8 +16,8 @@ use Rattle.rm_val.specs.declared.error.ErrorStatus.TheVariants.{NotWritable}
 use Rattle.rm_val.specs.Val.{Val}
 use Rattle.rm_model.specs.Cells.{is_of_column}
 use Rattle.rm_model.specs.Judgement.{unless}
-use Rattle.rm_status.specs.Alone.{read_only}
-use Rattle.rm_status.specs.System.{system_entry, system_columns}
+use Rattle.rm_group.specs.Alone.{read_only}
+use Rattle.rm_group.specs.System.{system_entry, system_columns}
 use Rattle.rm_ether.specs.EtherStats.{ether_stats, ether_beginning}
 use Rattle.rm_ether.specs.Group.{ether_alone}
 use Rattle.rm_history.specs.HistoryControl.{history_control}

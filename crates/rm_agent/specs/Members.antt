@@ -11,10 +11,10 @@ use Rattle.rm_model.specs.Cells.{Cells, cells_of, is_of_column}
 use Rattle.rm_model.specs.ControlRows.{no_rows}
 use Rattle.rm_model.specs.Judgement.{Bindings, second_pass, rows_after}
 use Rattle.rm_model.specs.Reserves.{Reserves as ReservesRow}
-use Rattle.rm_status.specs.Alone.{read_only}
-use Rattle.rm_status.specs.System.{system_entry, system_columns, system_table}
-use Rattle.rm_status.specs.declared.both.Both.{Both}
-use Rattle.rm_status.specs.declared.system.System.{System}
+use Rattle.rm_group.specs.Alone.{read_only}
+use Rattle.rm_group.specs.System.{system_entry, system_columns, system_table}
+use Rattle.rm_group.specs.declared.both.Both.{Both}
+use Rattle.rm_group.specs.declared.system.System.{System}
 use Rattle.rm_ether.specs.Columns.{ether_columns}
 use Rattle.rm_ether.specs.EtherStats.{ether_entry, ether_stats, ether_beginning, ether_table}
 use Rattle.rm_ether.specs.Group.{Stands as EtherStands, frames_given as ether_frames, last_given as ether_last, ether_alone}

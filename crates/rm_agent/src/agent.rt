@@ -8,11 +8,11 @@ use crate::groups::{Groups, all_groups, next_due};
 use crate::notification::notification;
 use crate::sampling::take;
 use crate::settings::Settings;
+use rm_group::{MOST_FRAMES, Passing, pass_whole};
 use rm_pcap::Frame;
 use rm_pdu::{Bindings, read_message};
 use rm_proto::facts;
 use rm_reply::{MOST_REPLY, Request, respond};
-use rm_status::{MOST_FRAMES, Passing, pass_whole};
 use rm_val::NoMemory;
 use std::alloc::Global;
 

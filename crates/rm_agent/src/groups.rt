@@ -16,8 +16,8 @@ use rm_acts::Firing;
 use rm_alarm::{Alarms, Sampled, Watched, reads_cells};
 use rm_ether::Ether;
 use rm_event::Events;
+use rm_group::{Both, System, sample_begins, take_whole};
 use rm_history::History;
-use rm_status::{Both, System, sample_begins, take_whole};
 use rm_val::NoMemory;
 use std::alloc::Global;
 

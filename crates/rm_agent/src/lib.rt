@@ -19,6 +19,6 @@ pub use laws::{
     advance_is_orderly, every_advance, every_reply, frame_is_orderly, one_advance, one_reply,
     reply_is_orderly,
 };
+pub use rm_group::MOST_FRAMES;
 pub use rm_reply::MOST_REPLY;
-pub use rm_status::MOST_FRAMES;
 pub use settings::Settings;

@@ -23,7 +23,8 @@ use rm_acts::Firing;
 use rm_alarm::column::{FALLING_EVENT_INDEX, RISING_EVENT_INDEX};
 use rm_alarm::{Alarms, Sampled, column_name};
 use rm_event::Fired;
-use rm_status::{Group, natural_in};
+use rm_group::Group;
+use rm_status::natural_in;
 use rm_val::Value;
 
 /// What a sample came to, the event that it asked for, which is 0 for none, and what became of that event.

@@ -1,7 +1,7 @@
 -- The sample that falls due first.
 use Rattle.std.proofs.Common.{◌≡◌, inl, inr, ℕ, Option, Some, None, refl, sym, ◌∙◌}
 use Rattle.rm_acts.specs.Alarms.{IsNextDue}
-use Rattle.rm_status.specs.Due.{ComesFirst, IsFirst}
+use Rattle.rm_group.specs.Due.{ComesFirst, IsFirst}
 
 pub sample_due : (due : ℕ → Option ℕ) (moment number : ℕ) → IsNextDue due (Some (moment, number))
     → IsFirst (λ one. (one.kind ≡ 1) × (due one.number ≡ Some one.moment)) (Some (record { moment = moment; kind = 1; number = number }))

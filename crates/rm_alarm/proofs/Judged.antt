@@ -8,7 +8,7 @@ use Rattle.rm_model.specs.ControlTable.{default_of}
 use Rattle.rm_model.specs.ControlRows.{Beginning, cell_name, is_absent}
 use Rattle.rm_model.specs.declared.verdict.Verdict.{Verdict}
 use Rattle.rm_model.specs.declared.verdict.Verdict.TheVariants.{Fine, Wrong}
-use Rattle.rm_status.specs.Alone.{IsWithin}
+use Rattle.rm_group.specs.Alone.{IsWithin}
 use Rattle.rm_model.specs.Judgement.{Bindings, name_at, value_at, place_of, IsFirstFault}
 use Rattle.rm_model.specs.Alike.{AreAlike}
 use Rattle.rm_model.specs.Readings.{Readings}

@@ -25,7 +25,7 @@ use Rattle.rm_model.specs.declared.row.State.TheVariants.{UnderCreation, Valid, 
 use Rattle.rm_model.specs.declared.verdict.Verdict.TheVariants.{Fine}
 use Rattle.rm_status.specs.declared.row.Row.{Row}
 use Rattle.rm_status.specs.Rows.{row_in, rows_before}
-use Rattle.rm_status.specs.Alone.{AreFineAlone}
+use Rattle.rm_group.specs.Alone.{AreFineAlone}
 use Rattle.rm_alarm.specs.declared.alarms.Alarms.{Alarms}
 use Rattle.rm_alarm.specs.declared.row.AlarmRow.{AlarmRow}
 use Rattle.rm_alarm.specs.Rows.{set_to}

@@ -9,7 +9,7 @@ use crate::alarms::Alarms;
 use crate::cell::entry;
 use crate::change::{Forgetting, ReadingBase, Settling};
 use crate::column::STATUS;
-use rm_status::{Assigns, Look};
+use rm_group::{Assigns, Look};
 
 impl Alarms {
     /// Remembers for a Set, with which nothing is wrong, what the variables of the alarms read that it may make valid, at its

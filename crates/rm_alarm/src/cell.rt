@@ -15,8 +15,9 @@ use crate::column::{
 };
 use crate::course::Course;
 use crate::row::AlarmRow;
-use rm_model::Instance;
-use rm_status::{Controls, StatusKind, instance_of};
+use rm_group::instance_of;
+use rm_model::{Instance, StatusKind};
+use rm_status::Controls;
 use rm_val::{Oid, Value};
 
 /// The numbers of the columns.

@@ -6,7 +6,9 @@ use crate::cell::variable_name;
 use crate::course::Course;
 use crate::given::name_given;
 use crate::row::AlarmRow;
-use rm_status::{Assigns, Change, Look, State};
+use rm_group::{Assigns, Look};
+use rm_model::State;
+use rm_status::Change;
 use rm_val::Oid;
 
 /// Each row remembers what the variable reads at a moment, in milliseconds, that it has with what a Set gives.

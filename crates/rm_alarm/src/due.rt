@@ -9,7 +9,8 @@ ghost use Rattle.rm_alarm.specs.Due.{nearer, due_at};
 
 use crate::alarms::Alarms;
 use crate::row::AlarmRow;
-use rm_status::{Controls, Due, FallsDue, SAMPLES};
+use rm_group::{Due, FallsDue, SAMPLES};
+use rm_status::Controls;
 
 impl Alarms {
     /// The sample that is taken next: its moment, in milliseconds, and the number of the alarm. It is the earliest, and of

@@ -3,9 +3,8 @@ use crate::alarms::Alarms;
 use crate::cell::{COLUMNS, cell_of, entry};
 use crate::column::STATUS;
 use crate::judging::judge_variables;
-use rm_status::{
-    Assigns, Denied, Group, Look, Objects, Verdict, is_of_column, lower_verdict, next_name,
-};
+use rm_group::{Assigns, Denied, Group, Look, Objects, is_of_column, lower_verdict, next_name};
+use rm_model::Verdict;
 use rm_val::{Oid, Value};
 use std::alloc::Global;
 

@@ -11,8 +11,9 @@ use crate::cell::entry;
 use crate::change::variable_with;
 use crate::column::STATUS;
 use crate::row::AlarmRow;
-use rm_model::{Place, Verdict};
-use rm_status::{Assigns, Controls, Look, State, place_under};
+use rm_group::{Assigns, Look};
+use rm_model::{Place, State, Verdict};
+use rm_status::{Controls, place_under};
 use rm_val::{ErrorStatus, Value};
 
 /// Names the first binding that makes an alarm valid of whose variable there is no reading at a moment, in milliseconds.

@@ -8,7 +8,7 @@ ghost use Rattle.rm_acts.specs.Crossings.{Threshold, Bounds, crosses, IsCrossing
 ghost use Rattle.rm_acts.specs.Recurring.{sampling};
 ghost use Rattle.rm_alarm.specs.Watched.{ReadsFrom};
 
-use rm_status::Readable;
+use rm_group::Readable;
 
 /// A law: a sample crosses a threshold exactly where it reaches the threshold; the one before it didn't, or it is the first
 /// one and may cross it; and between each earlier crossing of the threshold and it a sample reached the other threshold.

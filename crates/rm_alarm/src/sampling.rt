@@ -16,8 +16,9 @@ ghost use Rattle.rm_alarm.specs.Taking.{HasTaken};
 use crate::alarms::Alarms;
 use crate::row::AlarmRow;
 use rm_acts::Sampled;
-use rm_model::Reading;
-use rm_status::{Controls, Look, StatusKind};
+use rm_group::Look;
+use rm_model::{Reading, StatusKind};
+use rm_status::Controls;
 
 impl Alarms {
     /// No alarms.

@@ -16,10 +16,11 @@ ghost use Rattle.rm_alarm.specs.Watched.{AreWatched, ArePrepared, number_read};
 use crate::alarms::Alarms;
 use crate::laws::frames_pass;
 use rm_acts::{Firing, Sampled};
-use rm_status::{
-    Assigns, Denied, Group, Look, Objects, Passing, Readable, Sight, Steps, Unsampled, Verdict,
+use rm_group::{
+    Assigns, Denied, Group, Look, Objects, Passing, Readable, Sight, Steps, Unsampled,
     choose_nearer, lower_verdict,
 };
+use rm_model::Verdict;
 use rm_val::{Oid, Value};
 use std::alloc::Global;
 

@@ -2,7 +2,7 @@
 use Rattle.std.proofs.Common.{◌≡◌, ◌+◌, ◌^◌, ◌<◌, ◌≤◌, ◌∙◌, Bool, true, false, arith}
 use Rattle.std.proofs.Math.Nat.{mod-eq_of_lt}
 use Rattle.rm_proto.specs.declared.known.Facts.{Facts}
-use Rattle.rm_status.specs.declared.bounds.TheConstants.{MOST_OCTETS, MOST_FRAMES}
+use Rattle.rm_group.specs.declared.bounds.TheConstants.{MOST_OCTETS, MOST_FRAMES}
 use Rattle.rm_ether.specs.declared.counter.Counter.{Counter}
 use Rattle.rm_ether.specs.declared.counter.Counter.TheVariants.{DropEvents, Octets, Pkts, BroadcastPkts, MulticastPkts, CRCAlignErrors, UndersizePkts, OversizePkts, Fragments, Jabbers, Collisions, Pkts64Octets, Pkts65to127Octets, Pkts128to255Octets, Pkts256to511Octets, Pkts512to1023Octets, Pkts1024to1518Octets}
 use Rattle.rm_ether.specs.declared.statistics.Statistics.{Statistics}

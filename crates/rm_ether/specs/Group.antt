@@ -8,7 +8,7 @@ use Rattle.rm_model.specs.Judgement.{Bindings, place_of, alone_fault, second_pas
 use Rattle.rm_model.specs.declared.verdict.Verdict.TheVariants.{Fine}
 use Rattle.rm_status.specs.declared.row.Row.{Row}
 use Rattle.rm_status.specs.Rows.{row_in, rows_before}
-use Rattle.rm_status.specs.Alone.{AreFineAlone}
+use Rattle.rm_group.specs.Alone.{AreFineAlone}
 use Rattle.rm_status.specs.RowsAfter.{AreRowsAfter}
 use Rattle.rm_ether.specs.declared.counter.Counter.{Counter}
 use Rattle.rm_ether.specs.declared.row.StatisticsRow.{StatisticsRow}

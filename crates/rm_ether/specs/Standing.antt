@@ -1,7 +1,7 @@
 -- The sums of what frames add to the counters of a row, each modulo 2 ^ 64.
 use Rattle.std.specs.Prelude.{ℕ, ◌+◌, ◌*◌, ◌%◌, ◌^◌, ◌≤◌}
 use Rattle.rm_proto.specs.declared.known.Facts.{Facts}
-use Rattle.rm_status.specs.declared.bounds.TheConstants.{MOST_OCTETS}
+use Rattle.rm_group.specs.declared.bounds.TheConstants.{MOST_OCTETS}
 use Rattle.rm_ether.specs.declared.counter.Counter.{Counter}
 use Rattle.rm_ether.specs.declared.counter.Counter.TheVariants.{DropEvents, Octets, Pkts, BroadcastPkts, MulticastPkts, CRCAlignErrors, UndersizePkts, OversizePkts, Fragments, Jabbers, Collisions, Pkts64Octets, Pkts65to127Octets, Pkts128to255Octets, Pkts256to511Octets, Pkts512to1023Octets, Pkts1024to1518Octets}
 use Rattle.rm_ether.specs.declared.statistics.Statistics.{Statistics}

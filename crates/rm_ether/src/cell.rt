@@ -9,10 +9,9 @@ ghost use Rattle.rm_ether.specs.Shown.{row_value, rows_table};
 
 use crate::column::{COLUMNS, Column};
 use crate::row::StatisticsRow;
-use rm_model::Instance;
-use rm_status::{
-    Controls, State, StatusKind, counter_32, instance_of, interface_name, status_number,
-};
+use rm_group::instance_of;
+use rm_model::{Instance, State, StatusKind};
+use rm_status::{Controls, counter_32, interface_name, status_number};
 use rm_val::{Oid, Value};
 
 /// The identifier of etherStatsEntry.

@@ -3,8 +3,9 @@ ghost use Rattle.rm_ether.specs.StatisticsRows.{counting, resting};
 
 use crate::row::StatisticsRow;
 use crate::statistics::Statistics;
+use rm_model::State;
 use rm_proto::Facts;
-use rm_status::{Change, State};
+use rm_status::Change;
 
 /// A frame is counted in each valid row whose data source is the interface of the frame.
 #[derive(Clone, Copy)]

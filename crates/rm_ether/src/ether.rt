@@ -6,11 +6,13 @@ use crate::change::{Counting, Resting};
 use crate::column::COLUMNS;
 use crate::row::StatisticsRow;
 use rm_acts::Firing;
-use rm_proto::Facts;
-use rm_status::{
-    Assigns, Controls, Denied, Group, Look, MOST_FRAMES, Objects, Passing, Readable, State,
-    StatusKind, Steps, Unsampled, Verdict, is_of_column, next_name,
+use rm_group::{
+    Assigns, Denied, Group, Look, MOST_FRAMES, Objects, Passing, Readable, Steps, Unsampled,
+    is_of_column, next_name,
 };
+use rm_model::{State, StatusKind, Verdict};
+use rm_proto::Facts;
+use rm_status::Controls;
 use rm_val::{Oid, Value};
 use std::alloc::Global;
 

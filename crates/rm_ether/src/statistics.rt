@@ -3,8 +3,8 @@ ghost use Rattle.std.specs.Prelude.{◌≡◌, ◌+◌, ◌<◌, ◌≤◌};
 
 use crate::added::add;
 use crate::counter::Counter;
+use rm_group::{MOST_FRAMES, MOST_OCTETS};
 use rm_proto::Facts;
-use rm_status::{MOST_FRAMES, MOST_OCTETS};
 
 /// The sums over frames that a row of etherStats or of etherHistory counts, each modulo 2^64.
 #[derive(Clone, Copy, Default)]

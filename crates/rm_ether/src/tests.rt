@@ -3,8 +3,8 @@ mod given;
 mod sets;
 
 use crate::Ether;
+use rm_group::{Group, Objects};
 use rm_proto::{Facts, facts};
-use rm_status::{Group, Objects};
 use rm_val::{Oid, Value};
 use std::process::Abort;
 use std::test::Fail;

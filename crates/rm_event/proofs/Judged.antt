@@ -9,7 +9,7 @@ use Rattle.rm_model.specs.Judgement.{Bindings, name_at, place_of, count_below, f
 use Rattle.rm_model.specs.Reserves.{activates_at, count_valid_after, Reserves}
 use Rattle.rm_model.specs.declared.place.Place.{Place}
 use Rattle.rm_model.specs.declared.place.Place.TheVariants.{Outside, Entry, Column, Cell}
-use Rattle.rm_status.specs.Alone.{AreFineAlone}
+use Rattle.rm_group.specs.Alone.{AreFineAlone}
 use Rattle.rm_event.specs.EventTable.{event_table}
 use Rattle.rm_event.specs.Group.{event_alone}
 

@@ -10,7 +10,7 @@ use Rattle.rm_model.specs.Judgement.{Bindings, place_of, alone_fault, first_pass
 use Rattle.rm_model.specs.Reserves.{count_valid, count_valid_after}
 use Rattle.rm_model.specs.declared.verdict.Verdict.TheVariants.{Fine}
 use Rattle.rm_status.specs.Rows.{rows_before}
-use Rattle.rm_status.specs.Alone.{read_only}
+use Rattle.rm_group.specs.Alone.{read_only}
 use Rattle.rm_event.specs.declared.events.Events.{Events}
 use Rattle.rm_event.specs.Columns.{event_columns, log_columns}
 use Rattle.rm_event.specs.EventTable.{event_entry, event_table}

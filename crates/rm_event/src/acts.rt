@@ -7,7 +7,7 @@ ghost use Rattle.rm_event.specs.Acts.{begun, ended};
 
 use crate::events::Events;
 use rm_acts::Firing;
-use rm_status::{Passing, Steps, Unsampled};
+use rm_group::{Passing, Steps, Unsampled};
 
 impl Steps for Events {
     ghost under_way = { λ s settings act earlier some. (is_set act ≡ false) × IsUnderWay s settings act earlier some };

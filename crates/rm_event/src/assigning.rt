@@ -13,7 +13,7 @@ use crate::event_cell::event_entry;
 use crate::event_row::EVENT_STATUS;
 use crate::events::Events;
 use crate::log::NoEntries;
-use rm_status::{Assigns, Denied};
+use rm_group::{Assigns, Denied};
 use std::alloc::Global;
 
 impl Events {

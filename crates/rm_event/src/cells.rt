@@ -11,8 +11,9 @@ use crate::event_cell::{event_cell, next_event};
 use crate::event_row::EventRow;
 use crate::log::Log;
 use crate::log_cell::{log_cell, next_entry};
+use rm_group::choose_nearer;
 use rm_pool::Pool;
-use rm_status::{Controls, choose_nearer};
+use rm_status::Controls;
 use rm_val::{Oid, Value};
 
 /// The value of the cell with that name, by the rows and the logs, whose rows are 65535 at most. None where neither table has

@@ -9,9 +9,10 @@ ghost use Rattle.rm_event.specs.Shown.{sent_in, rows_table};
 
 use crate::event_row::{EVENT_ENTRY, EVENT_SHOWN, EVENT_STATUS, EventRow};
 use crate::log::Log;
-use rm_model::Instance;
+use rm_group::{instance_of, next_name};
+use rm_model::{Instance, StatusKind};
 use rm_pool::Pool;
-use rm_status::{Controls, StatusKind, instance_of, next_name};
+use rm_status::Controls;
 use rm_val::{Oid, Value};
 
 /// The identifier of eventEntry.

@@ -21,8 +21,9 @@ use crate::event_type::EventType;
 use crate::events::Events;
 use crate::fired::Fired;
 use crate::log::Log;
+use rm_model::{State, StatusKind};
 use rm_pool::Pool;
-use rm_status::{Controls, State, StatusKind};
+use rm_status::Controls;
 use rm_val::NoMemory;
 use std::alloc::Global;
 

@@ -6,9 +6,10 @@ use crate::event_row::{EVENT_SHOWN, EVENT_STATUS};
 use crate::events::Events;
 use crate::log_cell::log_entry;
 use crate::log_column::LOG_COLUMNS;
-use rm_status::{
-    Assigns, Denied, Group, Look, Objects, Verdict, is_of_column, judge_read_only, lower_verdict,
+use rm_group::{
+    Assigns, Denied, Group, Look, Objects, is_of_column, judge_read_only, lower_verdict,
 };
+use rm_model::Verdict;
 use rm_val::{Oid, Value};
 use std::alloc::Global;
 

@@ -12,10 +12,11 @@ use crate::entries::Entries;
 use crate::event_row::EventRow;
 use crate::log::Log;
 use crate::log_column::{LOG_COLUMNS, LogColumn};
+use rm_group::{instance_of, next_name};
 use rm_model::Instance;
 use rm_nested::Nested;
 use rm_pool::Pool;
-use rm_status::{Controls, instance_of, next_name};
+use rm_status::Controls;
 use rm_val::{Oid, Value};
 
 /// The identifier of logEntry.

@@ -6,7 +6,7 @@ ghost use Rattle.rm_event.specs.Group.{IsStocked};
 
 use crate::tests::given::{Given, answer, nothing, number, text};
 use crate::{Events, Fired};
-use rm_status::{Group, Objects};
+use rm_group::{Group, Objects};
 use rm_val::{ErrorStatus, Oid, Value};
 use std::alloc::Global;
 use std::process::Abort;

@@ -3,7 +3,7 @@ use Rattle.std.proofs.Common.{◌≡◌, ℕ, ◌+◌, ◌-◌, ◌*◌, ◌/◌
 use Rattle.std.specs.Prelude.{is_some}
 use Rattle.std.proofs.Math.Nat.{mul-div-le, le-div_iff_mul-le, mul_comm}
 use Rattle.rm_proto.specs.declared.known.Facts.{Facts}
-use Rattle.rm_status.specs.declared.bounds.TheConstants.{MOST_FRAMES}
+use Rattle.rm_group.specs.declared.bounds.TheConstants.{MOST_FRAMES}
 use Rattle.rm_model.specs.Settings.{Settings}
 use Rattle.rm_model.specs.Journal.{Frame, Journal, passes}
 use Rattle.rm_model.specs.FrameFacts.{frame_facts}

@@ -11,7 +11,7 @@ use Rattle.rm_model.specs.Judgement.{Bindings, place_of, alone_fault, second_pas
 use Rattle.rm_model.specs.Reserves.{count_valid, count_valid_after}
 use Rattle.rm_model.specs.declared.verdict.Verdict.TheVariants.{Fine}
 use Rattle.rm_status.specs.Rows.{rows_before}
-use Rattle.rm_status.specs.Alone.{AreFineAlone, read_only}
+use Rattle.rm_group.specs.Alone.{AreFineAlone, read_only}
 use Rattle.rm_status.specs.RowsAfter.{AreRowsAfter}
 use Rattle.rm_history.specs.declared.history.History.{History}
 use Rattle.rm_history.specs.Columns.{control_columns, sample_columns}

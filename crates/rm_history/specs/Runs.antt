@@ -2,7 +2,7 @@
 use Rattle.std.specs.Prelude.{◌≡◌, ℕ, ◌+◌, ◌<◌, ◌≤◌, List, nat_eq, if◌then◌else◌}
 use Rattle.rm_proto.specs.declared.known.Facts.{Facts}
 use Rattle.rm_ether.specs.declared.counter.Counter.{Counter}
-use Rattle.rm_status.specs.declared.bounds.TheConstants.{MOST_FRAMES}
+use Rattle.rm_group.specs.declared.bounds.TheConstants.{MOST_FRAMES}
 use Rattle.rm_ether.specs.Counted.{counted_from}
 use Rattle.rm_pool.specs.declared.slot.Slot.{Slot}
 use Rattle.rm_pool.specs.Slots.{part_in}

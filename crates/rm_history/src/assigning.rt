@@ -8,7 +8,7 @@ use crate::beginning::Beginning;
 use crate::control_cell::control_entry;
 use crate::control_columns::STATUS;
 use crate::history::History;
-use rm_status::Assigns;
+use rm_group::Assigns;
 
 impl History {
     /// Does a Set, for which the group was made ready, at a moment in milliseconds. A row that becomes valid begins its history

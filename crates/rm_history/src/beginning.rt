@@ -8,8 +8,9 @@ ghost use Rattle.rm_history.specs.Begun.{plan_from, valid_columns};
 use crate::control_columns::ControlColumns;
 use crate::plan::Plan;
 use crate::run::{MOST_BUCKETS, Run};
+use rm_model::State;
 use rm_pool::Begin;
-use rm_status::{Controls, State};
+use rm_status::Controls;
 
 /// How the history of each valid row begins that has none: by the columns of the row, at a moment.
 #[derive(Drop)]

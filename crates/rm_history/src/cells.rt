@@ -12,8 +12,9 @@ use crate::control_cell::{control_cell, next_control};
 use crate::control_columns::ControlColumns;
 use crate::run::Run;
 use crate::sample_cell::{next_sample, sample_cell};
+use rm_group::choose_nearer;
 use rm_pool::Pool;
-use rm_status::{Controls, choose_nearer};
+use rm_status::Controls;
 use rm_val::{Oid, Value};
 
 /// The value of the cell with that name at a moment in milliseconds, by the rows and by the histories, whose rows are 65535 at

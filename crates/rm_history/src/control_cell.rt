@@ -10,10 +10,9 @@ ghost use Rattle.rm_history.specs.Shown.{granted_in, row_value, rows_table};
 use crate::control_column::{CONTROL_COLUMNS, ControlColumn};
 use crate::control_columns::ControlColumns;
 use crate::run::MOST_BUCKETS;
-use rm_model::Instance;
-use rm_status::{
-    Controls, State, StatusKind, instance_of, interface_name, next_name, status_number,
-};
+use rm_group::{instance_of, next_name};
+use rm_model::{Instance, State, StatusKind};
+use rm_status::{Controls, interface_name, status_number};
 use rm_val::{Oid, Value};
 
 /// The identifier of historyControlEntry.

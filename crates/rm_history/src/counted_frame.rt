@@ -1,11 +1,11 @@
 // A frame that histories count.
 ghost use Rattle.std.specs.Prelude.{◌≤◌};
-ghost use Rattle.rm_status.specs.declared.bounds.TheConstants.{MOST_OCTETS};
+ghost use Rattle.rm_group.specs.declared.bounds.TheConstants.{MOST_OCTETS};
 
 use crate::run::Run;
+use rm_group::MOST_OCTETS;
 use rm_pool::Change;
 use rm_proto::Facts;
-use rm_status::MOST_OCTETS;
 
 /// A frame that each history counts.
 #[derive(Drop)]

@@ -10,10 +10,11 @@ use crate::history::History;
 use crate::sample_cell::sample_entry;
 use crate::sample_column::SAMPLE_COLUMNS;
 use rm_acts::Firing;
-use rm_status::{
-    Assigns, Denied, Group, Look, Objects, Passing, Readable, Steps, Unsampled, Verdict,
-    is_of_column, judge_read_only, lower_verdict,
+use rm_group::{
+    Assigns, Denied, Group, Look, Objects, Passing, Readable, Steps, Unsampled, is_of_column,
+    judge_read_only, lower_verdict,
 };
+use rm_model::Verdict;
 use rm_val::{Oid, Value};
 use std::alloc::Global;
 

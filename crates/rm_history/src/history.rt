@@ -1,6 +1,6 @@
 // The group history.
 ghost use Rattle.std.specs.Prelude.{◌≡◌, ◌+◌, ◌<◌, ◌≤◌, [], ◌∷◌, OnOk};
-ghost use Rattle.rm_status.specs.declared.bounds.TheConstants.{MOST_OCTETS, MOST_FRAMES};
+ghost use Rattle.rm_group.specs.declared.bounds.TheConstants.{MOST_OCTETS, MOST_FRAMES};
 ghost use Rattle.rm_history.specs.ControlColumns.{AreAllInRange};
 ghost use Rattle.rm_pool.specs.Pools.{IsOfValid};
 ghost use Rattle.rm_history.specs.Runs.{AllFit};
@@ -9,9 +9,11 @@ ghost use Rattle.rm_history.specs.WellHeld.{all_in_range_prop, all_fit_prop, of_
 use crate::control_columns::ControlColumns;
 use crate::counted_frame::CountedFrame;
 use crate::run::Run;
+use rm_group::{MOST_FRAMES, MOST_OCTETS};
+use rm_model::StatusKind;
 use rm_pool::Pool;
 use rm_proto::Facts;
-use rm_status::{Controls, MOST_FRAMES, MOST_OCTETS, StatusKind};
+use rm_status::Controls;
 use rm_val::NoMemory;
 use std::alloc::Global;
 

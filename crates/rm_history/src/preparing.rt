@@ -13,7 +13,7 @@ ghost use Rattle.rm_history.specs.Group.{Stands, AreFine, IsStocked, IsPrepared,
 use crate::control_cell::control_entry;
 use crate::control_columns::STATUS;
 use crate::history::History;
-use rm_status::{Assigns, Denied};
+use rm_group::{Assigns, Denied};
 use rm_val::NoMemory;
 use std::alloc::Global;
 

@@ -1,15 +1,15 @@
 // The history of a row.
 ghost use Rattle.std.specs.Prelude.{◌≡◌, ℕ, ◌+◌, ◌*◌, ◌<◌, ◌≤◌, nat_eq, if◌then◌else◌};
-ghost use Rattle.rm_status.specs.declared.bounds.TheConstants.{MOST_OCTETS, MOST_FRAMES};
+ghost use Rattle.rm_group.specs.declared.bounds.TheConstants.{MOST_OCTETS, MOST_FRAMES};
 ghost use Rattle.rm_history.specs.declared.run.TheConstants.{MOST_BUCKETS};
 ghost use Rattle.rm_ether.specs.Standing.{AreBounded};
 
 use crate::plan::Plan;
 use circular_buffer::HeapCircularBuffer;
 use rm_ether::Statistics;
+use rm_group::{MOST_FRAMES, MOST_OCTETS};
 use rm_pool::Part;
 use rm_proto::Facts;
-use rm_status::{MOST_FRAMES, MOST_OCTETS};
 use rm_val::NoMemory;
 use std::alloc::Global;
 

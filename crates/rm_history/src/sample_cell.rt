@@ -16,10 +16,11 @@ use crate::run::Run;
 use crate::sample_column::{SAMPLE_COLUMNS, SampleColumn};
 use crate::samples::Samples;
 use rm_ether::{Counter, Statistics};
+use rm_group::{instance_of, next_name};
 use rm_model::Instance;
 use rm_nested::Nested;
 use rm_pool::Pool;
-use rm_status::{counter_32, instance_of, next_name};
+use rm_status::counter_32;
 use rm_val::{Oid, Value};
 
 /// A utilization of 100 percent, in hundredths of a percent.

@@ -5,7 +5,7 @@ ghost use Rattle.rm_nested.specs.Nested.{is_nested, IsFirstAbove};
 
 use crate::inner_rows::InnerRows;
 use crate::number::first_number;
-use rm_status::{RowIndexes, append_from, numbers_from};
+use rm_group::{RowIndexes, append_from, numbers_from};
 use rm_val::Oid;
 
 /// Inner rows, in order of their control rows and then of their inner indexes.

@@ -3,7 +3,7 @@ ghost use Rattle.rm_model.specs.Numbers.{IsNumberAbove};
 ghost use Rattle.rm_nested.specs.MadeUp.{is_rank};
 
 use crate::{InnerRows, Nested, first_number, one_number_above};
-use rm_status::RowIndexes;
+use rm_group::RowIndexes;
 use rm_val::Oid;
 use std::test::Fail;
 

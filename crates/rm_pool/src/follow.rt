@@ -11,7 +11,8 @@ use crate::begin::Begin;
 use crate::part::Part;
 use crate::pool::Pool;
 use crate::slot::Slot;
-use rm_status::{Columns, Controls, State};
+use rm_model::State;
+use rm_status::{Columns, Controls};
 
 impl<P: Part> Pool<P> {
     /// Makes the parts spare whose rows aren't valid, and begins one for each valid row that has none. There is storage for all

@@ -10,7 +10,7 @@ use Rattle.rm_model.specs.declared.verdict.Verdict.TheVariants.{Fine, Wrong}
 use Rattle.rm_model.specs.Journal.{Journal, last_moment, assigns}
 use Rattle.rm_model.specs.Judgement.{Bindings, IsFirstFault}
 use Rattle.rm_model.specs.Accepted.{assignments_of}
-use Rattle.rm_status.specs.Alone.{alone_at}
+use Rattle.rm_group.specs.Alone.{alone_at}
 use Rattle.rm_pdu.specs.Message.{Message}
 use Rattle.rm_reply.specs.Replies.{too_big}
 use Rattle.rm_reply.specs.Sets.{given_by, returning, telling, is_too_much, is_barred, Judges, wrong_alone, wrong_together, lacking, accepted, IsSetReply}

@@ -6,8 +6,8 @@ ghost use Rattle.rm_pdu.specs.Message.{Binding, Message};
 use crate::found::{Found, Lookup};
 use crate::names::Names;
 use rm_ber::Room;
+use rm_group::{Group, Objects};
 use rm_pdu::Draft;
-use rm_status::{Group, Objects};
 
 /// The answers to a list of names that were put into a draft: their names, and whether each of them is endOfMibView.
 #[derive(Drop)]

@@ -5,7 +5,7 @@ ghost use Rattle.rm_val.specs.Spellable.{IsSpellable, HasSpelling};
 ghost use Rattle.rm_reply.specs.Answered.{IsGetBinding, IsNextBinding};
 ghost use Rattle.rm_reply.specs.Drafting.{OfCells, binding_found};
 
-use rm_status::{Group, Objects};
+use rm_group::{Group, Objects};
 use rm_val::{Oid, Value};
 
 /// How an answer is looked up by a name.

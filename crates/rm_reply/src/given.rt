@@ -5,7 +5,7 @@ ghost use Rattle.rm_val.specs.Spellable.{IsSpellable, HasSpelling};
 
 use crate::names::MOST_NAMES;
 use arrayvec::ArrayVec;
-use rm_status::Assigns;
+use rm_group::Assigns;
 use rm_val::{Oid, Value};
 use std::marker::Model;
 

@@ -9,8 +9,8 @@ ghost use Rattle.rm_pdu.specs.Verdict.{is_read};
 ghost use Rattle.rm_reply.specs.Responses.{IsReplyBy};
 ghost use Rattle.rm_reply.specs.Sets.{given_by};
 
+use rm_group::{Group, Objects, next_or_none};
 use rm_pdu::{Kind, bindings_lengthen, empty_messages_are_short};
-use rm_status::{Group, Objects, next_or_none};
 
 /// A law: a request has one reply at most after a journal, and leaves one journal, where it is no SetRequest that reserves
 /// storage.

@@ -10,8 +10,8 @@ use crate::answers::Answers;
 use crate::found::Lookup;
 use crate::names::Names;
 use crate::request::Request;
+use rm_group::{Group, Objects};
 use rm_pdu::{Draft, Kind, bindings_lengthen};
-use rm_status::{Group, Objects};
 use rm_val::ErrorStatus;
 
 /// The reply to a request at a moment in milliseconds (RFC 1905, section 4.2). None for a SetRequest.

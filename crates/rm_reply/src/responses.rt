@@ -11,8 +11,8 @@ ghost use Rattle.rm_model.specs.Readings.{nothing_read};
 use crate::reply::reply;
 use crate::request::Request;
 use crate::set::set;
+use rm_group::{Group, Objects};
 use rm_pdu::Draft;
-use rm_status::{Group, Objects};
 use std::alloc::Global;
 
 /// The response to a request at a moment in milliseconds, where its community may write or may not (RFC 1905, section 4.2). A

@@ -5,15 +5,16 @@ ghost use Rattle.rm_model.specs.Journal.{Journal, last_moment};
 ghost use Rattle.rm_pdu.specs.Message.{Message};
 ghost use Rattle.rm_model.specs.Judgement.{IsFirstFault, unless};
 ghost use Rattle.rm_val.specs.declared.error.ErrorStatus.TheVariants.{NotWritable};
-ghost use Rattle.rm_status.specs.Alone.{alone_at, AreFineAlone, IsWithin};
+ghost use Rattle.rm_group.specs.Alone.{alone_at, AreFineAlone, IsWithin};
 ghost use Rattle.rm_reply.specs.Drafting.{IsAsked, DraftsOne};
 ghost use Rattle.rm_reply.specs.Sets.{alone_among, Judges, IsSetReply};
 ghost use Rattle.rm_model.specs.Readings.{nothing_read};
 
 use crate::request::Request;
 use crate::unread::Unread;
+use rm_group::{Assigns, Group, Objects, lower_verdict, order_does_not_matter};
+use rm_model::Verdict;
 use rm_pdu::Draft;
-use rm_status::{Assigns, Group, Objects, Verdict, lower_verdict, order_does_not_matter};
 use rm_val::ErrorStatus;
 use std::alloc::Global;
 

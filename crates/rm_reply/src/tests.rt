@@ -1,8 +1,8 @@
 // What is expected comes from the rules of RFC 1905, section 4.2, worked out by hand, and never from this program. All is asked of
 // the system group at 2000, which has sysDescr.0 and sysUpTime.0, and nothing that can be set.
 use crate::{MOST_REPLY, Request, respond};
+use rm_group::System;
 use rm_pdu::{Bindings, read_message};
-use rm_status::System;
 use std::alloc::Global;
 use std::test::Fail;
 

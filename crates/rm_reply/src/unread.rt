@@ -1,7 +1,8 @@
 // Readings that a Set is judged by.
 ghost use Rattle.rm_model.specs.Readings.{nothing_read};
 
-use rm_status::{Look, Reading};
+use rm_group::Look;
+use rm_model::Reading;
 use rm_val::Oid;
 
 /// No variable can be read. The group of alarms looks at the group that they watch, and no other asks for a reading.

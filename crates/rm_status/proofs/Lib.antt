@@ -1,9 +1,5 @@
-mod SearchLemmas
-mod StartLemmas
 mod Sources
-mod ColumnLemmas
 pub mod PlaceLemmas
-pub mod Finds
 pub mod Asks
 pub mod Places
 pub mod RowLemmas
@@ -18,7 +14,6 @@ pub mod Crowds
 pub mod Seconds
 pub mod Rooms
 pub mod After
-pub mod ReadOnly
 pub mod ColumnLaws
 pub mod IndexLemmas
 pub mod Named
@@ -26,5 +21,4 @@ pub mod RowsAfterLemmas
 pub mod Valid
 pub mod Bares
 pub mod KeptCellsLaws
-pub mod Dues
 pub mod RowFacts

@@ -1,7 +1,3 @@
-pub mod Search
-pub mod System
-pub mod Look
-pub mod Alone
 pub mod Rows
 pub mod Commit
 pub mod Lending
@@ -16,5 +12,3 @@ pub mod Field
 pub mod Kinds
 pub mod SheetLaws
 pub mod KeptCells
-pub mod Passing
-pub mod Due

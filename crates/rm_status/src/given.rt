@@ -6,13 +6,12 @@ ghost use Rattle.rm_model.specs.ControlRows.{set_ask};
 ghost use Rattle.rm_model.specs.Judgement.{IsFirstFault, place_of, writable_kind, value_fault, alone_fault, first_pass, is_again, row_fault};
 ghost use Rattle.rm_status.specs.Commit.{put_at, put_all};
 
-use crate::assigns::Assigns;
 use crate::columns::Columns;
 use crate::controls::MAX_INDEX;
 use crate::place::{is_cell, place_under};
 use crate::sheet::{check, may_always};
 use crate::steps::{column_fault, is_made, status_fault, status_value_fault, value_ask};
-use crate::wrong::wrong_at;
+use rm_group::{Assigns, wrong_at};
 use rm_model::{Ask, Place, State, StatusKind, Verdict};
 use rm_val::{ErrorStatus, Oid, Value};
 

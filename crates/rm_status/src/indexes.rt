@@ -6,7 +6,7 @@ ghost use Rattle.rm_status.specs.Indexes.{is_index_in};
 
 use crate::columns::Columns;
 use crate::controls::Controls;
-use crate::row_indexes::RowIndexes;
+use rm_group::RowIndexes;
 use rm_val::Oid;
 
 impl<C: Columns> RowIndexes for Controls<C> {

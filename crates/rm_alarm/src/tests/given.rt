@@ -5,7 +5,8 @@ ghost use Rattle.rm_val.specs.Val.{int, octets, name, null};
 
 use crate::Watched;
 use arrayvec::ArrayVec;
-use rm_status::{Assigns, Group, Look, Readable, Reading, Verdict};
+use rm_group::{Assigns, Group, Look, Readable};
+use rm_model::{Reading, Verdict};
 use rm_val::{ErrorStatus, Oid, Value};
 use std::alloc::Global;
 

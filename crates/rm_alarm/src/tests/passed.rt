@@ -5,14 +5,15 @@ ghost use Rattle.std.proofs.lemmas.Bool.{and_parts};
 ghost use Rattle.rm_model.specs.Journal.{frames_in};
 ghost use Rattle.rm_model.specs.Cells.{cells_of, is_of_column};
 ghost use Rattle.rm_model.proofs.Finite.{one_row_finite};
-ghost use Rattle.rm_status.specs.Alone.{read_only};
+ghost use Rattle.rm_group.specs.Alone.{read_only};
 ghost use Rattle.rm_alarm.specs.MadeUp.{made_up_entry, made_up_table};
 
 use rm_acts::Firing;
-use rm_status::{
-    Assigns, Denied, Group, Look, OneRow, Passing, Readable, RowIndexes, Steps, Unsampled, Verdict,
+use rm_group::{
+    Assigns, Denied, Group, Look, OneRow, Passing, Readable, RowIndexes, Steps, Unsampled,
     instance_of, judge_read_only, next_name,
 };
+use rm_model::Verdict;
 use rm_val::{Oid, Value};
 use std::alloc::Global;
 

@@ -4,7 +4,7 @@ use crate::tests::given::{Given, answer, name_of, number, scalar};
 use crate::tests::passed::Passed;
 use crate::{Alarms, Sampled, Watched};
 use arrayvec::ArrayVec;
-use rm_status::{Group, Readable, Unsampled};
+use rm_group::{Group, Readable, Unsampled};
 use rm_val::Value;
 use std::alloc::Global;
 use std::process::Abort;

@@ -1,7 +1,7 @@
 // Sets of alarms: what each column takes, and when an alarm is ready (RFC 1757, section 5; RFC 1905, section 4.2.5).
 use crate::tests::given::{Given, answer, nothing, number, scalar, text};
 use crate::{Alarms, Watched};
-use rm_status::System;
+use rm_group::System;
 use rm_val::ErrorStatus::{
     self, InconsistentValue, NotWritable, WrongLength, WrongType, WrongValue,
 };

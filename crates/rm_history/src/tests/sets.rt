@@ -4,8 +4,8 @@ ghost use Rattle.rm_history.specs.Group.{IsStocked, frames_given, last_given};
 
 use crate::History;
 use crate::tests::given::{answer, number};
+use rm_group::{Group, MOST_FRAMES};
 use rm_proto::facts;
-use rm_status::{Group, MOST_FRAMES};
 use rm_val::{ErrorStatus, Oid, Value};
 use std::alloc::Global;
 use std::test::Fail;

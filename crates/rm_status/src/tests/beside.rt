@@ -2,8 +2,10 @@
 ghost use Rattle.std.specs.Prelude.{pos, [], ◌∷◌};
 ghost use Rattle.rm_val.specs.Val.{null, int};
 
+use crate::Controls;
 use crate::tests::made_up::{MadeUp, STATUS, entry};
-use crate::{Assigns, Controls, StatusKind, Verdict};
+use rm_group::Assigns;
+use rm_model::{StatusKind, Verdict};
 use rm_val::{ErrorStatus, Oid, Value};
 
 // A Set of a variable outside the table, and of a column of row 5. Each is given Null.

@@ -4,8 +4,9 @@ ghost use Rattle.std.specs.Prelude.{◌≡◌, [], ◌∷◌, map, None, refl};
 ghost use Rattle.rm_val.specs.Val.{int};
 ghost use Rattle.rm_status.specs.MadeUp.{table, set_to, with_value, blank_alike, set_with};
 
-use crate::{Assigns, Columns};
+use crate::Columns;
 use arrayvec::ArrayVec;
+use rm_group::Assigns;
 use rm_model::Setting::Number;
 use rm_model::{ColumnSheet, column, numbers};
 use rm_val::{Oid, Value};

@@ -1,7 +1,8 @@
 // Sets against every cell of the steps of EntryStatus: valid 1, createRequest 2, underCreation 3, invalid 4.
 use crate::tests::made_up::{Given, MadeUp, STATUS, Set, entry};
-use crate::{Controls, MAX_ROWS, State, StatusKind, Verdict};
+use crate::{Controls, MAX_ROWS};
 use arrayvec::ArrayVec;
+use rm_model::{State, StatusKind, Verdict};
 use rm_val::ErrorStatus;
 use std::process::Abort;
 use std::test::Fail;

@@ -5,7 +5,7 @@ use Rattle.std.specs.Str.{bytes_eq}
 use Rattle.std.proofs.lemmas.Map.Text.{is_eq-slice_cmp}
 use Rattle.rm_model.specs.Judgement.{nothing_bound, name_at}
 use Rattle.rm_val.specs.Contents.{name_of}
-use Rattle.rm_status.proofs.Finds.{find_here, find_never}
+use Rattle.rm_group.proofs.Finds.{find_here, find_never}
 use Rattle.rm_alarm.proofs.given.name_given.Goals as goal
 
 pub returns-then-is_eq : goal.returns-then-is_eq

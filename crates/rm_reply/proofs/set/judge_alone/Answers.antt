@@ -1,7 +1,7 @@
 use Rattle.std.proofs.Common.{length}
 use Rattle.rm_val.specs.declared.error.ErrorStatus.TheVariants.{NotWritable}
 use Rattle.rm_model.specs.Judgement.{unless}
-use Rattle.rm_status.specs.Alone.{alone_at}
+use Rattle.rm_group.specs.Alone.{alone_at}
 use Rattle.rm_reply.proofs.set.judge_alone.Goals as goal
 
 pub returns-clause-alone : goal.returns-clause-alone

@@ -3,7 +3,7 @@ use Rattle.rm_model.specs.declared.verdict.Verdict.TheVariants.{Fine}
 use Rattle.rm_model.specs.Judgement.{IsFirstFault}
 use Rattle.rm_model.specs.Accepted.{assignments_of}
 use Rattle.rm_model.specs.Journal.{assigns}
-use Rattle.rm_status.specs.Alone.{AreFineAlone}
+use Rattle.rm_group.specs.Alone.{AreFineAlone}
 use Rattle.rm_reply.specs.Sets.{alone_among, wrong_alone, wrong_together, lacking, accepted}
 use Rattle.rm_model.specs.Readings.{nothing_read}
 use Rattle.rm_reply.proofs.SetLemmas.{if_not_wrong, wrong_within}

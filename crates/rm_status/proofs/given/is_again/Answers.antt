@@ -2,7 +2,7 @@ use Rattle.std.proofs.Common.{◌≡◌, sym, ◌∙◌, arith, below_more, byte
 use Rattle.std.specs.Ordering.{is_eq}
 use Rattle.std.proofs.lemmas.Map.Text.{is_eq-slice_cmp}
 use Rattle.rm_model.specs.Judgement.{nothing_bound, name_at}
-use Rattle.rm_status.proofs.Finds.{any_here, any_never}
+use Rattle.rm_group.proofs.Finds.{any_here, any_never}
 use Rattle.rm_status.proofs.given.is_again.Goals as goal
 
 pub returns-then-is_eq : goal.returns-then-is_eq

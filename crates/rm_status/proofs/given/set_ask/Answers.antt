@@ -2,7 +2,7 @@ use Rattle.std.proofs.Common.{◌≡◌, ℕ, List, [], ◌∷◌, true, false, 
 use Rattle.std.specs.Str.{bytes_eq}
 use Rattle.rm_model.specs.ControlRows.{cell_name}
 use Rattle.rm_model.specs.Judgement.{nothing_bound, name_at}
-use Rattle.rm_status.proofs.Finds.{find_here, find_never}
+use Rattle.rm_group.proofs.Finds.{find_here, find_never}
 use Rattle.rm_status.proofs.Asks.{ask_found, ask_none}
 use Rattle.rm_status.proofs.given.set_ask.Goals as goal
 

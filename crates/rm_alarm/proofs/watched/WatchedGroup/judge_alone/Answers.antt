@@ -1,5 +1,5 @@
 use Rattle.std.proofs.Common.{length}
-use Rattle.rm_status.specs.Alone.{alone_at}
+use Rattle.rm_group.specs.Alone.{alone_at}
 use Rattle.rm_alarm.specs.Group.{alarm_alone}
 use Rattle.rm_alarm.proofs.watched.WatchedGroup.judge_alone.Goals as goal
 

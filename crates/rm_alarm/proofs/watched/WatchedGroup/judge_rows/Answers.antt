@@ -3,7 +3,7 @@ use Rattle.rm_model.specs.ControlRows.{no_rows}
 use Rattle.rm_model.specs.Judgement.{IsFirstFault, rows_after}
 use Rattle.rm_acts.specs.Alarms.{alarm_table}
 use Rattle.rm_model.specs.Readings.{Readings}
-use Rattle.rm_status.specs.Alone.{alone_at}
+use Rattle.rm_group.specs.Alone.{alone_at}
 use Rattle.rm_alarm.specs.Group.{alarm_alone, alarm_together}
 use Rattle.rm_alarm.proofs.Watching.{same_readings, second_fine}
 use Rattle.rm_alarm.proofs.watched.WatchedGroup.judge_rows.Goals as goal

@@ -1,5 +1,5 @@
 use Rattle.std.proofs.Common.{◌≤◌, ◌*◌, subst, sym, refl, arith}
-use Rattle.rm_status.specs.declared.bounds.TheConstants.{MOST_OCTETS}
+use Rattle.rm_group.specs.declared.bounds.TheConstants.{MOST_OCTETS}
 use Rattle.rm_ether.proofs.Steps.{no_sum}
 use Rattle.rm_ether.proofs.statistics.Statistics.new.Goals as goal
 

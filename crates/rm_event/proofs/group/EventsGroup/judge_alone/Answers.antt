@@ -1,7 +1,7 @@
 use Rattle.std.proofs.Common.{length}
 use Rattle.rm_model.specs.Cells.{is_of_column}
 use Rattle.rm_model.specs.Judgement.{first_pass}
-use Rattle.rm_status.specs.Alone.{alone_at, read_only}
+use Rattle.rm_group.specs.Alone.{alone_at, read_only}
 use Rattle.rm_event.specs.Columns.{log_columns}
 use Rattle.rm_event.specs.EventTable.{event_table}
 use Rattle.rm_event.specs.Tables.{log_entry}

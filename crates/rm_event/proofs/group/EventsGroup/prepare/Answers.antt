@@ -3,7 +3,7 @@ use Rattle.rm_model.specs.Journal.{Journal}
 use Rattle.rm_model.specs.ControlRows.{no_rows}
 use Rattle.rm_model.specs.Judgement.{rows_after}
 use Rattle.rm_model.specs.Reserves.{Reserves}
-use Rattle.rm_status.specs.declared.denied.Denied.{Denied}
+use Rattle.rm_group.specs.declared.denied.Denied.{Denied}
 use Rattle.rm_status.specs.Rows.{rows_before}
 use Rattle.rm_event.specs.EventTable.{event_table}
 use Rattle.rm_event.specs.EventRows.{set_to}

@@ -1,0 +1,6 @@
+pub mod Search
+pub mod System
+pub mod Look
+pub mod Alone
+pub mod Passing
+pub mod Due

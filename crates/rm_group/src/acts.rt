@@ -1,0 +1,143 @@
+// Groups that take an act step by step.
+ghost use Rattle.std.specs.Prelude.{◌≡◌, ℕ, ℤ, ◌+◌, ◌≤◌, ◌<◌, List, [], ◌∷◌, ◌++◌, Option};
+ghost use Rattle.rm_model.specs.Settings.{Settings};
+ghost use Rattle.rm_model.specs.Journal.{Act, Frame, Journal, passes, samples, last_moment, moment_of};
+ghost use Rattle.rm_acts.specs.Fired.{act_fires, fired};
+ghost use Rattle.rm_acts.specs.declared.firing.Firing.{Firing as Fires};
+ghost use Rattle.rm_group.specs.Passing.{IsOf};
+
+use crate::both::Both;
+use crate::bounds::{MOST_FRAMES, MOST_OCTETS};
+use crate::group::Group;
+use crate::passing::Passing;
+use crate::system::System;
+use rm_acts::Firing;
+
+/// A group to which an act that is no Set makes a difference step by step: the act begins, its firings are taken one by one, and it
+/// has ended where all were taken.
+pub trait Steps: Group {
+    /// The group is in an act after a journal, of which it has taken these firings.
+    ghost under_way: { Self → Settings → Act → Journal → List Fires → Type 0 };
+
+    /// A frame begins to pass, whose moment isn't below that of the last act. Fewer than `MOST_FRAMES` frames were given before.
+    fn pass(&mut self, passing: &Passing<'_>)
+        requires later { Self.Group.clock self.old ≤ passing.now.moment }
+        requires room { Self.Group.frames self.old < MOST_FRAMES }
+        requires length { passing.now.facts.length ≤ MOST_OCTETS }
+        ensures begins { (settings : Settings) (earlier : Journal) (frame : Frame)
+            → IsOf settings frame passing.now.facts passing.now.octets.now passing.now.number passing.now.moment
+            → Self.Group.stands self.old settings earlier → last_moment earlier ≤ passing.now.moment
+            → under_way self.new settings (passes frame) earlier [] }
+        ensures clock { Self.Group.clock self.new ≤ passing.now.moment }
+        ensures frames { Self.Group.frames self.new ≤ Self.Group.frames self.old + 1 }
+        ensures stocked { Self.Group.stocked self.old → Self.Group.stocked self.new };
+
+    /// Takes a firing of the act that is under way, at its moment in milliseconds.
+    fn take(&mut self, firing: &Firing, moment: u32)
+        ensures under_way { (settings : Settings) (act : Act) (earlier : Journal) (some : List Fires) → moment_of act ≡ moment
+            → under_way self.old settings act earlier some → under_way self.new settings act earlier (some ++ firing.now ∷ []) }
+        ensures clock { Self.Group.clock self.new ≡ Self.Group.clock self.old }
+        ensures frames { Self.Group.frames self.new ≡ Self.Group.frames self.old }
+        ensures stocked { Self.Group.stocked self.old → Self.Group.stocked self.new };
+
+    /// An act has ended where all of its firings were taken.
+    ghost ends: { (s : Self) (settings : Settings) (act : Act) (earlier : Journal)
+        → under_way s settings act earlier (act_fires settings act earlier (fired settings earlier)) → Self.Group.stands s settings (act ∷ earlier) };
+}
+
+/// A group in which the sample of an alarm begins without a call, where its moment isn't below that of the last act. What the sample
+/// reads and crosses makes no difference to it; the firings that come of it may.
+pub trait Unsampled: Steps {
+    /// The sample has begun.
+    ghost begins: { (s : Self) (settings : Settings) (earlier : Journal) (moment alarm : ℕ) (reading : Option ℤ)
+        → Self.Group.stands s settings earlier → last_moment earlier ≤ moment
+        → Self.Steps.under_way s settings (samples moment alarm reading) earlier [] };
+}
+
+impl Steps for System {
+    ghost under_way = { λ s settings act earlier some. Unit {0} };
+
+    fn pass(&mut self, _passing: &Passing<'_>) {}
+
+    fn take(&mut self, _firing: &Firing, _moment: u32) {}
+
+    ghost ends = { λ s settings act earlier under. tt };
+}
+
+impl Unsampled for System {
+    ghost begins = { λ s settings earlier moment alarm reading stands later. tt };
+}
+
+impl<G: Steps, H: Steps> Steps for Both<G, H> {
+    ghost under_way = { λ s settings act earlier some.
+        G.under_way s.first settings act earlier some × H.under_way s.second settings act earlier some };
+
+    fn pass(&mut self, passing: &Passing<'_>) {
+        self.first.pass(passing);
+        self.second.pass(passing);
+    }
+
+    fn take(&mut self, firing: &Firing, moment: u32) {
+        self.first.take(firing, moment);
+        self.second.take(firing, moment);
+    }
+
+    ghost ends = { λ s settings act earlier under.
+        (G.ends s.first settings act earlier under.0, H.ends s.second settings act earlier under.1) };
+}
+
+impl<G: Unsampled, H: Unsampled> Unsampled for Both<G, H> {
+    ghost begins = { λ s settings earlier moment alarm reading stands later.
+        (G.begins s.first settings earlier moment alarm reading stands.0 later, H.begins s.second settings earlier moment alarm reading stands.1 later) };
+}
+
+/// A frame passes, and these are its firings.
+pub fn pass_whole<G: Steps>(group: &mut G, passing: &Passing<'_>, firings: &[Firing])
+    requires later { G.clock group.old ≤ passing.now.moment }
+    requires room { G.frames group.old < MOST_FRAMES }
+    requires length { passing.now.facts.length ≤ MOST_OCTETS }
+    ensures stands { (settings : Settings) (earlier : Journal) (frame : Frame)
+        → IsOf settings frame passing.now.facts passing.now.octets.now passing.now.number passing.now.moment
+        → G.stands group.old settings earlier → last_moment earlier ≤ passing.now.moment
+        → firings.now ≡ act_fires settings (passes frame) earlier (fired settings earlier)
+        → G.stands group.new settings (passes frame ∷ earlier) }
+    ensures clock { G.clock group.new ≤ passing.now.moment }
+    ensures frames { G.frames group.new ≤ G.frames group.old + 1 }
+    ensures stocked { G.stocked group.old → G.stocked group.new }
+{
+    group.pass(passing);
+    take_whole(group, firings, passing.moment);
+}
+
+/// A law: the sample of an alarm begins at a moment, in milliseconds. It does nothing.
+pub fn sample_begins<G: Unsampled>(group: &G, moment: u32)
+    ensures { (settings : Settings) (earlier : Journal) (alarm : ℕ) (reading : Option ℤ)
+        → G.stands group.now settings earlier → last_moment earlier ≤ moment
+        → G.under_way group.now settings (samples moment alarm reading) earlier [] }
+{}
+
+/// An act has begun at a moment, in milliseconds, and these are its firings.
+pub fn take_whole<G: Steps>(group: &mut G, firings: &[Firing], moment: u32)
+    ensures stands { (settings : Settings) (act : Act) (earlier : Journal) → moment_of act ≡ moment
+        → G.under_way group.old settings act earlier [] → firings.now ≡ act_fires settings act earlier (fired settings earlier)
+        → G.stands group.new settings (act ∷ earlier) }
+    ensures clock { G.clock group.new ≡ G.clock group.old }
+    ensures frames { G.frames group.new ≡ G.frames group.old }
+    ensures stocked { G.stocked group.old → G.stocked group.new }
+{
+    take_all(group, firings, moment);
+}
+
+// Takes the firings of the act that is under way, one by one.
+fn take_all<G: Steps>(group: &mut G, firings: &[Firing], moment: u32)
+    ensures under_way { (settings : Settings) (act : Act) (earlier : Journal) (some : List Fires) → moment_of act ≡ moment
+        → G.under_way group.old settings act earlier some → G.under_way group.new settings act earlier (some ++ firings.now) }
+    ensures clock { G.clock group.new ≡ G.clock group.old }
+    ensures frames { G.frames group.new ≡ G.frames group.old }
+    ensures stocked { G.stocked group.old → G.stocked group.new }
+{
+    if let Some((first, rest)) = firings.split_first() {
+        group.take(first, moment);
+        take_all(group, rest, moment);
+    }
+}

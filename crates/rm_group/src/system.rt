@@ -1,0 +1,124 @@
+// The system group.
+ghost use Rattle.std.specs.Prelude.{◌≡◌, [], ◌∷◌, None, IfSome};
+ghost use Rattle.std.specs.Option.{option_map};
+ghost use Rattle.rm_val.specs.Val.{val_of};
+ghost use Rattle.rm_val.specs.Spellable.{HasSpelling};
+ghost use Rattle.rm_model.specs.Cells.{cells_of, is_of_column};
+ghost use Rattle.rm_model.proofs.Finite.{one_row_finite};
+ghost use Rattle.rm_group.specs.Alone.{read_only};
+ghost use Rattle.rm_group.specs.System.{system_entry, system_columns, system_table};
+
+use crate::assigns::Assigns;
+use crate::denied::Denied;
+use crate::group::Group;
+use crate::instance::instance_of;
+use crate::look::Look;
+use crate::objects::{Objects, is_of_column};
+use crate::one_row::OneRow;
+use crate::read_only::judge_read_only;
+use crate::search::next_name;
+use rm_model::Verdict;
+use rm_val::{Oid, Value};
+use std::alloc::Global;
+
+/// The columns of the group: sysDescr and sysUpTime.
+const COLUMNS: [u32; 2] = [SYS_DESCR, SYS_UP_TIME];
+
+const SYS_DESCR: u32 = 1;
+
+const SYS_UP_TIME: u32 = 3;
+
+/// The row of the scalars.
+const SCALARS: OneRow = OneRow { number: 0 };
+
+/// The system group (RFC 1213), of which sysDescr.0 and sysUpTime.0 are answered. It stands for every journal. None of its
+/// objects is writable.
+#[derive(Clone, Copy)]
+pub struct System;
+
+impl Group for System {
+    ghost stands = { λ s settings journal. Unit {0} };
+
+    ghost clock = { λ s. 0 };
+
+    ghost frames = { λ s. 0 };
+
+    ghost stocked = { λ s. Unit {0} };
+
+    ghost cells = { λ settings journal now. cells_of (system_table now) };
+
+    ghost alone = { read_only (is_of_column system_entry system_columns) };
+
+    ghost together = { λ settings journal now readings bindings place. None };
+
+    ghost reserves = { λ settings journal bindings index. ⊥ };
+
+    ghost accepts = { λ s now readings bindings. Unit {0} };
+
+    ghost prepared = { λ s now bindings. Unit {0} };
+
+    ghost released = { λ s. Unit {0} };
+
+    ghost finite = { λ settings journal now. one_row_finite (system_table now) (0 ∷ []) (λ index row. row) };
+
+    fn cell(&self, name: &Oid, now: u32) -> Option<Value<'_>> {
+        scalar(name, now)
+    }
+
+    fn after(&self, name: &Oid, now: u32, out: &mut Oid) -> Option<Value<'_>> {
+        *out = next_name(&SCALARS, &identifier(), &COLUMNS, name, now)?;
+        scalar(out, now)
+    }
+
+    fn judge_alone<A: Assigns>(&self, set: &A) -> Verdict {
+        judge_read_only(set, &identifier(), &COLUMNS)
+    }
+
+    fn judge_rows<A: Assigns, L: Look>(&self, _set: &A, _now: u32, _look: &L) -> Verdict {
+        Verdict::Fine
+    }
+
+    fn prepare<A: Assigns, L: Look>(
+        &mut self,
+        _alloc: Global,
+        _set: &A,
+        _now: u32,
+        _look: &L,
+    ) -> Result<(), Denied> {
+        Ok(())
+    }
+
+    fn commit<A: Assigns>(&mut self, _set: &A, _now: u32) {}
+
+    fn discard(&mut self) {}
+}
+
+impl Objects for System {
+    ghost objects = { is_of_column system_entry system_columns };
+
+    fn has_object(name: &Oid) -> bool {
+        is_of_column(name, &identifier(), &COLUMNS)
+    }
+}
+
+/// The value of the scalar with that name at a moment in milliseconds. None where the group has no such scalar.
+pub(crate) fn scalar(name: &Oid, now: u32) -> Option<Value<'static>>
+    ensures value { option_map val_of result ≡ cells_of (system_table now) name.now }
+    ensures spelling { IfSome result (λ value. HasSpelling (val_of value)) }
+{
+    let at = instance_of(name, &identifier(), &COLUMNS)?;
+    if !SCALARS.has(&at.index) {
+        return None;
+    }
+    match at.column {
+        SYS_DESCR => Some(Value::Octets(b"RMON probe")),
+        _ => Some(Value::Ticks(now / 10)),
+    }
+}
+
+/// The identifier of the group.
+fn identifier() -> Oid
+    ensures { result ≡ system_entry }
+{
+    Oid::from_slice(&[1, 3, 6, 1, 2, 1, 1]).unwrap()
+}

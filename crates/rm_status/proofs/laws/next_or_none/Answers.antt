@@ -1,5 +1,0 @@
-use Rattle.rm_model.proofs.Finite.{next_or_none}
-use Rattle.rm_status.proofs.laws.next_or_none.Goals as goal
-
-pub returns : goal.returns
-returns c = next_or_none

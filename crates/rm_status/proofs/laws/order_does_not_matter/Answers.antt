@@ -1,5 +1,0 @@
-use Rattle.rm_model.proofs.Accepted.{given_of, same_assignments}
-use Rattle.rm_status.proofs.laws.order_does_not_matter.Goals as goal
-
-pub returns : goal.returns
-returns c = record { given = given_of; same = same_assignments }
