@@ -1,9 +1,17 @@
 -- That nested rows are finitely many.
-use Rattle.std.proofs.Common.{◌≡◌, ℕ, zero, suc, ◌<◌, ◌≤◌, ◌⊎◌, inl, inr, List, [], ◌∷◌, ◌++◌, map, Contains, Bool, true, false, nat_le, refl, subst, arith}
-use Rattle.std.specs.Prelude.{flat_map}
+use Rattle.std.proofs.Common.{◌≡◌, ℕ, zero, suc, ◌<◌, ◌≤◌, ◌⊎◌, inl, inr, List, [], ◌∷◌, ◌++◌, map, Contains, Bool, true, false, nat_le, ◌&&◌, refl, subst, arith}
+use Rattle.std.specs.Prelude.{flat_map, not}
+use Rattle.std.proofs.lemmas.Bool.{and_parts}
 use Rattle.std.proofs.lemmas.Bool.Decides.{nat_tests}
 use Rattle.std.proofs.lemmas.List.Elements.{Contains-append_left, Contains-append_right}
+use Rattle.rm_model.specs.Journal.{Journal}
+use Rattle.rm_model.specs.ControlTable.{ControlTable}
+use Rattle.rm_model.specs.ControlRows.{no_rows, state_of, is_absent, is_valid}
+use Rattle.rm_model.specs.Indexes.{indexes_of}
+use Rattle.rm_model.specs.declared.row.State.{State}
+use Rattle.rm_model.specs.declared.row.State.TheVariants.{Absent, UnderCreation, Valid}
 use Rattle.rm_model.proofs.Members.{none_in, here, there, each, in_map}
+use Rattle.rm_model.proofs.Rows.{row_listed}
 use Rattle.rm_status.specs.Rows.{row_number}
 use Rattle.rm_nested.specs.Nested.{is_nested, is_number}
 
@@ -57,3 +65,44 @@ in_nested is_inner rows inner outer within [] is = absurd (cc)
 in_nested is_inner rows inner outer within (row ∷ index) is =
     in_flat_map (λ index. map (λ more. row_number index ∷ more) (inner (row_number index))) rows (row ∷ []) (row ∷ index) (outer row index is)
     (in_map (λ (more : List ℕ). row ∷ more) (inner row) index (within row index is))
+
+-- Rows of a control table that has none at first, and the numbered inner rows of those that are valid.
+
+none_begins : (index : List ℕ) → not (is_absent Absent) ≡ true → Contains {X = List ℕ} [] index
+none_begins index is = absurd (cc)
+
+there_is : (s : State) → is_valid s ≡ true → not (is_absent s) ≡ true
+there_is Absent h = absurd (cc)
+there_is UnderCreation h = refl
+there_is Valid h = refl
+
+module _ (table : ControlTable) (journal : Journal) where
+  -- the indexes that its rows can have after a journal
+  abbrev pub rows_of : List (List ℕ)
+  rows_of = indexes_of table [] journal
+
+  pub in_rows : (index : List ℕ) → not (is_absent (state_of table no_rows journal index)) ≡ true → Contains rows_of index
+  in_rows index is = row_listed table no_rows [] none_begins journal index is
+
+  -- inner rows with the numbers that are shown of a row, none above a last one
+  module _ (shown : ℕ → ℕ → Bool) (last : ℕ → ℕ) (low : (row number : ℕ) → shown row number ≡ true → number ≤ last row) where
+    abbrev is_inner : ℕ → ℕ → Bool
+    is_inner row number = is_valid (state_of table no_rows journal (row ∷ [])) && shown row number
+
+    -- the indexes that they can have: those of the rows, each followed by a number
+    abbrev pub numbered_of : List (List ℕ)
+    numbered_of = nested rows_of (λ row. numbers (last row))
+
+    parts : (row number : ℕ) → is_inner row number ≡ true → (is_valid (state_of table no_rows journal (row ∷ [])) ≡ true) × (shown row number ≡ true)
+    parts row number is = and_parts (is_valid (state_of table no_rows journal (row ∷ []))) (shown row number) is
+
+    of_row : (row : ℕ) (index : List ℕ) → is_number (is_inner row) index ≡ true → Contains rows_of (row ∷ [])
+    of_row row [] is = absurd (cc)
+    of_row row (number ∷ []) is = in_rows (row ∷ []) (there_is (state_of table no_rows journal (row ∷ [])) (parts row number is).0)
+    of_row row (number ∷ next ∷ more) is = absurd (cc)
+
+    of_number : (row : ℕ) (index : List ℕ) → is_number (is_inner row) index ≡ true → Contains (numbers (last row)) index
+    of_number row index is = in_numbers (is_inner row) (last row) (λ number inner. low row number (parts row number inner).1) index is
+
+    pub in_numbered : (index : List ℕ) → is_nested (λ row index. is_number (is_inner row) index) index ≡ true → Contains numbered_of index
+    in_numbered index is = in_nested (λ row index. is_number (is_inner row) index) rows_of (λ row. numbers (last row)) of_row of_number index is
