@@ -1,3 +1,4 @@
+pub mod Sources
 mod Examples
 mod Steps
 mod Cells

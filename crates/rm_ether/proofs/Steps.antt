@@ -3,7 +3,7 @@ use Rattle.std.proofs.Common.{◌≡◌, ℕ, ◌+◌, ◌%◌, ◌^◌, ◌<◌
 use Rattle.std.specs.Prelude.{filter, unwrap_or}
 use Rattle.std.specs.List.{sum_by}
 use Rattle.std.specs.Option.{option_or, option_and_then}
-use Rattle.std.proofs.lemmas.List.Sums.{sum_by-cons}
+use Rattle.std.proofs.lemmas.Bool.{and_parts}
 use Rattle.std.proofs.Math.Nat.{mod-add-mod}
 use Rattle.rm_val.specs.Val.{Val, name}
 use Rattle.rm_proto.specs.declared.known.Facts.{Facts}
@@ -32,21 +32,7 @@ use Rattle.rm_ether.specs.EtherStats.{ether_stats, ether_beginning, ether_state,
 use Rattle.rm_ether.specs.Standing.{counter_of, no_sums, with_frame}
 use Rattle.rm_ether.specs.StatisticsRows.{set_to, with_column, blank_row, blank_alike, set_with, counting, resting}
 use Rattle.rm_ether.specs.Group.{AreCounted}
-
--- a sum over the frames that pass a test, with one more
-sum_by-filter-cons : (f : Frame → ℕ) (test : Frame → Bool) (frame : Frame) (frames : List Frame) → sum_by f (filter test (frame ∷ frames)) ≡ sum_by f (filter test frames) + cond (test frame) (f frame) 0
-sum_by-filter-cons f test frame frames =
-    elim (test frame) as (λ t. sum_by f (cond t (frame ∷ filter test frames) (filter test frames)) ≡ sum_by f (filter test frames) + cond t (f frame) 0) [
-      | true ↦ let more = sum_by-cons f frame (filter test frames) in omega arith
-      | false ↦ omega arith
-    ]
-
-and_true : (b : Bool) → (b && true) ≡ b
-and_true true = refl
-and_true false = refl
-
-is_source : (source number : ℕ) → is_interface (name (interface_name source)) number ≡ nat_eq source number
-is_source source number = and_true (nat_eq source number)
+use Rattle.rm_ether.proofs.Sources.{sum_more, is_source}
 
 pub no_sum : (each : Counter) → counter_of no_sums each ≡ 0
 no_sum DropEvents = refl
@@ -164,7 +150,7 @@ module _ (settings : Settings) (journal : Journal) (frame : Frame) (facts : Fact
         let f : Frame → ℕ = λ other. counted each (frame_facts settings other) in
         let more : counted_frames longer index ≡ filter of_source (frame ∷ frames_before) = rw valid refl in
         let source : of_source frame ≡ nat_eq row.columns.source frame.interface = ap (λ source. is_interface source frame.interface) (sym (source_is rows journal is i row here (there_is row.state e))) ∙ is_source row.columns.source frame.interface in
-        ap (sum_by f) more ∙ sum_by-filter-cons f of_source frame frames_before
+        ap (sum_by f) more ∙ sum_more f of_source frame frames_before
         ∙ ap (λ counts. counter_sum settings journal index each + cond counts (f frame) 0) source
         ∙ ap (λ (facts : Facts). counter_sum settings journal index each + cond (nat_eq row.columns.source facts.interface) (counted each facts) 0) (sym known)
 
@@ -209,10 +195,6 @@ valid_is : (s : State) → is_valid s ≡ true → s ≡ Valid
 valid_is Absent h = cc
 valid_is UnderCreation h = cc
 valid_is Valid h = refl
-
-both : (a b : Bool) → (a && b) ≡ true → (a ≡ true) × (b ≡ true)
-both true b h = (refl, h)
-both false b h = absurd (cc)
 
 not_first : (a b : Bool) → b ≡ true → (a && b) ≡ false → a ≡ false
 not_first true b is h = absurd (cc)
@@ -278,7 +260,7 @@ module _ (settings : Settings) (journal : Journal) (moment : ℕ) (bs : Bindings
 
     valid_with_set : is_valid mid.state ≡ true → (b : Bool) → stays_valid ether_stats ether_beginning (assigns moment values) journal place ≡ b → counter_of mid.columns.statistics each ≡ counter_sum settings with_set place each % 2 ^ 64
     valid_with_set valid true stays =
-        let old : is_valid (ether_state journal place) ≡ true = (both (is_valid (ether_state journal place)) (is_valid (ether_state with_set place)) stays).0 in
+        let old : is_valid (ether_state journal place) ≡ true = (and_parts (is_valid (ether_state journal place)) (is_valid (ether_state with_set place)) stays).0 in
         let frames : frames_in (since ether_stats ether_beginning with_set place) ≡ frames_in (since ether_stats ether_beginning journal place) = frames_kept ether_stats ether_beginning moment values journal place stays in
         ap (λ s. counter_of s each) sums_left ∙ sum_before was refl old
         ∙ ap (λ n. n % 2 ^ 64) (sym (

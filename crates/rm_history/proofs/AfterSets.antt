@@ -1,7 +1,8 @@
 -- The rows and the histories after a Set with which nothing is wrong.
-use Rattle.std.proofs.Common.{◌≡◌, ℕ, ◌<◌, ◌≤◌, List, [], ◌∷◌, length, Bool, true, false, cond, ◌&&◌, Option, Some, None, refl, sym, ◌∙◌, ap, subst, nat_eq, arith}
+use Rattle.std.proofs.Common.{◌≡◌, ℕ, ◌<◌, ◌≤◌, List, [], ◌∷◌, length, Bool, true, false, cond, Option, Some, None, refl, sym, ◌∙◌, ap, subst, nat_eq, arith}
 use Rattle.std.specs.Prelude.{pos, is_some, unwrap_or}
 use Rattle.std.specs.Option.{option_or, option_and_then}
+use Rattle.std.proofs.lemmas.Bool.{and_from, and_left}
 use Rattle.rm_val.specs.Val.{Val, int, name}
 use Rattle.rm_model.specs.Settings.{Settings}
 use Rattle.rm_model.specs.Journal.{Assignments, Journal, assigns, frames_in, last_moment, value_given}
@@ -45,15 +46,6 @@ there_is : (s : State) → is_valid s ≡ true → is_absent s ≡ false
 there_is Absent h = cc
 there_is UnderCreation h = refl
 there_is Valid h = refl
-
-both_true : (a b : Bool) → a ≡ true → b ≡ true → (a && b) ≡ true
-both_true true true h k = refl
-both_true true false h k = absurd (cc)
-both_true false b h k = absurd (cc)
-
-first_false : (a b : Bool) → a ≡ false → (a && b) ≡ false
-first_false true b h = absurd (cc)
-first_false false b h = refl
 
 -- what a plan has of the columns of a row
 abbrev planned : ℕ → Val → Val → Plan
@@ -100,7 +92,7 @@ module _ (settings : Settings) (journal : Journal) (now : ℕ) (bs : Bindings) (
       valid_now = ap is_valid (sym new_state) ∙ valid
 
       stays : stays_valid history_control no_rows (assigns now values) journal place ≡ true
-      stays = both_true (is_valid (control_state journal place)) (is_valid (control_state with_set place)) old valid_now
+      stays = and_from (is_valid (control_state journal place)) (is_valid (control_state with_set place)) old valid_now
 
       was_valid : state_in rows i ≡ Valid
       was_valid = is.alike.states i ∙ valid_is (control_state journal place) old
@@ -145,7 +137,7 @@ module _ (settings : Settings) (journal : Journal) (now : ℕ) (bs : Bindings) (
       valid_then = ap is_valid (sym new_state) ∙ ap (λ o. is_valid (state_seen o)) here ∙ valid
 
       starts : stays_valid history_control no_rows (assigns now values) journal place ≡ false
-      starts = first_false (is_valid (control_state journal place)) (is_valid (control_state with_set place)) idle
+      starts = and_left (is_valid (control_state journal place)) (is_valid (control_state with_set place)) idle
 
       starts_now : activated history_control no_rows with_set place ≡ now
       starts_now =

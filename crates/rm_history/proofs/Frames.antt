@@ -1,7 +1,5 @@
 -- The buckets of a row after one more frame.
 use Rattle.std.proofs.Common.{◌≡◌, ℕ, ◌+◌, ◌-◌, ◌*◌, ◌/◌, ◌<◌, ◌≤◌, List, [], ◌∷◌, Bool, true, false, cond, ◌&&◌, nat_eq, nat_le, nat_lt, refl, sym, ◌∙◌, ap, subst, filter, arith}
-use Rattle.std.specs.List.{sum_by}
-use Rattle.std.proofs.lemmas.List.Sums.{sum_by-cons}
 use Rattle.std.proofs.lemmas.Bool.Decides.{nat_tests}
 use Rattle.std.proofs.Math.Nat.{mul-div-le, lt-mul-div-succ, le-div_iff_mul-le, div-lt_iff_lt-mul, mul_comm}
 use Rattle.rm_val.specs.Val.{Val, name}
@@ -12,6 +10,7 @@ use Rattle.rm_model.specs.FrameFacts.{frame_facts}
 use Rattle.rm_model.specs.ControlRows.{no_rows, since}
 use Rattle.rm_ether.specs.declared.counter.Counter.{Counter}
 use Rattle.rm_ether.specs.Counted.{counted, counted_from}
+use Rattle.rm_ether.proofs.Sources.{sum_more, is_source}
 use Rattle.rm_history.specs.declared.plan.Plan.{Plan}
 use Rattle.rm_history.specs.declared.run.Run.{Run}
 use Rattle.rm_history.specs.Buckets.{length_of, begin_of, end_of, falls_in, bucket_sum, complete_at}
@@ -83,22 +82,6 @@ module _ (plan : Plan) (moment bucket : ℕ) (one : 1 ≤ bucket) (begun : plan.
         | true ↦ λ e. under_way (eq_is bucket (complete_at plan moment + 1) e)
         | false ↦ λ e. not_under_way (eq_isnt bucket (complete_at plan moment + 1) e)
       ] refl
-
--- a sum over the frames that pass a test, with one more
-sum_more : (f : Frame → ℕ) (test : Frame → Bool) (frame : Frame) (frames : List Frame) → sum_by f (filter test (frame ∷ frames)) ≡ sum_by f (filter test frames) + cond (test frame) (f frame) 0
-sum_more f test frame frames =
-    elim (test frame) as (λ t. sum_by f (cond t (frame ∷ filter test frames) (filter test frames)) ≡ sum_by f (filter test frames) + cond t (f frame) 0) [
-      | true ↦ let more = sum_by-cons f frame (filter test frames) in omega arith
-      | false ↦ omega arith
-    ]
-
-and_true : (b : Bool) → (b && true) ≡ b
-and_true true = refl
-and_true false = refl
-
--- a data source is the interface whose name it is
-is_source : (source number : ℕ) → is_interface (name (interface_name source)) number ≡ nat_eq source number
-is_source source number = and_true (nat_eq source number) ∙ refl
 
 module _ (settings : Settings) (plan : Plan) (frames : List Frame) (frame : Frame) (bucket : ℕ) (each : Counter) (one : 1 ≤ bucket) (begun : plan.start ≤ frame.moment) (some : 1 ≤ plan.seconds) where
   abbrev adds : ℕ
