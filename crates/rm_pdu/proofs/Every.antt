@@ -1,5 +1,5 @@
 -- Octets are a message, or something is wrong with them.
-use Rattle.std.proofs.Common.{◌≡◌, ◌⊎◌, ◌+◌, ◌-◌, ◌≤◌, ◌<◌, ℕ, zero, suc, ℤ, pos, negsuc, Bool, true, false, List, [], ◌∷◌, ◌++◌, length, refl, ap, subst, ◌∙◌, inl, inr, arith}
+use Rattle.std.proofs.Common.{◌≡◌, ◌⊎◌, ◌↔◌, ◌+◌, ◌-◌, ◌≤◌, ◌<◌, ℕ, zero, suc, ℤ, pos, negsuc, Bool, true, false, List, [], ◌∷◌, ◌++◌, length, refl, ap, subst, ◌∙◌, inl, inr, arith}
 use Rattle.std.specs.Prelude.{sum_by}
 use Rattle.std.proofs.lemmas.Bool.{cases_eq, cases_lt, cases_Bool}
 use Rattle.std.proofs.lemmas.List.{length-append}
@@ -213,6 +213,38 @@ other_or_none true (octet ∷ rest) = elim (other_tag_or_not octet) [
 
 -- The places of a message, one after the other: either the next begins, or the octets are something.
 
+module _ {A : Type 0} (make : A → Val) (from to : Awaited) where
+  -- where a value of that kind is awaited, it leads to the next place
+  abbrev Leads : Type 0
+  Leads = (requests : Bool) (left : List ℕ) (outer : List (List ℕ)) (next : Place)
+      → LeadsTo requests from left outer next ↔ ((a : A) × (rest : List ℕ) × ValueFirst (make a) rest left × (next ≡ place_at to rest outer))
+
+  abbrev Passes : Type 0
+  Passes = (requests : Bool) (bytes left : List ℕ) (outer : List (List ℕ)) → length bytes ≤ 8192 → Begins requests bytes (place_at from left outer)
+      → ((a : A) (rest : List ℕ) → ValueFirst (make a) rest left → Begins requests bytes (place_at to rest outer) → Found requests bytes) → Found requests bytes
+
+  at_value : is_plain from ≡ true → Leads → ((left : List ℕ) → OrNone make left) → Passes
+  at_value plain leads value_or_none requests bytes left outer short before next = elim (value_or_none left) [
+    | inl h ↦ next h.0 h.1 h.2 (goes_on _ (place_at to h.1 outer) before ((leads requests left outer _).1 (h.0, h.1, h.2, refl)))
+    | inr none ↦ leads_nowhere requests bytes from left outer short before plain (λ place there. let h = (leads requests left outer place).0 there in none h.0 h.1 h.2)
+  ]
+
+module _ (from to : Awaited) where
+  -- where an element must end, its end leads to the next place
+  abbrev LeadsOut : Type 0
+  LeadsOut = (requests : Bool) (left : List ℕ) (outer : List (List ℕ)) (next : Place)
+      → LeadsTo requests from left outer next ↔ ((after : List ℕ) × (more : List (List ℕ)) × (left ≡ []) × (outer ≡ after ∷ more) × (next ≡ place_at to after more))
+
+  abbrev Ends : Type 0
+  Ends = (requests : Bool) (bytes left after : List ℕ) (outer : List (List ℕ)) → length bytes ≤ 8192 → Begins requests bytes (place_at from left (after ∷ outer))
+      → (left ≡ [] → Begins requests bytes (place_at to after outer) → Found requests bytes) → Found requests bytes
+
+  at_end : is_plain from ≡ true → LeadsOut → Ends
+  at_end plain leads requests bytes [] after outer short before next =
+      next refl (goes_on _ (place_at to after outer) before ((leads requests [] (after ∷ outer) _).1 (after, outer, refl, refl, refl)))
+  at_end plain leads requests bytes (octet ∷ left) after outer short before next =
+      leads_nowhere requests bytes from (octet ∷ left) (after ∷ outer) short before plain (λ place there. let e = ((leads requests (octet ∷ left) (after ∷ outer) place).0 there).2 in cc)
+
 at_whole : Known → (requests : Bool) (bytes : List ℕ) → length bytes ≤ 8192
     → ((content rest : List ℕ) → StandsFirst 0x30 content rest bytes → Begins requests bytes (place_at version content (rest ∷ [])) → Found requests bytes) → Found requests bytes
 unfolding is_plain
@@ -236,13 +268,9 @@ at_version known requests bytes left outer short before next = elim (made_or_non
   })
 ]
 
-at_community : Known → (requests : Bool) (bytes left : List ℕ) (outer : List (List ℕ)) → length bytes ≤ 8192 → Begins requests bytes (place_at community left outer)
-    → ((text rest : List ℕ) → ValueFirst (octets text) rest left → Begins requests bytes (place_at pdu rest outer) → Found requests bytes) → Found requests bytes
+at_community : Known → Passes octets community pdu
 unfolding is_plain
-at_community known requests bytes left outer short before next = elim (made_or_none octets is_octets known left) [
-  | inl h ↦ next h.0 h.1 h.2 (goes_on _ (place_at pdu h.1 outer) before (h.0, h.1, h.2, refl))
-  | inr none ↦ leads_nowhere requests bytes community left outer short before refl (λ to leads. none leads.0 leads.1 leads.2)
-]
+at_community known = at_value octets community pdu refl (λ requests left outer next. (λ h. h, λ h. h)) (made_or_none octets is_octets known)
 
 at_pdu : Known → (requests : Bool) (bytes left : List ℕ) (outer : List (List ℕ)) → length bytes ≤ 8192 → Begins requests bytes (place_at pdu left outer)
     → ((kind : Kind) (content rest : List ℕ) → is_read requests kind ≡ true → StandsFirst (kind_tag kind) content rest left
@@ -262,29 +290,17 @@ at_pdu known requests bytes left outer short before next = elim (other_or_none r
   ]
 ]
 
-at_request_id : Known → (requests : Bool) (bytes left : List ℕ) (outer : List (List ℕ)) → length bytes ≤ 8192 → Begins requests bytes (place_at request_id left outer)
-    → ((z : ℤ) (rest : List ℕ) → ValueFirst (int z) rest left → Begins requests bytes (place_at first_number rest outer) → Found requests bytes) → Found requests bytes
+at_request_id : Known → Passes int request_id first_number
 unfolding is_plain
-at_request_id known requests bytes left outer short before next = elim (made_or_none int is_int known left) [
-  | inl h ↦ next h.0 h.1 h.2 (goes_on _ (place_at first_number h.1 outer) before (h.0, h.1, h.2, refl))
-  | inr none ↦ leads_nowhere requests bytes request_id left outer short before refl (λ to leads. none leads.0 leads.1 leads.2)
-]
+at_request_id known = at_value int request_id first_number refl (λ requests left outer next. (λ h. h, λ h. h)) (made_or_none int is_int known)
 
-at_first_number : Known → (requests : Bool) (bytes left : List ℕ) (outer : List (List ℕ)) → length bytes ≤ 8192 → Begins requests bytes (place_at first_number left outer)
-    → ((z : ℤ) (rest : List ℕ) → ValueFirst (int z) rest left → Begins requests bytes (place_at second_number rest outer) → Found requests bytes) → Found requests bytes
+at_first_number : Known → Passes int first_number second_number
 unfolding is_plain
-at_first_number known requests bytes left outer short before next = elim (made_or_none int is_int known left) [
-  | inl h ↦ next h.0 h.1 h.2 (goes_on _ (place_at second_number h.1 outer) before (h.0, h.1, h.2, refl))
-  | inr none ↦ leads_nowhere requests bytes first_number left outer short before refl (λ to leads. none leads.0 leads.1 leads.2)
-]
+at_first_number known = at_value int first_number second_number refl (λ requests left outer next. (λ h. h, λ h. h)) (made_or_none int is_int known)
 
-at_second_number : Known → (requests : Bool) (bytes left : List ℕ) (outer : List (List ℕ)) → length bytes ≤ 8192 → Begins requests bytes (place_at second_number left outer)
-    → ((z : ℤ) (rest : List ℕ) → ValueFirst (int z) rest left → Begins requests bytes (place_at bindings rest outer) → Found requests bytes) → Found requests bytes
+at_second_number : Known → Passes int second_number bindings
 unfolding is_plain
-at_second_number known requests bytes left outer short before next = elim (made_or_none int is_int known left) [
-  | inl h ↦ next h.0 h.1 h.2 (goes_on _ (place_at bindings h.1 outer) before (h.0, h.1, h.2, refl))
-  | inr none ↦ leads_nowhere requests bytes second_number left outer short before refl (λ to leads. none leads.0 leads.1 leads.2)
-]
+at_second_number known = at_value int second_number bindings refl (λ requests left outer next. (λ h. h, λ h. h)) (made_or_none int is_int known)
 
 at_bindings : Known → (requests : Bool) (bytes left : List ℕ) (outer : List (List ℕ)) → length bytes ≤ 8192 → Begins requests bytes (place_at bindings left outer)
     → ((content rest : List ℕ) → StandsFirst 0x30 content rest left → Begins requests bytes (place_at binding content (rest ∷ outer)) → Found requests bytes) → Found requests bytes
@@ -294,42 +310,25 @@ at_bindings known requests bytes left outer short before next = elim (tagged_or_
   | inr none ↦ leads_nowhere requests bytes bindings left outer short before refl (λ to leads. none leads.0 leads.1 leads.2)
 ]
 
-at_binding_name : Known → (requests : Bool) (bytes left : List ℕ) (outer : List (List ℕ)) → length bytes ≤ 8192 → Begins requests bytes (place_at binding_name left outer)
-    → ((numbers rest : List ℕ) → ValueFirst (name numbers) rest left → Begins requests bytes (place_at binding_value rest outer) → Found requests bytes) → Found requests bytes
+at_binding_name : Known → Passes name binding_name binding_value
 unfolding is_plain
-at_binding_name known requests bytes left outer short before next = elim (made_or_none name is_name known left) [
-  | inl h ↦ next h.0 h.1 h.2 (goes_on _ (place_at binding_value h.1 outer) before (h.0, h.1, h.2, refl))
-  | inr none ↦ leads_nowhere requests bytes binding_name left outer short before refl (λ to leads. none leads.0 leads.1 leads.2)
-]
+at_binding_name known = at_value name binding_name binding_value refl (λ requests left outer next. (λ h. h, λ h. h)) (made_or_none name is_name known)
 
-at_binding_value : Known → (requests : Bool) (bytes left : List ℕ) (outer : List (List ℕ)) → length bytes ≤ 8192 → Begins requests bytes (place_at binding_value left outer)
-    → ((v : Val) (rest : List ℕ) → ValueFirst v rest left → Begins requests bytes (place_at binding_end rest outer) → Found requests bytes) → Found requests bytes
+at_binding_value : Known → Passes (λ v. v) binding_value binding_end
 unfolding is_plain
-at_binding_value known requests bytes left outer short before next = elim (known.some_value left) [
-  | inl h ↦ next h.0 h.1 h.2 (goes_on _ (place_at binding_end h.1 outer) before (h.0, h.1, h.2, refl))
-  | inr none ↦ leads_nowhere requests bytes binding_value left outer short before refl (λ to leads. none leads.0 leads.1 leads.2)
-]
+at_binding_value known = at_value (λ v. v) binding_value binding_end refl (λ requests left outer next. (λ h. h, λ h. h)) known.some_value
 
-at_binding_end : (requests : Bool) (bytes left after : List ℕ) (outer : List (List ℕ)) → length bytes ≤ 8192 → Begins requests bytes (place_at binding_end left (after ∷ outer))
-    → (left ≡ [] → Begins requests bytes (place_at binding after outer) → Found requests bytes) → Found requests bytes
+at_binding_end : Ends binding_end binding
 unfolding is_plain
-at_binding_end requests bytes [] after outer short before next = next refl (goes_on _ (place_at binding after outer) before (after, outer, refl, refl, refl))
-at_binding_end requests bytes (octet ∷ left) after outer short before next =
-    leads_nowhere requests bytes binding_end (octet ∷ left) (after ∷ outer) short before refl (λ to leads. let e : octet ∷ left ≡ [] = leads.2 in cc)
+at_binding_end = at_end binding_end binding refl (λ requests left outer next. (λ h. h, λ h. h))
 
-at_pdu_end : (requests : Bool) (bytes left after : List ℕ) (outer : List (List ℕ)) → length bytes ≤ 8192 → Begins requests bytes (place_at pdu_end left (after ∷ outer))
-    → (left ≡ [] → Begins requests bytes (place_at message_end after outer) → Found requests bytes) → Found requests bytes
+at_pdu_end : Ends pdu_end message_end
 unfolding is_plain
-at_pdu_end requests bytes [] after outer short before next = next refl (goes_on _ (place_at message_end after outer) before (after, outer, refl, refl, refl))
-at_pdu_end requests bytes (octet ∷ left) after outer short before next =
-    leads_nowhere requests bytes pdu_end (octet ∷ left) (after ∷ outer) short before refl (λ to leads. let e : octet ∷ left ≡ [] = leads.2 in cc)
+at_pdu_end = at_end pdu_end message_end refl (λ requests left outer next. (λ h. h, λ h. h))
 
-at_message_end : (requests : Bool) (bytes left after : List ℕ) (outer : List (List ℕ)) → length bytes ≤ 8192 → Begins requests bytes (place_at message_end left (after ∷ outer))
-    → (left ≡ [] → Begins requests bytes (place_at datagram_end after outer) → Found requests bytes) → Found requests bytes
+at_message_end : Ends message_end datagram_end
 unfolding is_plain
-at_message_end requests bytes [] after outer short before next = next refl (goes_on _ (place_at datagram_end after outer) before (after, outer, refl, refl, refl))
-at_message_end requests bytes (octet ∷ left) after outer short before next =
-    leads_nowhere requests bytes message_end (octet ∷ left) (after ∷ outer) short before refl (λ to leads. let e : octet ∷ left ≡ [] = leads.2 in cc)
+at_message_end = at_end message_end datagram_end refl (λ requests left outer next. (λ h. h, λ h. h))
 
 at_datagram_end : (requests : Bool) (bytes left : List ℕ) (outer : List (List ℕ)) → length bytes ≤ 8192 → Begins requests bytes (place_at datagram_end left outer)
     → (left ≡ [] → Found requests bytes) → Found requests bytes

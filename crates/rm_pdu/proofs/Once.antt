@@ -191,9 +191,37 @@ not_other element value true bytes at tag h is k =
     h.stuck.no_other is (ap awaited_of same) tag k.more (ap left_of same) k.other
 not_other element value false bytes at tag h is k = absurd cc
 
+-- nor is there a message
+not_malformed : OneElement → OneValue → (requests : Bool) (bytes : List ℕ) (at : ℕ) (m : Message) → IsMalformed requests bytes at → Spells bytes m → is_read requests m.kind ≡ true → ⊥
+unfolding awaited_of left_of
+not_malformed element value requests bytes at m h spells read =
+    let same = last_once element value requests bytes h.place at_end h.begins (spells_to_end requests bytes m spells read) h.stuck.nothing (end_last requests) in
+    h.stuck.not_end (ap awaited_of same) (ap left_of same)
+
+not_version : OneElement → OneValue → (requests : Bool) (bytes : List ℕ) (z : ℤ) (m : Message) → HasVersion requests bytes z → Spells bytes m → is_read requests m.kind ≡ true → ⊥
+unfolding awaited_of is_version
+not_version element value requests bytes z m h spells read =
+    let same = last_once element value requests bytes _ at_end h.begins (spells_to_end requests bytes m spells read) (version_last value requests z h.left h.rest h.outer h.version h.other) (end_last requests) in
+    let e : true ≡ false = ap (λ (p : Place). is_version (awaited_of p)) same in cc
+
+not_pdu : OneElement → OneValue → (requests : Bool) (bytes : List ℕ) (tag : ℕ) (m : Message) → requests ≡ true → HasOtherPdu bytes tag → Spells bytes m → is_read requests m.kind ≡ true → ⊥
+unfolding awaited_of is_pdu_awaited
+not_pdu element value true bytes tag m is h spells read =
+    let same = last_once element value true bytes _ at_end h.begins (spells_to_end true bytes m spells read) (other_last tag h.more h.outer h.other) (end_last true) in
+    let e : true ≡ false = ap (λ (p : Place). is_pdu_awaited (awaited_of p)) same in cc
+not_pdu element value false bytes tag m is h spells read = absurd cc
+
+-- the tag of another PDU isn't awaited where another version stands
+not_version_and_pdu : OneElement → OneValue → (requests : Bool) (bytes : List ℕ) (z : ℤ) (tag : ℕ) → HasVersion requests bytes z → requests ≡ true → HasOtherPdu bytes tag → ⊥
+unfolding awaited_of is_version
+not_version_and_pdu element value true bytes z tag h is k =
+    let same = last_once element value true bytes _ _ h.begins k.begins (version_last value true z h.left h.rest h.outer h.version h.other) (other_last tag k.more k.outer k.other) in
+    let e : true ≡ false = ap (λ (p : Place). is_version (awaited_of p)) same in cc
+not_version_and_pdu element value false bytes z tag h is k = absurd cc
+
 -- octets are one thing
 pub verdict_once : OneElement → OneValue → (requests : Bool) (bytes : List ℕ) (v w : Verdict) → IsVerdict requests bytes v → IsVerdict requests bytes w → v ≡ w
-unfolding awaited_of left_of is_version is_pdu_awaited first_octet
+unfolding left_of first_octet
 verdict_once element value requests bytes too_long too_long h k = refl
 verdict_once element value requests bytes too_long (malformed at) h k = absurd (omega (arith, h, k.0))
 verdict_once element value requests bytes too_long (other_version z) h k = absurd (omega (arith, h, k.0))
@@ -205,46 +233,24 @@ verdict_once element value requests bytes (malformed at) (malformed other) h k =
     ap malformed (omega (arith, h.1.offset, k.1.offset, ap octets_left same))
 verdict_once element value requests bytes (malformed at) (other_version z) h k = absurd (not_both element value requests bytes at z h.1 k.1)
 verdict_once element value requests bytes (malformed at) (not_request tag) h k = absurd (not_other element value requests bytes at tag h.1 k.1 k.2)
-verdict_once element value requests bytes (malformed at) (message m) h k =
-    let same = last_once element value requests bytes h.1.place at_end h.1.begins (spells_to_end requests bytes m k.1 k.2) h.1.stuck.nothing (end_last requests) in
-    absurd (h.1.stuck.not_end (ap awaited_of same) (ap left_of same))
+verdict_once element value requests bytes (malformed at) (message m) h k = absurd (not_malformed element value requests bytes at m h.1 k.1 k.2)
 verdict_once element value requests bytes (other_version z) too_long h k = absurd (omega (arith, k, h.0))
 verdict_once element value requests bytes (other_version z) (malformed at) h k = absurd (not_both element value requests bytes at z k.1 h.1)
 verdict_once element value requests bytes (other_version z) (other_version y) h k =
     let same = last_once element value requests bytes _ _ h.1.begins k.1.begins (version_last value requests z h.1.left h.1.rest h.1.outer h.1.version h.1.other)
     (version_last value requests y k.1.left k.1.rest k.1.outer k.1.version k.1.other) in
     ap other_version (one_int value z y h.1.rest k.1.rest k.1.left (subst (λ (x : List ℕ). ValueFirst (int z) h.1.rest x) (ap left_of same) h.1.version) k.1.version).0
-verdict_once element value requests bytes (other_version z) (not_request tag) h k =
-    let begins_too = subst (λ (r : Bool). Begins r bytes (record { awaited = version; left = h.1.left; outer = h.1.outer })) k.1 h.1.begins in
-    let same = last_once element value true bytes _ _ begins_too k.2.begins (version_last value true z h.1.left h.1.rest h.1.outer h.1.version h.1.other)
-    (other_last tag k.2.more k.2.outer k.2.other) in
-    absurd (let e : true ≡ false = ap (λ (p : Place). is_version (awaited_of p)) same in cc)
-verdict_once element value requests bytes (other_version z) (message m) h k =
-    let same = last_once element value requests bytes _ at_end h.1.begins (spells_to_end requests bytes m k.1 k.2) (version_last value requests z h.1.left h.1.rest h.1.outer h.1.version h.1.other) (end_last requests) in
-    absurd (let e : true ≡ false = ap (λ (p : Place). is_version (awaited_of p)) same in cc)
+verdict_once element value requests bytes (other_version z) (not_request tag) h k = absurd (not_version_and_pdu element value requests bytes z tag h.1 k.1 k.2)
+verdict_once element value requests bytes (other_version z) (message m) h k = absurd (not_version element value requests bytes z m h.1 k.1 k.2)
 verdict_once element value requests bytes (not_request tag) too_long h k = absurd (omega (arith, k, h.0))
 verdict_once element value requests bytes (not_request tag) (malformed at) h k = absurd (not_other element value requests bytes at tag k.1 h.1 h.2)
-verdict_once element value requests bytes (not_request tag) (other_version z) h k =
-    let begins_too = subst (λ (r : Bool). Begins r bytes (record { awaited = version; left = k.1.left; outer = k.1.outer })) h.1 k.1.begins in
-    let same = last_once element value true bytes _ _ begins_too h.2.begins (version_last value true z k.1.left k.1.rest k.1.outer k.1.version k.1.other)
-    (other_last tag h.2.more h.2.outer h.2.other) in
-    absurd (let e : true ≡ false = ap (λ (p : Place). is_version (awaited_of p)) same in cc)
+verdict_once element value requests bytes (not_request tag) (other_version z) h k = absurd (not_version_and_pdu element value requests bytes z tag k.1 h.1 h.2)
 verdict_once element value requests bytes (not_request tag) (not_request other) h k =
     let same = last_once element value true bytes _ _ h.2.begins k.2.begins (other_last tag h.2.more h.2.outer h.2.other) (other_last other k.2.more k.2.outer k.2.other) in
     ap not_request (ap (λ (p : Place). first_octet (left_of p)) same)
-verdict_once element value requests bytes (not_request tag) (message m) h k =
-    let begins_too = spells_to_end true bytes m k.1 (subst (λ (r : Bool). is_read r m.kind ≡ true) h.1 k.2) in
-    let same = last_once element value true bytes _ at_end h.2.begins begins_too (other_last tag h.2.more h.2.outer h.2.other) (end_last true) in
-    absurd (let e : true ≡ false = ap (λ (p : Place). is_pdu_awaited (awaited_of p)) same in cc)
+verdict_once element value requests bytes (not_request tag) (message m) h k = absurd (not_pdu element value requests bytes tag m h.1 h.2 k.1 k.2)
 verdict_once element value requests bytes (message m) too_long h k = absurd (omega (arith, k, h.0))
-verdict_once element value requests bytes (message m) (malformed at) h k =
-    let same = last_once element value requests bytes k.1.place at_end k.1.begins (spells_to_end requests bytes m h.1 h.2) k.1.stuck.nothing (end_last requests) in
-    absurd (k.1.stuck.not_end (ap awaited_of same) (ap left_of same))
-verdict_once element value requests bytes (message m) (other_version z) h k =
-    let same = last_once element value requests bytes _ at_end k.1.begins (spells_to_end requests bytes m h.1 h.2) (version_last value requests z k.1.left k.1.rest k.1.outer k.1.version k.1.other) (end_last requests) in
-    absurd (let e : true ≡ false = ap (λ (p : Place). is_version (awaited_of p)) same in cc)
-verdict_once element value requests bytes (message m) (not_request tag) h k =
-    let begins_too = spells_to_end true bytes m h.1 (subst (λ (r : Bool). is_read r m.kind ≡ true) k.1 h.2) in
-    let same = last_once element value true bytes _ at_end k.2.begins begins_too (other_last tag k.2.more k.2.outer k.2.other) (end_last true) in
-    absurd (let e : true ≡ false = ap (λ (p : Place). is_pdu_awaited (awaited_of p)) same in cc)
+verdict_once element value requests bytes (message m) (malformed at) h k = absurd (not_malformed element value requests bytes at m k.1 h.1 h.2)
+verdict_once element value requests bytes (message m) (other_version z) h k = absurd (not_version element value requests bytes z m k.1 h.1 h.2)
+verdict_once element value requests bytes (message m) (not_request tag) h k = absurd (not_pdu element value requests bytes tag m k.1 k.2 h.1 h.2)
 verdict_once element value requests bytes (message m) (message n) h k = ap message (message_once element value bytes m n h.1 k.1)

@@ -14,9 +14,9 @@ use Rattle.rm_pdu.specs.Verdict.{Awaited, whole, version, community, pdu, reques
 use Rattle.rm_pdu.specs.Reading.{IsAt}
 
 -- an error that is passed on
-pub errs : {T E : Type 0} (r : Result T E) (R : E → Type 0) (P : T → Type 0) (Q : E → Type 0) → IsErrAnd r R → ((e : E) → R e → Q e) → MatchResult r P Q
-errs (Ok x) R P Q is q = absurd is
-errs (Err e) R P Q is q = q e is
+pub errs : {T E : Type 0} (r : Result T E) (e : E) (P : T → Type 0) (Q : E → Type 0) → IsErrAnd r (λ f. f ≡ e) → Q e → MatchResult r P Q
+errs (Ok x) e P Q is holds = absurd is
+errs (Err f) e P Q is holds = subst Q (sym is) holds
 
 -- an element is passed
 pub moves : (requests : Bool) (bytes : List ℕ) (from to : Awaited) (outer : List (List ℕ)) (old new : Left) → IsAt requests bytes from outer old
@@ -201,6 +201,12 @@ begin_at requests bytes reader first all = record {
   begins = subst (λ (x : List ℕ). Begins requests bytes (record { awaited = whole; left = x; outer = [] })) (sym all) begins;
   offset = omega (arith, first, ap length all);
 }
+
+-- the content of a message is inside it
+pub in_message : (requests : Bool) (bytes : List ℕ) (datagram after content : Left) → datagram.at ≡ 0 → datagram.left ≡ bytes
+    → StandsFirst 0x30 content.left after.left datagram.left → end_of content ≡ after.at → end_of after ≡ end_of datagram → IsAt requests bytes version (after.left ∷ []) content
+in_message requests bytes datagram after content first all found inside end =
+    opens requests bytes whole version [] datagram after content (begin_at requests bytes datagram first all) (content.left, after.left, found, refl) inside end
 
 -- a number that was read fits where it is kept
 pub kept_number : (z : ℤ) (rest left : List ℕ) → ValueFirst (int z) rest left → to_z w32 (of_z w32 z) ≡ z

@@ -27,8 +27,8 @@ returns-then-not-is_read-clause-part c = λ bytes outer at.
 pub returns-in_err-pdu-clause-part : goal.returns-in_err-pdu-clause-part
 returns-in_err-pdu-clause-part c = λ bytes outer at.
     let read : is_read c.args.requests c.next_kind-kind.result ≡ true = sym c.is_read.ensures ∙ c.if-not-is_read.false in
-    errs c.from_residual.result (λ f. f ≡ Malformed c.in_err-pdu.field-0.0.at) _ (Fails c.args.requests bytes) c.from_residual.ensures.1
-    (λ f is. rw (is, c.in_err-pdu.ensures.place) (no_pdu c.args.requests bytes outer c.args.content.now at
+    errs c.from_residual.result (Malformed c.in_err-pdu.field-0.0.at) _ (Fails c.args.requests bytes) c.from_residual.ensures.1
+    (rw c.in_err-pdu.ensures.place (no_pdu c.args.requests bytes outer c.args.content.now at
     (λ kind content rest only first.
     let then = tag_then (kind_tag kind) content rest c.args.content.now.left first in
     let same = c.next_kind-kind.ensures.comes kind then.0 then.1 in

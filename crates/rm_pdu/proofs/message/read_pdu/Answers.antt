@@ -9,8 +9,8 @@ use Rattle.rm_pdu.proofs.message.read_pdu.Goals as goal
 pub returns-in_err-list-clause-part : goal.returns-in_err-list-clause-part
 returns-in_err-list-clause-part c = λ requests bytes outer at.
     let numbers = c.in_ok-numbers.ensures.part requests bytes outer at in
-    errs c.from_residual-in_err-list.result (λ f. f ≡ Malformed c.in_err-list.field-0.0.at) _ (Fails requests bytes) c.from_residual-in_err-list.ensures.1
-    (λ f is. rw (is, c.in_err-list.ensures.place) (no_header requests bytes bindings outer c.read_numbers.new.pdu (inr refl) numbers.0
+    errs c.from_residual-in_err-list.result (Malformed c.in_err-list.field-0.0.at) _ (Fails requests bytes) c.from_residual-in_err-list.ensures.1
+    (rw c.in_err-list.ensures.place (no_header requests bytes bindings outer c.read_numbers.new.pdu (inr refl) numbers.0
     (λ content rest first. not_ok c.enter.result c.in_err-list.field-0.0 (λ inner. inner.left ≡ content) c.in_err-list.was (c.enter.ensures.exact content rest first).0)))
 
 pub returns-in_err-count-clause-part : goal.returns-in_err-count-clause-part
@@ -18,8 +18,7 @@ returns-in_err-count-clause-part c = λ requests bytes outer at.
     let numbers = c.in_ok-numbers.ensures.part requests bytes outer at in
     let opened = opens requests bytes bindings binding outer c.read_numbers.new.pdu c.enter.new.self c.in_ok-list.list numbers.0
     (c.in_ok-list.list.left, c.enter.new.self.left, c.in_ok-list.ensures.found, refl) c.in_ok-list.ensures.ends c.in_ok-list.ensures.end in
-    errs c.from_residual-in_err-count.result (λ f. f ≡ c.in_err-count.field-0.0) _ (Fails requests bytes) c.from_residual-in_err-count.ensures.1
-    (λ f is. rw is (c.in_err-count.ensures.part requests bytes (c.enter.new.self.left ∷ outer) opened))
+    errs c.from_residual-in_err-count.result c.in_err-count.field-0.0 _ (Fails requests bytes) c.from_residual-in_err-count.ensures.1 (c.in_err-count.ensures.part requests bytes (c.enter.new.self.left ∷ outer) opened)
 
 pub returns-in_err-finish-clause-part : goal.returns-in_err-finish-clause-part
 returns-in_err-finish-clause-part c = λ requests bytes outer at.
@@ -29,8 +28,8 @@ returns-in_err-finish-clause-part c = λ requests bytes outer at.
     let part = c.in_ok-count.ensures.part requests bytes (c.enter.new.self.left ∷ outer) opened in
     let closed = closes requests bytes binding pdu_end outer c.read_bindings.new.list c.enter.new.self part.0 (inl (c.enter.new.self.left, outer, part.1, refl, refl)) part.1
     (c.in_ok-count.ensures.end ∙ c.in_ok-list.ensures.ends) in
-    errs c.from_residual-in_err-finish.result (λ f. f ≡ Malformed c.in_err-finish.field-0.0.at) _ (Fails requests bytes) c.from_residual-in_err-finish.ensures.1
-    (λ f is. rw (is, c.in_err-finish.ensures.place) (not_ended requests bytes pdu_end outer c.enter.new.self (inr (inl refl)) closed
+    errs c.from_residual-in_err-finish.result (Malformed c.in_err-finish.field-0.0.at) _ (Fails requests bytes) c.from_residual-in_err-finish.ensures.1
+    (rw c.in_err-finish.ensures.place (not_ended requests bytes pdu_end outer c.enter.new.self (inr (inl refl)) closed
     (λ none. let no = c.in_err-finish.ensures.done.1 none in absurd cc)))
 
 pub returns-clause-part : goal.returns-clause-part
