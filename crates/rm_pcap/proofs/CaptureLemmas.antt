@@ -12,10 +12,10 @@ use Rattle.rm_pcap.specs.Header.{header_of}
 use Rattle.rm_pcap.specs.Records.{Found, Whole, Stops}
 use Rattle.rm_pcap.specs.Progress.{Progress, Agrees, IsLawfulFind, next_in, looking_at, passing}
 use Rattle.rm_pcap.specs.Calls.{Looks, Passes, IsHeaderFault, BeginsAs}
-use Rattle.rm_pcap.specs.Filling.{Fills, IsFront}
+use Rattle.rm_window.specs.Filling.{Fills, IsFront}
 use Rattle.rm_pcap.specs.Seen.{found_of, Follows, FollowsSeen, IsAhead}
 use Rattle.rm_pcap.proofs.FrontLemmas.{header_front}
-use Rattle.rm_pcap.proofs.WindowLemmas.{front_behind}
+use Rattle.rm_window.proofs.WindowLemmas.{front_behind}
 
 -- a capture that doesn't begin by a fault of its header
 pub begins_not : (bytes : List ℕ) (fault : PcapFault) → IsHeaderFault fault → header_of bytes ≡ Err fault → BeginsAs bytes (Err fault)

@@ -6,10 +6,10 @@ use Rattle.rm_pcap.specs.declared.fault.PcapFault.{PcapFault}
 use Rattle.rm_pcap.specs.declared.reach.Reach.{Reach}
 use Rattle.rm_pcap.specs.declared.record.Record.{Record}
 use Rattle.rm_pcap.specs.Records.{Whole, Stops, Ended, CutAt, Broken, found_at, found_in, found_with, fault_at, included_of, frame_at, reach_after}
-use Rattle.rm_pcap.specs.Filling.{IsFront, Holds}
+use Rattle.rm_window.specs.Filling.{IsFront, Holds}
 use Rattle.rm_pcap.specs.Seen.{record_of, frame_seen}
 use Rattle.rm_pcap.proofs.FrontLemmas.{record_front, fault_front}
-use Rattle.rm_pcap.proofs.WindowLemmas.{front_of, front_short, between_front}
+use Rattle.rm_window.proofs.WindowLemmas.{front_of, front_short, between_front}
 
 none_left : (form : Form) (lead : ℕ) (reach : Reach) (xs : List ℕ) → length xs ≡ 0 → found_in form lead reach xs ≡ Stops Ended
 none_left form lead reach [] none = refl

@@ -1,9 +1,10 @@
 -- The numbers of a header stand in its octets alone.
 use Rattle.std.proofs.Common.{◌≡◌, ℕ, zero, suc, ◌+◌, ◌-◌, ◌≤◌, ◌<◌, nat_le, List, length, take, drop, Option, Some, None, refl, ap, ◌∙◌, arith}
 use Rattle.std.specs.Prelude.{slice_index}
-use Rattle.std.proofs.lemmas.List.{drop-take, get_or-take, length-take}
+use Rattle.std.proofs.lemmas.List.{get_or-take, length-take}
 use Rattle.std.proofs.lemmas.Bool.Decides.{nat_tests}
 use Rattle.byteorder.specs.Endian.{big_from, little_from}
+use Rattle.rm_window.proofs.WindowLemmas.{rest_front}
 use Rattle.rm_pcap.specs.declared.form.Order.{Order}
 use Rattle.rm_pcap.specs.declared.form.Order.TheVariants.{HighestFirst, LowestFirst}
 use Rattle.rm_pcap.specs.declared.form.Form.{Form}
@@ -28,9 +29,6 @@ little_front i (suc n) k xs fits =
     let here : slice_index (take k xs) i ≡ slice_index xs i = index_front k i xs (omega (arith, fits)) in
     let more : little_from (suc i) n (take k xs) ≡ little_from (suc i) n xs = little_front (suc i) n k xs (omega (arith, fits)) in
     rw (here, more) refl
-
-pub rest_front : (at m : ℕ) (xs : List ℕ) → at ≤ m → drop at (take m xs) ≡ take (m - at) (drop at xs)
-rest_front at m xs within = let e : m ≡ at + (m - at) = omega arith in ap (λ (k : ℕ). drop at (take k xs)) e ∙ drop-take at (m - at) xs
 
 -- a number that stands within the front of some octets
 pub number_front : (order : Order) (n at m : ℕ) (xs : List ℕ) → at + n ≤ m → number_at order n at (take m xs) ≡ number_at order n at xs

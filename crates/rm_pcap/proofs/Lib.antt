@@ -1,6 +1,4 @@
-pub mod FillingLemmas
 pub mod FrontLemmas
-pub mod WindowLemmas
 pub mod FoundLemmas
 pub mod CaptureLemmas
 pub mod RecordLaws

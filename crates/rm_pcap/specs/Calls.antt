@@ -7,7 +7,7 @@ use Rattle.rm_pcap.specs.declared.fault.PcapFault.{PcapFault}
 use Rattle.rm_pcap.specs.declared.fault.PcapFault.TheVariants.{Magic, Version, LinkType, Included, Original, Late, TooMany, Read, NoMemory}
 use Rattle.rm_pcap.specs.declared.frame.Step.{Step}
 use Rattle.rm_pcap.specs.Header.{header_of}
-use Rattle.rm_pcap.specs.Filling.{IsFront}
+use Rattle.rm_window.specs.Filling.{IsFront}
 use Rattle.rm_pcap.specs.Records.{Found, Stops, Broken, found_at}
 use Rattle.rm_pcap.specs.Progress.{Progress, Agrees, IsLawfulFind, Shows, next_in, looking_at, passing, moment_found}
 

@@ -1,6 +1,5 @@
 pub mod Header
 pub mod Records
-pub mod Filling
 pub mod Progress
 pub mod Seen
 pub mod Calls

@@ -6,7 +6,7 @@ use Rattle.rm_pcap.specs.declared.reach.Reach.{Reach}
 use Rattle.rm_pcap.specs.declared.frame.Frame.{Frame}
 use Rattle.rm_pcap.specs.declared.frame.Step.{Step}
 use Rattle.rm_pcap.specs.declared.frame.Step.TheVariants.{Next, End, Cut}
-use Rattle.rm_pcap.specs.Filling.{IsFront}
+use Rattle.rm_window.specs.Filling.{IsFront}
 use Rattle.rm_pcap.specs.Records.{Ended, CutAt, Broken, Found, Whole, Stops, found_at, beginning}
 
 -- A capture that is being read: how its octets are read, the moment of its first frame, how far its records were passed,

@@ -6,14 +6,14 @@ use Rattle.rm_pcap.specs.declared.form.Form.{Form}
 use Rattle.rm_pcap.specs.declared.reach.Reach.{Reach}
 use Rattle.rm_pcap.specs.declared.record.Seen.{Seen}
 use Rattle.rm_pcap.specs.declared.record.Seen.TheVariants.{Whole as SeenWhole, End as SeenEnd, Cut as SeenCut}
-use Rattle.rm_pcap.specs.declared.window.Window.{Window}
+use Rattle.rm_window.specs.declared.window.Window.{Window}
 use Rattle.rm_pcap.specs.declared.place.Place.{Place}
 use Rattle.rm_pcap.specs.declared.capture.Capture.{Capture}
 use Rattle.rm_pcap.specs.Records.{Found, Whole, Stops, Ended, CutAt}
 use Rattle.rm_pcap.specs.Progress.{Progress}
 use Rattle.rm_pcap.specs.Calls.{Looks, Passes}
 use Rattle.rm_pcap.specs.Seen.{frame_seen, found_of}
-use Rattle.rm_pcap.specs.Window.{octets_of, passed_of}
+use Rattle.rm_window.specs.Window.{octets_of, passed_of}
 
 -- what was found at a place, if it was looked at
 abbrev pub ahead_of : Place → List ℕ → Option Seen → Option Found

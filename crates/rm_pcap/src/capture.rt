@@ -5,19 +5,22 @@ ghost use mathlib.Core.Option.{none};
 ghost use Rattle.rm_edge.specs.Outside.{File, Absent, Rose};
 ghost use Rattle.rm_pcap.specs.Seen.{IsAhead, IsNear, FollowsSeen};
 ghost use Rattle.rm_pcap.specs.Progress.{begun};
+ghost use Rattle.rm_window.specs.Window.{room_of};
 ghost use Rattle.rm_pcap.specs.Window.{IsHeld, IsPassed};
 ghost use Rattle.rm_pcap.specs.Calls.{LooksAt, Steps, Fails, IsFirstFault, BeginsAs};
 
 use crate::fault::PcapFault;
-use crate::filling::fill;
 use crate::frame::{Frame, Step};
 use crate::header::{HEADER, header_of};
 use crate::place::Place;
 use crate::reach::Reach;
 use crate::record::{RECORD_HEADER, Seen};
-use crate::window::Window;
 use rm_edge::Shelf;
+use rm_window::{Window, fill};
 use std::alloc::Global;
+
+/// How many octets the window of a capture has room for.
+const ROOM: usize = 327_680;
 
 /// A capture that is read record by record, through a window of its file.
 ///
@@ -30,6 +33,7 @@ pub struct Capture {
     seen: Option<Seen>,
     ghost near: { IsNear place.reach },
     ghost follows: { IsAhead place.reach seen },
+    ghost room: { room_of window ≡ 327680 },
     ghost long: { IsHeld window seen },
 }
 
@@ -66,7 +70,7 @@ impl Capture {
             return Err(PcapFault::Read);
         };
         let form = header_of(&header[..count])?;
-        let Ok(window) = Window::new(alloc) else {
+        let Ok(window) = Window::new(alloc, ROOM) else {
             return Err(PcapFault::NoMemory);
         };
         let reach = Reach {

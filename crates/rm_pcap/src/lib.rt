@@ -4,7 +4,6 @@
 mod capture;
 mod fault;
 mod fields;
-mod filling;
 mod form;
 mod frame;
 mod header;
@@ -14,7 +13,6 @@ mod reach;
 mod record;
 #[cfg(test)]
 mod tests;
-mod window;
 
 pub use capture::Capture;
 pub use fault::PcapFault;

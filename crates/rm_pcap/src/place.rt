@@ -1,7 +1,7 @@
 ghost use Rattle.std.specs.Prelude.{◌≡◌, ◌≤◌, ◌+◌, ℕ, List, length, drop, None, Some, IfOk, IfErr, MatchResult};
 ghost use Rattle.rm_edge.specs.Outside.{File, Rose};
 ghost use Rattle.rm_pcap.specs.Records.{fault_at, time_of, found_at};
-ghost use Rattle.rm_pcap.specs.Filling.{IsFront};
+ghost use Rattle.rm_window.specs.Filling.{IsFront};
 ghost use Rattle.rm_pcap.specs.Calls.{IsFaultAt, IsBroken};
 ghost use Rattle.rm_pcap.specs.Seen.{record_of, found_of, Follows, FollowsSeen, IsNear, IsLong};
 
@@ -10,8 +10,8 @@ use crate::fields::long_at;
 use crate::form::{Form, TimeUnit};
 use crate::reach::Reach;
 use crate::record::{MOST_LENGTH, MOST_RECORDS, RECORD_HEADER, Record, Seen};
-use crate::window::Window;
 use rm_edge::Shelf;
+use rm_window::Window;
 
 /// How the octets of a capture are read, the moment of its first frame, and how far it was read.
 #[derive(Clone, Copy)]
@@ -37,7 +37,7 @@ fn time_of(form: Form, octets: &[u8]) -> u64
 }
 
 impl Place {
-    ghost use Rattle.rm_pcap.specs.Window.{octets_of};
+    ghost use Rattle.rm_window.specs.Window.{octets_of, room_of};
 
     // The numbers of the record whose header comes first, or the header's first fault.
     #[tactic(auto, unfolding(crate::specs::Records::fault_at, crate::specs::Records::included_of, crate::specs::Records::original_of))]
@@ -90,10 +90,12 @@ impl Place {
         window: &mut Window,
     ) -> Result<Seen, PcapFault>
         requires near { IsNear self.reach }
+        requires room { room_of window.old ≡ 327680 }
         ensures constant { (each : List ℕ) → S.held shelf.new each ≡ S.held shelf.old each }
         ensures later { (each : List ℕ) → S.faults shelf.old each ≤ S.faults shelf.new each }
         ensures cause { IfErr result (λ fault. fault ≡ PcapFault.Read
             → Rose (S.faults shelf.old name.now) (S.faults shelf.new name.now)) }
+        ensures room { room_of window.new ≡ room_of window.old }
         ensures keeps { IsFront (octets_of window.old) (octets_of window.new) }
         ensures follows { IfOk result (λ seen. FollowsSeen self.reach seen) }
         ensures long { IfOk result (IsLong (octets_of window.new)) }

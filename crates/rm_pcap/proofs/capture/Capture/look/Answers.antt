@@ -1,7 +1,7 @@
 use Rattle.std.proofs.Common.{◌≡◌, ◌∙◌, ap, sym, refl, take, None, List, ℕ}
 use Rattle.rm_pcap.specs.Progress.{Progress}
 use Rattle.rm_pcap.specs.Seen.{found_of}
-use Rattle.rm_pcap.specs.Window.{octets_of}
+use Rattle.rm_window.specs.Window.{octets_of}
 use Rattle.rm_pcap.specs.View.{progress_of, ahead_of}
 use Rattle.rm_pcap.proofs.CaptureLemmas.{lawful_find, follows_seen, looks_again, looks_new}
 use Rattle.rm_pcap.proofs.capture.Capture.look.Goals as goal
@@ -28,7 +28,7 @@ unfolding progress_of
 returns-in-Err-clause-looks g c =
     let self = c.args.self.now in
     let same : octets_of c.truncate.new.self ≡ octets_of self.window =
-    c.truncate.ensures ∙ ap (λ (n : ℕ). take n (octets_of c.see.new.window)) c.len-next.ensures ∙ sym c.in-Err.ensures.keeps in
+    c.truncate.ensures.octets ∙ ap (λ (n : ℕ). take n (octets_of c.see.new.window)) c.len-next.ensures ∙ sym c.in-Err.ensures.keeps in
     ap (λ (octets : List ℕ). let p : Progress = record { form = self.place.form; lead = self.place.lead; reach = self.place.reach; ahead = ahead_of self.place octets self.seen; read = octets } in p) same
 
 pub returns-in-Err-clause-faults : goal.returns-in-Err-clause-faults

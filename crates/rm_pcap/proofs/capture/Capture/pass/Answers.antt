@@ -4,7 +4,7 @@ use Rattle.rm_pcap.specs.Records.{Whole}
 use Rattle.rm_pcap.specs.Progress.{Progress}
 use Rattle.rm_pcap.specs.Calls.{Looks}
 use Rattle.rm_pcap.specs.Seen.{frame_seen}
-use Rattle.rm_pcap.specs.Window.{octets_of, passed_of}
+use Rattle.rm_window.specs.Window.{octets_of, passed_of}
 use Rattle.rm_pcap.specs.View.{progress_of}
 use Rattle.rm_pcap.proofs.CaptureLemmas.{passes, behind_record}
 use Rattle.rm_pcap.proofs.capture.Capture.pass.Goals as goal

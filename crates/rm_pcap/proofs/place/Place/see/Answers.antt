@@ -1,6 +1,6 @@
 use Rattle.std.proofs.Common.{◌∙◌, arith, inr}
 use Rattle.std.proofs.lemmas.Result.{err_from_is_err_and}
-use Rattle.rm_pcap.specs.Window.{octets_of}
+use Rattle.rm_window.specs.Window.{octets_of}
 use Rattle.rm_pcap.proofs.FoundLemmas.{found_end, found_cut, is_header, found_broken, found_short, found_whole}
 use Rattle.rm_pcap.proofs.place.Place.see.Goals as goal
 

@@ -1,10 +1,11 @@
 ghost use Rattle.std.specs.Prelude.{◌≡◌, ◌≤◌, ◌<◌, ◌+◌, ◌^◌, ℕ, List, length, IfOk, IsErr};
 ghost use Rattle.rm_edge.specs.Outside.{File, Absent, HasCause};
-ghost use Rattle.rm_pcap.specs.Filling.{Fills};
+ghost use Rattle.rm_window.specs.Filling.{Fills};
 
 use rm_edge::{Failed, Shelf};
 
-// Reads a file's octets from place `at` on, until the buffer is full or the file ends, and answers how many it read.
+/// Reads a file's octets from place `at` on, until the buffer is full or the file ends, and answers how many it read.
+/// Failed comes only where a read failed.
 pub fn fill<S: Shelf>(shelf: &mut S, name: &str, at: u64, into: &mut [u8]) -> Result<usize, Failed>
     requires near { at + length into.old < 2 ^ 64 }
     ensures most { IfOk result (λ count. count ≤ length into.old) }

@@ -1,11 +1,13 @@
 -- What a window holds of a file.
 use Rattle.std.proofs.Common.{◌≡◌, ℕ, zero, suc, ◌+◌, ◌-◌, ◌≤◌, List, [], ◌∷◌, ◌++◌, length, take, drop, refl, sym, ap, ◌∙◌, arith}
-use Rattle.std.proofs.lemmas.List.{take-take, take_all, length-take, length-take-le, length-drop, drop-drop}
+use Rattle.std.proofs.lemmas.List.{take-take, take_all, length-take, length-take-le, length-drop, drop-drop, drop-take}
 use Rattle.std.proofs.lemmas.Slice.{take-put_mid_below}
 use borrow.Rule.Slice.PartMut.{put_mid}
-use Rattle.rm_pcap.specs.Filling.{Fills, IsFront, Holds}
-use Rattle.rm_pcap.proofs.FrontLemmas.{rest_front}
-use Rattle.rm_pcap.proofs.FillingLemmas.{take_sum, put_front}
+use Rattle.rm_window.specs.Filling.{Fills, IsFront, Holds}
+use Rattle.rm_window.proofs.FillingLemmas.{take_sum, put_front}
+
+pub rest_front : (at m : ℕ) (xs : List ℕ) → at ≤ m → drop at (take m xs) ≡ take (m - at) (drop at xs)
+rest_front at m xs within = let e : m ≡ at + (m - at) = omega arith in ap (λ (k : ℕ). drop at (take k xs)) e ∙ drop-take at (m - at) xs
 
 -- a front by its length
 pub take_length : (n : ℕ) (xs : List ℕ) → take n xs ≡ take (length (take n xs)) xs

@@ -1,8 +1,8 @@
 use Rattle.std.proofs.Common.{◌≡◌, ◌-◌, ℕ, List, ◌∙◌, length, arith}
 use Rattle.rm_edge.specs.Outside.{File}
-use Rattle.rm_pcap.proofs.FillingLemmas.{read_more, gives_of, not_absent}
+use Rattle.rm_window.proofs.FillingLemmas.{read_more, gives_of, not_absent}
 use borrow.Rule.Slice.PartMut.{put_mid, same_len_mid, mid_len}
-use Rattle.rm_pcap.proofs.filling.fill.Goals as goal
+use Rattle.rm_window.proofs.filling.fill.Goals as goal
 
 pub loop-filled-preserved : goal.loop-filled-preserved
 loop-filled-preserved g c =

@@ -1,5 +1,5 @@
-use Rattle.rm_pcap.proofs.WindowLemmas.{passed_front, passed_last}
-use Rattle.rm_pcap.proofs.window.Window.pass.Goals as goal
+use Rattle.rm_window.proofs.WindowLemmas.{passed_front, passed_last}
+use Rattle.rm_window.proofs.window.Window.pass.Goals as goal
 
 pub returns-clause-octets : goal.returns-clause-octets
 returns-clause-octets c =

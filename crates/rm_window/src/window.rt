@@ -1,34 +1,33 @@
 ghost use Rattle.std.specs.Prelude.{◌≡◌, ◌≤◌, ◌<◌, ◌+◌, ◌-◌, ◌^◌, ℕ, List, [], length, take, drop, vec_len, IfOk};
 ghost use Rattle.rm_edge.specs.Outside.{File, HasCause};
-ghost use Rattle.rm_pcap.specs.Filling.{IsFront, Holds};
+ghost use Rattle.rm_window.specs.Filling.{IsFront, Holds};
 
 use crate::filling::fill;
 use rm_edge::{Failed, Shelf};
 use std::alloc::{AllocError, Global};
 
-/// How many octets a window has room for.
-const ROOM: usize = 327_680;
-
 /// Octets of a file that were read: some that were passed, and behind them those that are next.
+///
+/// It reserves its room when it is made, and nothing later.
 #[derive(Drop)]
 pub struct Window {
     buffer: Vec<u8>,
     // Where the octets that are next begin, and where they end.
     from: usize,
     until: usize,
-    ghost room: { vec_len buffer ≡ 327680 },
     ghost order: { from ≤ until },
-    ghost within: { until ≤ 327680 },
+    ghost within: { until ≤ vec_len buffer },
 }
 
 impl Window {
-    ghost use Rattle.rm_pcap.specs.Window.{octets_of, passed_of};
+    ghost use Rattle.rm_window.specs.Window.{octets_of, passed_of, kept_of, room_of};
 
-    /// A window with no octets.
-    pub fn new(alloc: Global) -> Result<Window, AllocError>
-        ensures { IfOk result (λ window. octets_of window ≡ []) }
+    /// A window with no octets, and room for so many.
+    pub fn new(alloc: Global, room: usize) -> Result<Window, AllocError>
+        ensures octets { IfOk result (λ window. octets_of window ≡ []) }
+        ensures room { IfOk result (λ window. room_of window ≡ room) }
     {
-        let buffer = vec![in alloc; 0u8; ROOM]?;
+        let buffer = vec![in alloc; 0u8; room]?;
         Ok(Window {
             buffer,
             from: 0,
@@ -52,7 +51,7 @@ impl Window {
 
     /// So many of the octets that were passed last.
     pub fn passed(&self, count: usize) -> &[u8]
-        requires { count ≤ self.now.from }
+        requires { count ≤ kept_of self.now }
         ensures { result.now ≡ passed_of self.now count }
     {
         &self.buffer[self.from - count..self.from]
@@ -62,7 +61,8 @@ impl Window {
     pub fn pass(&mut self, count: usize)
         requires { count ≤ length (octets_of self.old) }
         ensures octets { octets_of self.new ≡ drop count (octets_of self.old) }
-        ensures from { count ≤ self.new.from }
+        ensures kept { count ≤ kept_of self.new }
+        ensures room { room_of self.new ≡ room_of self.old }
         ensures passed { (k : ℕ) → k ≤ count → passed_of self.new k ≡ take k (drop (count - k) (octets_of self.old)) }
     {
         self.from += count;
@@ -71,7 +71,8 @@ impl Window {
     /// Lets go of the octets behind the first ones.
     pub fn truncate(&mut self, count: usize)
         requires { count ≤ length (octets_of self.old) }
-        ensures { octets_of self.new ≡ take count (octets_of self.old) }
+        ensures octets { octets_of self.new ≡ take count (octets_of self.old) }
+        ensures room { room_of self.new ≡ room_of self.old }
     {
         self.until = self.from + count;
     }
@@ -80,14 +81,18 @@ impl Window {
     fn turn(&mut self)
         ensures octets { octets_of self.new ≡ octets_of self.old }
         ensures from { self.new.from ≡ 0 }
+        ensures room { room_of self.new ≡ room_of self.old }
     {
         self.buffer.copy_within(self.from..self.until, 0);
         self.until -= self.from;
         self.from = 0;
     }
 
-    /// Reads the file on until so many octets are next, or it ends, and answers how many are next. The octets that are
-    /// next stand from place `at` on, and stay so.
+    /// Sees that so many octets are next, or all that the file has left, and answers how many are next.
+    ///
+    /// The octets that are next stand from place `at` of the file on, and stay so. Where fewer are next than are needed, they
+    /// move to the front, and reads fill the room behind them until there is none or the file ends. Failed comes only
+    /// where a read failed.
     pub fn hold<S: Shelf>(
         &mut self,
         shelf: &mut S,
@@ -95,11 +100,12 @@ impl Window {
         at: u64,
         need: usize,
     ) -> Result<usize, Failed>
-        requires near { at + 327680 < 2 ^ 64 }
-        requires fits { need ≤ 327680 }
+        requires near { at + room_of self.old < 2 ^ 64 }
+        requires fits { need ≤ room_of self.old }
         ensures constant { (each : List ℕ) → S.held shelf.new each ≡ S.held shelf.old each }
         ensures later { (each : List ℕ) → S.faults shelf.old each ≤ S.faults shelf.new each }
         ensures cause { HasCause (S.faults shelf.old name.now) (S.faults shelf.new name.now) result }
+        ensures room { room_of self.new ≡ room_of self.old }
         ensures keeps { IsFront (octets_of self.old) (octets_of self.new) }
         ensures count { IfOk result (λ count. count ≡ length (octets_of self.new)) }
         ensures holds { (bytes : List ℕ) → S.held shelf.old name.now ≡ File bytes → IsFront (octets_of self.old) (drop at bytes)
