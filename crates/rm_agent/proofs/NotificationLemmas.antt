@@ -2,27 +2,22 @@
 use Rattle.std.proofs.Common.{◌≡◌, ℕ, ◌≤◌, ◌+◌, ◌*◌, ◌%◌, ◌/◌, ◌^◌, List, [], ◌∷◌, length, Bool, true, false, cond, ◌&&◌, Option, Some, None, refl, sym, ap, subst, ◌∙◌, arith}
 use Rattle.std.specs.Prelude.{ℤ, pos, ◌↔◌, Result, Ok, Err, IsOk, OnOk, unwrap_or, is_some}
 use Rattle.std.specs.List.{sum_by}
-use Rattle.std.specs.Option.{option_map, option_and_then}
+use Rattle.std.specs.Option.{option_map}
 use Rattle.rm_val.specs.Val.{Val, int, name, ticks, octets}
 use Rattle.rm_model.specs.Settings.{Settings as Counting}
 use Rattle.rm_model.specs.Journal.{Act, Journal, samples}
-use Rattle.rm_acts.specs.Alarms.{alarm_entry, alarm_table, alarm_state, number_of, name_of, sampled}
-use Rattle.rm_model.specs.Alike.{HasSameColumns}
-use Rattle.rm_model.specs.ControlRows.{cell_name, no_rows, is_absent, is_valid, set_value}
+use Rattle.rm_acts.specs.Alarms.{alarm_entry, alarm_state, number_of, name_of, sampled}
+use Rattle.rm_model.specs.ControlRows.{cell_name, no_rows, is_absent, is_valid}
 use Rattle.rm_model.specs.declared.row.State.{State}
 use Rattle.rm_model.specs.declared.row.State.TheVariants.{Absent, UnderCreation, Valid}
 use Rattle.rm_acts.specs.declared.sampled.Sampled.{Sampled}
 use Rattle.rm_acts.specs.declared.sampled.Sampled.TheVariants.{Quiet, Rising, Falling, Gone}
-use Rattle.rm_status.specs.declared.row.Row.{Row}
 use Rattle.rm_status.specs.Values.{octets_in}
-use Rattle.rm_status.specs.Rows.{row_in, state_seen, columns_seen}
 use Rattle.rm_status.proofs.RowsAfterLemmas.{state_sampled}
-use Rattle.rm_alarm.specs.declared.alarms.Alarms.{Alarms}
 use Rattle.rm_alarm.specs.declared.row.AlarmRow.{AlarmRow}
-use Rattle.rm_alarm.specs.AlarmTable.{alarm_shown}
-use Rattle.rm_alarm.specs.Rows.{set_to}
+use Rattle.rm_alarm.specs.Rows.{variable_kept}
+use Rattle.rm_alarm.specs.ShownRow.{AreShown, cell_of_alarm}
 use Rattle.rm_alarm.specs.SampleType.{type_number}
-use Rattle.rm_alarm.specs.Standing.{Stands as AlarmsStand}
 use Rattle.rm_alarm.specs.Watched.{number_read}
 use Rattle.rm_event.specs.EventTable.{event_table, event_state, event_set, type_of}
 use Rattle.rm_acts.specs.declared.firing.Firing.{Firing}
@@ -35,7 +30,7 @@ use Rattle.rm_pdu.specs.declared.kind.Kind.TheVariants.{Trap}
 use Rattle.rm_agent.specs.declared.sampling.Taken.{Taken}
 use Rattle.rm_agent.specs.declared.told.Told.{Told}
 use Rattle.rm_agent.specs.declared.trap.AlarmTrap.{AlarmTrap}
-use Rattle.rm_agent.specs.Members.{Groups, alarms_of}
+use Rattle.rm_agent.specs.Members.{Groups}
 use Rattle.rm_agent.specs.Notifications.{up_time_name, trap_name, rising_alarm, falling_alarm, trap_of, is_sent, is_trap, by_no_channel, community_text, trap_bindings, told_bindings, numbered_trap, sent_by, notification_numbered}
 use Rattle.rm_agent.specs.Told.{told_of, stated_bindings, stated_trap, IsTaken}
 use Rattle.rm_agent.proofs.DueLemmas.{valid_if_due}
@@ -87,51 +82,27 @@ stated_short adds numbers ticked names community id moment alarm trap told short
 
 -- What the columns of a valid alarm show.
 
-int_again : (z : ℤ) (v : Val) → int z ≡ v → v ≡ int (number_of v)
-int_again z v is = subst (λ (w : Val). w ≡ int (number_of w)) is refl
+number_again : (z : ℤ) (v : Val) → v ≡ int z → v ≡ int (number_of v)
+number_again z v is = is ∙ ap (λ w. int (number_of w)) (sym is)
 
-name_again : (numbers : List ℕ) (v : Val) → name numbers ≡ v → v ≡ name (name_of v)
-name_again numbers v is = subst (λ (w : Val). w ≡ name (name_of w)) is refl
+name_again : (numbers : List ℕ) (v : Val) → v ≡ name numbers → v ≡ name (name_of v)
+name_again numbers v is = is ∙ ap (λ w. name (name_of w)) (sym is)
 
-variable_name : (variable : Option (List ℕ)) → name (unwrap_or variable (0 ∷ 0 ∷ [])) ≡ unwrap_or (option_map name variable) (name (0 ∷ 0 ∷ []))
-variable_name None = refl
-variable_name (Some numbers) = refl
-
-module _ (alarms : Alarms) (settings : Counting) (journal : Journal) (alarm : ℕ) (stands : AlarmsStand alarms settings journal) (valid : is_valid (alarm_state journal alarm) ≡ true) where
-  abbrev Shows : AlarmRow → Type 0
-  Shows columns = HasSameColumns alarm_table (set_to columns) (set_value alarm_table no_rows journal (alarm ∷ []))
-
-  the_row : (o : Option (Row AlarmRow)) → row_in alarms.rows alarm ≡ o → (columns : AlarmRow) × Shows columns
-  the_row None here = let absent = sym (ap state_seen here) ∙ stands.rows.alike.states alarm in let never = ap is_valid absent ∙ valid in absurd (cc)
-  the_row (Some row) here =
-      let is = sym (ap state_seen here) ∙ stands.rows.alike.states alarm in (
-        row.columns,
-        subst (λ (o : Option (Row AlarmRow)). HasSameColumns alarm_table (λ n. option_and_then (λ c. set_to c n) (columns_seen o)) (set_value alarm_table no_rows journal (alarm ∷ []))) here
-            (stands.rows.alike.columns alarm (ap is_absent (stands.rows.alike.states alarm) ∙ there (alarm_state journal alarm) valid)),
-      )
-    where
-      there : (state : State) → is_valid state ≡ true → is_absent state ≡ false
-      there Valid h = refl
-      there UnderCreation h = refl
-      there Absent h = absurd (cc)
-
-  its : (columns : AlarmRow) × Shows columns
-  its = the_row (row_in alarms.rows alarm) refl
-
+module _ (settings : Counting) (journal : Journal) (alarm : ℕ) (row : AlarmRow) (shown : AreShown settings journal alarm row) where
   abbrev IsNumber : ℕ → Type 0
-  IsNumber column = alarm_shown settings journal column (alarm ∷ []) ≡ int (number_of (alarm_shown settings journal column (alarm ∷ [])))
+  IsNumber column = cell_of_alarm settings journal alarm column ≡ int (number_of (cell_of_alarm settings journal alarm column))
+
+  its_name : cell_of_alarm settings journal alarm 3 ≡ name (name_of (cell_of_alarm settings journal alarm 3))
+  its_name = name_again (variable_kept row) (cell_of_alarm settings journal alarm 3) shown.variable
 
   its_type : IsNumber 4
-  its_type = int_again (type_number its.0.sample_type) _ its.1.1.1.0.shown
+  its_type = number_again (type_number row.sample_type) (cell_of_alarm settings journal alarm 4) shown.sample_type
 
   rising_number : IsNumber 7
-  rising_number = int_again its.0.thresholds.rising _ its.1.1.1.1.1.0.shown
+  rising_number = number_again row.thresholds.rising (cell_of_alarm settings journal alarm 7) shown.rising
 
   falling_number : IsNumber 8
-  falling_number = int_again its.0.thresholds.falling _ its.1.1.1.1.1.1.0.shown
-
-  pub shows_name : alarm_shown settings journal 3 (alarm ∷ []) ≡ name (name_of (alarm_shown settings journal 3 (alarm ∷ [])))
-  shows_name = name_again _ _ (variable_name its.0.variable ∙ its.1.1.0.shown)
+  falling_number = number_again row.thresholds.falling (cell_of_alarm settings journal alarm 8) shown.falling
 
   threshold_number : (comes : Sampled) (trap : AlarmTrap) → trap_of comes ≡ Some trap → IsNumber trap.threshold_column
   threshold_number Rising trap is = let same : rising_alarm ≡ trap = cc in subst (λ (t : AlarmTrap). IsNumber t.threshold_column) same rising_number
@@ -144,7 +115,7 @@ module _ (alarms : Alarms) (settings : Counting) (journal : Journal) (alarm : �
       → stated_bindings moment alarm trap (told_of settings journal alarm trap.threshold_column) ≡ told_bindings settings journal moment alarm trap
   tells moment comes trap is =
       let crossed = threshold_number comes trap is in
-      λ d. trap_bindings moment alarm trap (int (pos alarm)) (sym shows_name d) (sym its_type d) (alarm_shown settings journal 5 (alarm ∷ [])) (sym crossed d)
+      λ d. trap_bindings moment alarm trap (int (pos alarm)) (sym its_name d) (sym its_type d) (cell_of_alarm settings journal alarm 5) (sym crossed d)
 
 -- The notification that is made of what was taken.
 
@@ -243,11 +214,11 @@ module _ (settings : Counting) (journal : Journal) (moment alarm : ℕ) (groups 
       pub valid : is_valid (alarm_state after alarm) ≡ true
       valid = valid_after settings journal moment alarm reading (valid_if_due journal alarm moment is.due) (ap (λ (comes : Sampled). is_some (trap_of comes)) (sym is.comes) ∙ ap is_some crossed)
 
-      pub made : (community : List ℕ) (id : ℕ) (told : Told) (draft : Drafted) → community ≡ community_text journal event → number % 2 ^ 31 ≡ id
+      pub made : (row : AlarmRow) → AreShown settings after alarm row → (community : List ℕ) (id : ℕ) (told : Told) (draft : Drafted) → community ≡ community_text journal event → number % 2 ^ 31 ≡ id
           → told ≡ told_of settings after alarm trap.threshold_column → draft ≡ drafted (stated_trap community id moment alarm trap told)
           → ◌≡◌ {A = Option Drafted} (Some draft) (option_map drafted (notification_numbered settings number act journal))
-      made community id told draft text numbered tells_this drafted_so =
-          let bindings = ap (stated_bindings moment alarm trap) tells_this ∙ tells (alarms_of groups) settings after alarm is.stands.1.1.stand valid moment taken.comes trap crossed in
+      made row shown community id told draft text numbered tells_this drafted_so =
+          let bindings = ap (stated_bindings moment alarm trap) tells_this ∙ tells settings after alarm row shown moment taken.comes trap crossed in
           let same : stated_trap community id moment alarm trap told ≡ message_for number trap =
           λ d. record { community = text d; kind = Trap; id = pos (sym numbered d); first = pos 0; second = pos 0; bindings = bindings d } in
           ap Some (drafted_so ∙ ap drafted same) ∙ sym (ap (option_map drafted) the_notification)

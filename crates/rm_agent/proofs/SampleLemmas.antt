@@ -1,16 +1,14 @@
 -- Lemmas on the samples of alarms, and on the events that they fire.
-use Rattle.std.proofs.Common.{◌≡◌, ℕ, [], ◌∷◌, Bool, true, cond, ◌&&◌, not, Option, Some, None, refl, ap, ◌∙◌}
+use Rattle.std.proofs.Common.{◌≡◌, ℕ, [], ◌∷◌, true, cond, ◌&&◌, Option, Some, None, refl}
 use Rattle.std.specs.Prelude.{ℤ, is_some}
 use Rattle.rm_model.specs.Settings.{Settings as Counting}
 use Rattle.rm_model.specs.Journal.{Journal, samples}
-use Rattle.rm_acts.specs.Alarms.{alarm_entry, alarm_state, sampled}
-use Rattle.rm_model.specs.Cells.{cells_of, cell_at, is_one_of}
-use Rattle.rm_model.specs.ControlRows.{cell_name, is_absent, is_valid}
+use Rattle.rm_acts.specs.Alarms.{alarm_state, sampled}
+use Rattle.rm_model.specs.ControlRows.{is_valid}
 use Rattle.rm_model.specs.declared.row.State.{State}
 use Rattle.rm_model.specs.declared.row.State.TheVariants.{Absent, UnderCreation, Valid}
 use Rattle.rm_acts.specs.declared.sampled.Sampled.{Sampled}
 use Rattle.rm_acts.specs.declared.sampled.Sampled.TheVariants.{Quiet, Rising, Falling, Gone}
-use Rattle.rm_alarm.specs.AlarmTable.{alarm_columns, alarm_shown, alarms_table}
 use Rattle.rm_event.specs.declared.event_type.EventType.{EventType}
 use Rattle.rm_event.specs.declared.event_type.EventType.TheVariants as type
 use Rattle.rm_event.specs.declared.fired.Fired.{Fired}
@@ -19,18 +17,6 @@ use Rattle.rm_acts.specs.Events.{event_asked}
 use Rattle.rm_event.specs.Standing.{fired_of}
 use Rattle.rm_agent.specs.Notifications.{trap_of, is_sent, is_trap}
 use Rattle.rm_agent.specs.Told.{firings_by}
-
-there : (state : State) → is_valid state ≡ true → not (is_absent state) ≡ true
-there Valid valid = refl
-there UnderCreation valid = absurd (cc)
-there Absent valid = absurd (cc)
-
--- the cell of a column of a valid alarm
-pub shown_cell : (settings : Counting) (journal : Journal) (column alarm : ℕ) → is_one_of alarm_columns column ≡ true → is_valid (alarm_state journal alarm) ≡ true
-    → cells_of (alarms_table settings journal) (cell_name alarm_entry column (alarm ∷ [])) ≡ Some (alarm_shown settings journal column (alarm ∷ []))
-shown_cell settings journal column alarm one valid =
-    ap (λ (b : Bool). cell_at (alarms_table settings journal) (cond b (Some (record { column = column; index = alarm ∷ [] })) None)) one
-    ∙ ap (λ (b : Bool). cond b (Some (alarm_shown settings journal column (alarm ∷ []))) None) (there (alarm_state journal alarm) valid)
 
 -- a trap is sent by an event whose type sends it and whose row is valid
 pub is_sending : (state : State) (kind : EventType) → is_trap (fired_of state kind) ≡ (is_valid state && is_sent kind)
@@ -70,3 +56,10 @@ same_event journal moment alarm reading Rising = refl
 same_event journal moment alarm reading Falling = refl
 same_event journal moment alarm reading Quiet = refl
 same_event journal moment alarm reading Gone = refl
+
+-- one that crosses no threshold asks for none
+pub none_asked : (journal : Journal) (alarm : ℕ) (comes : Sampled) → (is_some (trap_of comes) ≡ true → ⊥) → 0 ≡ event_asked journal alarm comes
+none_asked journal alarm Rising none = absurd (none refl)
+none_asked journal alarm Falling none = absurd (none refl)
+none_asked journal alarm Quiet none = refl
+none_asked journal alarm Gone none = refl

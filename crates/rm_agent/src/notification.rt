@@ -37,7 +37,8 @@ pub(crate) fn notification(
     }
     let trap = trap_of(taken.comes)?;
     let community = events(groups).community(taken.event)?;
-    let told = Told::of(alarms(groups), alarm, trap.threshold_column, moment);
+    let row = alarms(groups).row(alarm)?;
+    let told = Told::of(row, alarm, trap.threshold_column);
     Some(draft_of(community, id, moment, alarm, &trap, &told))
 }
 

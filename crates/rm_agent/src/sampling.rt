@@ -1,15 +1,13 @@
 // The samples of alarms, and their firings.
 ghost use Rattle.std.specs.Prelude.{◌≡◌, ℕ, ◌≤◌, ◌<◌, [], ◌∷◌, true, Some, is_some};
-ghost use Rattle.rm_val.specs.Val.{val_of};
-ghost use Rattle.rm_val.specs.Spellable.{HasSpelling};
+ghost use Rattle.rm_val.specs.Val.{int};
+ghost use Rattle.rm_val.specs.Contents.{natural_in};
 ghost use Rattle.rm_model.specs.Settings.{Settings};
 ghost use Rattle.rm_model.specs.Journal.{Act, Journal, moment_of, last_moment};
-ghost use Rattle.rm_model.specs.Cells.{is_one_of};
 ghost use Rattle.rm_model.specs.ControlRows.{is_valid};
 ghost use Rattle.rm_acts.specs.Alarms.{alarm_state, due_of};
 ghost use Rattle.rm_acts.specs.Events.{event_asked};
 ghost use Rattle.rm_acts.specs.Fired.{act_fires, fired as all_fired};
-ghost use Rattle.rm_alarm.specs.AlarmTable.{alarm_columns, alarm_shown};
 ghost use Rattle.rm_alarm.specs.Group.{due_in};
 ghost use Rattle.rm_alarm.specs.Left.{samples_left};
 ghost use Rattle.rm_alarm.specs.Standing.{Stands as AlarmsStand};
@@ -20,10 +18,8 @@ ghost use Rattle.rm_agent.specs.Told.{IsTaken, firings_by};
 
 use crate::groups::{Groups, alarms, events, sample, take_each};
 use rm_acts::Firing;
-use rm_alarm::column::{FALLING_EVENT_INDEX, RISING_EVENT_INDEX};
-use rm_alarm::{Alarms, Sampled, column_name};
+use rm_alarm::{Alarms, Sampled};
 use rm_event::Fired;
-use rm_group::Group;
 use rm_status::natural_in;
 use rm_val::Value;
 
@@ -47,7 +43,7 @@ pub(crate) fn take(groups: &mut Groups, index: u32, moment: u32) -> Taken
         → samples_left (alarms_of groups.new) latest < samples_left (alarms_of groups.old) latest }
 {
     let comes = sample(groups, index, moment);
-    let event = event_asked(alarms(groups), index, moment, comes);
+    let event = event_asked(alarms(groups), index, comes);
     let fired = events(groups).becomes(event);
     take_firing(groups, event, fired, moment);
     Taken {
@@ -76,28 +72,25 @@ fn take_firing(groups: &mut Groups, event: u32, fired: Fired, moment: u32)
     }
 }
 
-/// What a column of a valid alarm shows at a moment in milliseconds.
-pub(crate) fn shown(alarms: &Alarms, column: u32, index: u32, moment: u32) -> Value<'_>
-    requires { is_one_of alarm_columns column ≡ true }
-    ensures value { (settings : Settings) (journal : Journal) → AlarmsStand alarms.now settings journal → last_moment journal ≤ moment
-        → is_valid (alarm_state journal index) ≡ true → val_of result ≡ alarm_shown settings journal column (index ∷ []) }
-    ensures spelling { HasSpelling (val_of result) }
-{
-    match alarms.cell(&column_name(column, index), moment) {
-        Some(value) => value,
-        None => Value::Null,
-    }
-}
-
 // The event that a sample of an alarm asks for, by what it comes to: 0 for none.
-fn event_asked(alarms: &Alarms, index: u32, moment: u32, comes: Sampled) -> u32
-    ensures { (settings : Settings) (journal : Journal) → AlarmsStand alarms.now settings journal → last_moment journal ≤ moment
+fn event_asked(alarms: &Alarms, index: u32, comes: Sampled) -> u32
+    ensures { (settings : Settings) (journal : Journal) → AlarmsStand alarms.now settings journal
         → (is_some (trap_of comes) ≡ true → is_valid (alarm_state journal index) ≡ true)
         → result ≡ event_asked journal index comes }
 {
+    let Some(row) = alarms.row(index) else {
+        return 0;
+    };
     match comes {
-        Sampled::Rising => natural_in(&shown(alarms, RISING_EVENT_INDEX, index, moment)),
-        Sampled::Falling => natural_in(&shown(alarms, FALLING_EVENT_INDEX, index, moment)),
+        Sampled::Rising => event_in(row.rising_event),
+        Sampled::Falling => event_in(row.falling_event),
         Sampled::Quiet | Sampled::Gone => 0,
     }
+}
+
+// The event with the number that a column has: 0, which is none, where it is negative.
+fn event_in(number: i32) -> u32
+    ensures { result ≡ natural_in (int number) }
+{
+    natural_in(&Value::Int(number))
 }

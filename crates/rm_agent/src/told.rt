@@ -1,15 +1,11 @@
 // What a trap tells of its alarm.
-ghost use Rattle.std.specs.Prelude.{◌≡◌, ℕ, ◌≤◌, List, true};
-ghost use Rattle.rm_val.specs.Val.{val_of, name};
-ghost use Rattle.rm_val.specs.Spellable.{IsSpellable, HasSpelling};
-ghost use Rattle.rm_acts.specs.Alarms.{number_of};
-ghost use Rattle.rm_model.specs.Cells.{is_one_of};
-ghost use Rattle.rm_alarm.specs.AlarmTable.{alarm_columns};
+ghost use Rattle.std.specs.Prelude.{◌≡◌, ◌≤◌, ◌⊎◌};
+ghost use Rattle.rm_val.specs.Spellable.{IsSpellable};
+ghost use Rattle.rm_alarm.specs.Rows.{variable_kept};
 
-use crate::sampling::shown;
-use rm_alarm::Alarms;
-use rm_alarm::column::{INDEX, SAMPLE_TYPE, VALUE, VARIABLE};
-use rm_val::{Oid, Value};
+use rm_alarm::AlarmRow;
+use rm_alarm::column::RISING_THRESHOLD;
+use rm_val::Oid;
 
 /// What a trap tells of its alarm.
 #[derive(Drop)]
@@ -28,47 +24,29 @@ pub(crate) struct Told {
 
 impl Told {
     ghost use Rattle.rm_model.specs.Settings.{Settings};
-    ghost use Rattle.rm_model.specs.Journal.{Journal, last_moment};
-    ghost use Rattle.rm_acts.specs.Alarms.{alarm_state};
-    ghost use Rattle.rm_model.specs.ControlRows.{is_valid};
-    ghost use Rattle.rm_alarm.specs.Standing.{Stands as AlarmsStand};
+    ghost use Rattle.rm_model.specs.Journal.{Journal};
+    ghost use Rattle.rm_alarm.specs.ShownRow.{AreShown};
     ghost use Rattle.rm_agent.specs.Told.{told_of};
 
-    /// What a trap tells of a valid alarm whose sample crossed the threshold in a column, at a moment in milliseconds.
-    pub fn of(alarms: &Alarms, alarm: u32, threshold: u32, moment: u32) -> Told
-        requires { is_one_of alarm_columns threshold ≡ true }
-        ensures told { (settings : Settings) (journal : Journal) → AlarmsStand alarms.now settings journal → last_moment journal ≤ moment
-            → is_valid (alarm_state journal alarm) ≡ true → result ≡ told_of settings journal alarm threshold }
+    /// What a trap tells of the alarm with a number and these columns, whose sample crossed the threshold in a column.
+    pub fn of(row: &AlarmRow, alarm: u32, threshold: u32) -> Told
+        requires index { alarm ≤ 65535 }
+        requires spelling { IsSpellable (variable_kept row.now) }
+        requires threshold { (threshold ≡ 7) ⊎ (threshold ≡ 8) }
+        ensures told { (settings : Settings) (journal : Journal) → AreShown settings journal alarm row.now
+            → result ≡ told_of settings journal alarm threshold }
         ensures spelling { IsSpellable result.variable }
     {
         Told {
-            index: number_in(&shown(alarms, INDEX, alarm, moment)),
-            variable: name_in(shown(alarms, VARIABLE, alarm, moment)),
-            sample_type: number_in(&shown(alarms, SAMPLE_TYPE, alarm, moment)),
-            value: number_in(&shown(alarms, VALUE, alarm, moment)),
-            threshold: number_in(&shown(alarms, threshold, alarm, moment)),
+            index: alarm as i32,
+            variable: row.variable(),
+            sample_type: row.sample_type.number(),
+            value: row.value(),
+            threshold: if threshold == RISING_THRESHOLD {
+                row.thresholds.rising
+            } else {
+                row.thresholds.falling
+            },
         }
-    }
-}
-
-// The number that a value is, 0 where it is none.
-fn number_in(value: &Value<'_>) -> i32
-    ensures { result ≡ number_of (val_of value.now) }
-{
-    match value {
-        Value::Int(number) => *number,
-        _ => 0,
-    }
-}
-
-// The name that a value is, 0.0 where it is none.
-fn name_in(value: Value<'_>) -> Oid
-    requires { HasSpelling (val_of value) }
-    ensures name { (numbers : List ℕ) → val_of value.entry ≡ name numbers → result ≡ numbers }
-    ensures spelling { IsSpellable result }
-{
-    match value {
-        Value::Name(name) => name,
-        _ => Oid::from_slice(&[0, 0]).unwrap(),
     }
 }

@@ -37,7 +37,7 @@ no_values settings journal i idle =
     ap (λ l. values_of_readings (is_delta journal i) (is_counted (base_of settings journal i)) (base_number (base_of settings journal i)) (readings_in i l)) (since_idle alarm_table no_rows journal (i ∷ []) idle)
 
 -- the value that is kept
-value_is : (settings : Settings) (journal : Journal) (i : ℕ) (s : State) (row : AlarmRow) (o : Option Course) → s ≡ alarm_state journal i → IsKept settings journal i s row o → last_value o ≡ newest_or (pos 0) (sample_values settings journal i)
+pub value_is : (settings : Settings) (journal : Journal) (i : ℕ) (s : State) (row : AlarmRow) (o : Option Course) → s ≡ alarm_state journal i → IsKept settings journal i s row o → last_value o ≡ newest_or (pos 0) (sample_values settings journal i)
 value_is settings journal i Valid row (Some course) e k = ap (λ o. unwrap_or o (pos 0)) k.keeps.last ∙ newest_is (sample_values settings journal i)
 value_is settings journal i Valid row None e k = absurd k
 value_is settings journal i UnderCreation row o e k = ap last_value k ∙ sym (ap (newest_or (pos 0)) (no_values settings journal i (ap is_valid (sym e))))

@@ -10,3 +10,4 @@ mod Cells
 mod Pace
 mod Watching
 pub mod Dues
+pub mod ShownRows

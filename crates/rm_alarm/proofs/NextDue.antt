@@ -11,6 +11,7 @@ use Rattle.rm_model.specs.declared.row.State.TheVariants.{Absent, UnderCreation,
 use Rattle.rm_status.specs.declared.row.Row.{Row}
 use Rattle.rm_status.specs.Rows.{row_in, state_seen, AllThere, IsIndexAfter}
 use Rattle.rm_status.specs.RowsAfter.{AreRowsAfter}
+use Rattle.rm_status.specs.Change.{changed_row}
 use Rattle.rm_alarm.specs.declared.course.Course.{Course}
 use Rattle.rm_alarm.specs.declared.row.AlarmRow.{AlarmRow}
 use Rattle.rm_alarm.specs.Due.{due_at, nearer}
@@ -124,6 +125,18 @@ due_is rows settings journal is kept i = by_row (row_in rows i) refl
 
 pub next_by : (due other : ℕ → Option ℕ) (next : Option (ℕ × ℕ)) → ((i : ℕ) → due i ≡ other i) → IsNextDue due next → IsNextDue other next
 next_by due other next same is = subst (λ (f : ℕ → Option ℕ). IsNextDue f next) (λ d i. same i d) is
+
+abbrev due_in_row : Option (Row AlarmRow) → Option ℕ
+due_in_row = option_and_then (λ (row : Row AlarmRow). option_map (λ course. course.due) row.columns.course)
+
+-- a change that leaves what is kept of samples
+pub next_kept : (change : ℕ → State → AlarmRow → AlarmRow) → ((index : ℕ) (state : State) (row : AlarmRow) → (change index state row).course ≡ row.course)
+    → (rows new : List (Row AlarmRow)) → ((i : ℕ) → row_in new i ≡ option_map (changed_row change) (row_in rows i)) → (next : Option (ℕ × ℕ)) → IsNextDue (due_at rows) next → IsNextDue (due_at new) next
+next_kept change courses rows new changed next is = next_by (due_at rows) (due_at new) next (λ i. sym (ap due_in_row (changed i) ∙ same (row_in rows i))) is
+  where
+    same : (o : Option (Row AlarmRow)) → due_in_row (option_map (changed_row change) o) ≡ due_in_row o
+    same None = refl
+    same (Some row) = ap (option_map (λ course. course.due)) (courses row.index row.state row.columns)
 
 pub begins : (rows : List (Row AlarmRow)) → AllThere rows → IsNextTo (due_at rows) 0 None
 begins rows there alarm h = let zero_is : alarm ≡ 0 = omega arith in ap (due_at rows) zero_is ∙ due_none rows 0 (no_row_0 rows there)

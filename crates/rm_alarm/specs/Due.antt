@@ -1,6 +1,9 @@
 -- Which sample is due next, by the rows.
-use Rattle.std.specs.Prelude.{ℕ, List, nat_lt, if◌then◌else◌, Option, Some, None}
+use Rattle.std.specs.Prelude.{◌≡◌, ◌⊎◌, ℕ, ◌<◌, ◌≤◌, List, nat_lt, if◌then◌else◌, Option, Some, None}
 use Rattle.std.specs.Option.{option_and_then, option_map}
+use Rattle.std.proofs.Common.{inl, inr, ap, arith}
+use Rattle.std.proofs.Props.{props}
+use Rattle.rm_acts.specs.Alarms.{IsNextDue}
 use Rattle.rm_status.specs.declared.row.Row.{Row}
 use Rattle.rm_status.specs.Rows.{row_in}
 use Rattle.rm_alarm.specs.declared.row.AlarmRow.{AlarmRow}
@@ -15,3 +18,16 @@ abbrev pub nearer : Option (ℕ × ℕ) → Option ℕ → ℕ → Option (ℕ �
 nearer next None index = next
 nearer None (Some due) index = Some (due, index)
 nearer (Some next) (Some due) index = if nat_lt due next.0 then Some (due, index) else Some next
+
+either_prop : {One Other : Type 0} → IsProp One → IsProp Other → (One → Other → ⊥) → IsProp (One ⊎ Other)
+either_prop one other apart (inl a) (inl b) = ap inl (one a b)
+either_prop one other apart (inl a) (inr b) = absurd (apart a b)
+either_prop one other apart (inr a) (inl b) = absurd (apart b a)
+either_prop one other apart (inr a) (inr b) = ap inr (other a b)
+
+before_prop : (moment later alarm other : ℕ) → IsProp ((moment < later) ⊎ ((moment ≡ later) × (alarm ≤ other)))
+before_prop moment later alarm other = either_prop (hlevel props) (hlevel props) (λ before same. let is = same.0 in omega arith)
+
+pub next_prop : (due : ℕ → Option ℕ) (next : Option (ℕ × ℕ)) → IsProp (IsNextDue due next)
+next_prop due None = hlevel props
+next_prop due (Some next) = hlevel (props, before_prop)

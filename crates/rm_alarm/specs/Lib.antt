@@ -9,6 +9,7 @@ pub mod Taking
 pub mod Shown
 pub mod Due
 pub mod AlarmTable
+pub mod ShownRow
 pub mod Standing
 pub mod Group
 pub mod Left

@@ -9,6 +9,7 @@ use crate::alarms::Alarms;
 use crate::cell::entry;
 use crate::change::{Forgetting, ReadingBase, Settling};
 use crate::column::STATUS;
+use crate::due::earliest;
 use rm_group::{Assigns, Look};
 
 impl Alarms {
@@ -44,6 +45,7 @@ impl Alarms {
         prove!(self.rows.len() <= 16);
         self.rows.commit(set, &entry(), STATUS);
         self.rows.change_each(&Settling { now });
+        self.next = earliest(&self.rows);
     }
 
     /// Forgets what was remembered for a Set.

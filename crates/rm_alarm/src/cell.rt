@@ -13,7 +13,6 @@ use crate::column::{
     FALLING_EVENT_INDEX, FALLING_THRESHOLD, INDEX, INTERVAL, OWNER, RISING_EVENT_INDEX,
     RISING_THRESHOLD, SAMPLE_TYPE, STARTUP_ALARM, STATUS, VALUE, VARIABLE,
 };
-use crate::course::Course;
 use crate::row::AlarmRow;
 use rm_group::instance_of;
 use rm_model::{Instance, StatusKind};
@@ -91,23 +90,6 @@ fn other_value(index: u32, row: &AlarmRow, column: u32) -> Value<'static>
     if column == INDEX {
         Value::Int(index as i32)
     } else {
-        Value::Int(saturated(last_value(&row.course)))
+        Value::Int(row.value())
     }
-}
-
-// The value of the last sample, 0 where there is none.
-fn last_value(course: &Option<Course>) -> i128
-    ensures { result ≡ last_value course.now }
-{
-    match course {
-        Some(course) => course.hysteresis.last.unwrap_or(0),
-        None => 0,
-    }
-}
-
-// A number as an INTEGER shows it: the nearest one of 32 bits with a sign.
-fn saturated(value: i128) -> i32
-    ensures { result ≡ saturated value }
-{
-    value.clamp(i128::from(i32::MIN), i128::from(i32::MAX)) as i32
 }

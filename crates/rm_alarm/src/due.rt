@@ -20,15 +20,22 @@ impl Alarms {
         ensures journal { (settings : Settings) (journal : Journal) → Stands self.now settings journal
             → IsNextDue (due_of journal) result }
     {
-        prove!(self.rows.len() <= 16);
-        let mut next = None;
-        let mut last = 0;
-        while let Some(index) = self.rows.after(last) {
-            next = nearer(next, due(&self.rows, index), index);
-            last = index;
-        }
-        next
+        self.next
     }
+}
+
+/// The sample that is taken next of the alarms with these rows: its moment, in milliseconds, and the number of the alarm.
+pub(crate) fn earliest(rows: &Controls<AlarmRow>) -> Option<(u64, u32)>
+    ensures { IsNextDue (due_at rows.now) result }
+{
+    prove!(rows.len() <= 16);
+    let mut next = None;
+    let mut last = 0;
+    while let Some(index) = rows.after(last) {
+        next = nearer(next, due(rows, index), index);
+        last = index;
+    }
+    next
 }
 
 impl FallsDue for Alarms {

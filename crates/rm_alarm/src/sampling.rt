@@ -14,6 +14,7 @@ ghost use Rattle.rm_alarm.specs.Left.{samples_left};
 ghost use Rattle.rm_alarm.specs.Taking.{HasTaken};
 
 use crate::alarms::Alarms;
+use crate::due::earliest;
 use crate::row::AlarmRow;
 use rm_acts::Sampled;
 use rm_group::Look;
@@ -28,6 +29,7 @@ impl Alarms {
     {
         Alarms {
             rows: Controls::new(StatusKind::EntryStatus),
+            next: None,
         }
     }
 
@@ -51,9 +53,14 @@ impl Alarms {
     {
         prove!(self.rows.len() <= 16);
         match read(&self.rows, index, moment, look) {
-            Some(reading) => take(&mut self.rows, index, moment, reading.value),
+            Some(reading) => {
+                let sampled = take(&mut self.rows, index, moment, reading.value);
+                self.next = earliest(&self.rows);
+                sampled
+            }
             None => {
                 self.rows.remove(index);
+                self.next = earliest(&self.rows);
                 Sampled::Gone
             }
         }

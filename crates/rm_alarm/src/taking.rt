@@ -1,9 +1,12 @@
 // What a row tells of its samples, and what a sample makes of it.
 ghost use Rattle.std.specs.Prelude.{◌≡◌, Some};
+ghost use Rattle.rm_acts.specs.Alarms.{saturated};
 ghost use Rattle.rm_alarm.specs.declared.course.Course.{Course as Kept};
 ghost use Rattle.rm_alarm.specs.Rows.{interval_kept, variable_kept, delta_kept};
+ghost use Rattle.rm_alarm.specs.Shown.{last_value};
 ghost use Rattle.rm_alarm.specs.Taking.{Took};
 
+use crate::course::Course;
 use crate::row::AlarmRow;
 use crate::sample_type::SampleType;
 use rm_acts::Sampled;
@@ -18,6 +21,13 @@ impl AlarmRow {
             Some(name) => name.copied(),
             None => Oid::from_slice(&[0, 0]).unwrap(),
         }
+    }
+
+    /// alarmValue: the value of the last sample, 0 where there is none.
+    pub fn value(&self) -> i32
+        ensures { result ≡ saturated (last_value self.now.course) }
+    {
+        saturated(last_value(&self.course))
     }
 
     /// How many seconds are between two samples, 0 where that wasn't set.
@@ -52,4 +62,21 @@ impl AlarmRow {
         self.course = Some(course);
         sampled
     }
+}
+
+// The value of the last sample, 0 where there is none.
+fn last_value(course: &Option<Course>) -> i128
+    ensures { result ≡ last_value course.now }
+{
+    match course {
+        Some(course) => course.hysteresis.last.unwrap_or(0),
+        None => 0,
+    }
+}
+
+// A number as an INTEGER shows it: the nearest one of 32 bits with a sign.
+fn saturated(value: i128) -> i32
+    ensures { result ≡ saturated value }
+{
+    value.clamp(i128::from(i32::MIN), i128::from(i32::MAX)) as i32
 }

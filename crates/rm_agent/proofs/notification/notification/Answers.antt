@@ -1,4 +1,4 @@
-use Rattle.std.proofs.Common.{◌∷◌, sym, subst, ◌∙◌, arith}
+use Rattle.std.proofs.Common.{◌∷◌, sym, subst, ◌∙◌}
 use Rattle.rm_model.specs.Journal.{samples}
 use Rattle.rm_alarm.specs.Watched.{number_read}
 use Rattle.rm_alarm.specs.Standing.{Stands as AlarmsStand}
@@ -24,6 +24,15 @@ returns-in_err-community c settings journal number is numbered =
     let rows : HasRows c.events.result.now after = subst (λ (e : Events). HasRows e after) (sym c.events.ensures) is.stands.1.0.rows in
     absurd (some_community settings journal c.args.moment c.args.alarm c.args.groups.now c.args.taken.now is trapped (c.in_err-community.ensures.value after rows))
 
+pub returns-in_err-row : goal.returns-in_err-row
+returns-in_err-row c settings journal number is numbered =
+    let after = samples c.args.moment c.args.alarm (number_read settings journal c.args.moment c.args.alarm) ∷ journal in
+    let trapped = sym c.is_trap.ensures ∙ c.if-not-is_trap.false in
+    let trap = c.in_ok-trap.trap in
+    let crossed = sym c.trap_of.ensures ∙ c.in_ok-trap.was in
+    let stand : AlarmsStand c.alarms.result.now settings after = subst (λ (a : Alarms). AlarmsStand a settings after) (sym c.alarms.ensures) is.stands.1.1.stand in
+    absurd (c.in_err-row.ensures.shown settings after stand (valid settings journal c.args.moment c.args.alarm c.args.groups.now c.args.taken.now is trapped number trap crossed))
+
 pub returns : goal.returns
 returns c settings journal number is numbered =
     let after = samples c.args.moment c.args.alarm (number_read settings journal c.args.moment c.args.alarm) ∷ journal in
@@ -34,6 +43,7 @@ returns c settings journal number is numbered =
     let stand : AlarmsStand c.alarms.result.now settings after = subst (λ (a : Alarms). AlarmsStand a settings after) (sym c.alarms.ensures) is.stands.1.1.stand in
     let community = community_is settings journal c.args.moment c.args.alarm c.args.groups.now c.args.taken.now is trapped c.in_ok-community.community.now (c.in_ok-community.ensures.value after rows) in
     let valid = valid settings journal c.args.moment c.args.alarm c.args.groups.now c.args.taken.now is trapped number trap crossed in
-    let told = c.of-told.ensures.told settings after stand (omega arith) valid in
-    made settings journal c.args.moment c.args.alarm c.args.groups.now c.args.taken.now is trapped number trap crossed c.in_ok-community.community.now c.args.id c.of-told.result c.draft_of.result
+    let shown = c.in_ok-row.ensures.shown settings after stand valid in
+    let told = c.of-told.ensures.told settings after shown in
+    made settings journal c.args.moment c.args.alarm c.args.groups.now c.args.taken.now is trapped number trap crossed c.in_ok-row.row.now shown c.in_ok-community.community.now c.args.id c.of-told.result c.draft_of.result
     community numbered told c.draft_of.ensures

@@ -1,4 +1,4 @@
-use Rattle.std.proofs.Common.{◌≡◌, [], ◌∷◌, refl, sym, ap, subst, ◌∙◌, arith}
+use Rattle.std.proofs.Common.{◌≡◌, [], ◌∷◌, refl, sym, ap, subst, ◌∙◌}
 use Rattle.std.specs.Prelude.{is_some}
 use Rattle.rm_model.specs.Journal.{Act, samples}
 use Rattle.rm_acts.specs.Events.{event_asked}
@@ -27,7 +27,7 @@ returns-clause-taken c settings journal stands later due =
     let stand : AlarmsStand c.alarms.result.now settings (act ∷ journal) = subst (λ (a : Alarms). AlarmsStand a settings (act ∷ journal)) (sym c.alarms.ensures) under.1.stand in
     let rows : HasRows c.events.result.now journal = subst (λ (e : Events). HasRows e journal) (sym (c.events.ensures ∙ c.sample-comes.ensures.events)) stands.1.0.rows in
     let event : c.event_asked-event.result ≡ event_asked journal index c.sample-comes.result =
-    c.event_asked-event.ensures settings (act ∷ journal) stand (omega arith)
+    c.event_asked-event.ensures settings (act ∷ journal) stand
     (λ crossing. valid_after settings journal moment index reading (valid_if_due journal index moment due) (ap (λ (s : Sampled). is_some (trap_of s)) (sym comes) ∙ crossing))
     ∙ same_event journal moment index reading c.sample-comes.result in
     let becomes = c.becomes-fired.ensures journal rows in

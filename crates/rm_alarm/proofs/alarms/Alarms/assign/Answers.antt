@@ -8,6 +8,7 @@ invariant_of-self g c =
     record {
       spelled = spelled_set c.args.now (g.A.Assigns.bindings c.args.set.now) c.requires.alone c.requires.values c.args.self.now.rows c.commit.new.self c.change_each.new.self c.commit.ensures c.change_each.ensures c.args.self.now.spelled;
       paced = paced_set c.args.now (g.A.Assigns.bindings c.args.set.now) c.requires.alone c.args.self.now.rows c.commit.new.self c.change_each.new.self c.requires.together c.commit.ensures c.change_each.ensures c.args.self.now.paced;
+      nearest = c.earliest-self.ensures;
     }
 
 pub returns-clause-stands : goal.returns-clause-stands

@@ -4,6 +4,7 @@ use Rattle.rm_acts.specs.Alarms.{alarm_table}
 use Rattle.rm_status.proofs.RowsAfterLemmas.{rows_changed}
 use Rattle.rm_alarm.specs.Rows.{set_to, without_base}
 use Rattle.rm_alarm.proofs.Changes.{kept_changed, based_changed}
+use Rattle.rm_alarm.proofs.NextDue.{next_kept}
 use Rattle.rm_alarm.proofs.Pace.{paced_changed}
 use Rattle.rm_alarm.proofs.alarms.Alarms.forget.Goals as goal
 
@@ -11,6 +12,7 @@ pub invariant_of-self : goal.invariant_of-self
 invariant_of-self c = record {
   spelled = search rules;
   paced = paced_changed (λ index state row. without_base row) (λ index state row. refl) (λ index state row. refl) c.args.self.now.rows c.change_each.new.self c.change_each.ensures c.args.self.now.paced;
+  nearest = next_kept (λ index state row. without_base row) (λ index state row. refl) c.args.self.now.rows c.change_each.new.self c.change_each.ensures c.args.self.now.next c.args.self.now.nearest;
 }
 
 pub returns-clause-stands : goal.returns-clause-stands

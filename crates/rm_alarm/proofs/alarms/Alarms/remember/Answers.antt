@@ -12,6 +12,7 @@ use Rattle.rm_alarm.specs.declared.row.AlarmRow.{AlarmRow}
 use Rattle.rm_alarm.specs.Rows.{set_to, reading_base, variable_with}
 use Rattle.rm_alarm.proofs.AfterSets.{was_there}
 use Rattle.rm_alarm.proofs.Changes.{kept_changed, based_changed, same_before, named}
+use Rattle.rm_alarm.proofs.NextDue.{next_kept}
 use Rattle.rm_alarm.proofs.Pace.{paced_changed}
 use Rattle.rm_alarm.proofs.alarms.Alarms.remember.Goals as goal
 
@@ -22,6 +23,7 @@ invariant_of-self g c =
     record {
       spelled = search rules;
       paced = paced_changed (λ index state row. reading_base readings bs index row) (λ index state row. refl) (λ index state row. refl) c.args.self.now.rows c.change_each.new.self c.change_each.ensures c.args.self.now.paced;
+      nearest = next_kept (λ index state row. reading_base readings bs index row) (λ index state row. refl) c.args.self.now.rows c.change_each.new.self c.change_each.ensures c.args.self.now.next c.args.self.now.nearest;
     }
 
 pub returns-clause-fine : goal.returns-clause-fine

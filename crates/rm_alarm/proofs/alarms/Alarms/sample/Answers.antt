@@ -34,42 +34,43 @@ reads rows held journal is index moment due readings read o told same =
 pub invariant_of-self : goal.invariant_of-self
 invariant_of-self g c =
     let fits : SFits w64 c.in-Some.reading.value = search rules in
-    let taken : HasTaken c.args.self.now.rows c.take.new.rows c.args.index c.args.moment c.in-Some.reading.value c.take.result = simp (to_z-of_z, fits) at c.take.ensures in
+    let taken : HasTaken c.args.self.now.rows c.take-sampled.new.rows c.args.index c.args.moment c.in-Some.reading.value c.take-sampled.result = simp (to_z-of_z, fits) at c.take-sampled.ensures in
     let due = due_row c.args.self.now.rows c.args.index c.args.moment c.requires in
     record {
-      spelled = spelled_taken c.args.self.now.rows c.take.new.rows c.args.index c.args.moment c.in-Some.reading.value c.take.result due taken c.args.self.now.spelled;
-      paced = paced_taken c.args.self.now.rows c.take.new.rows c.args.index c.args.moment c.in-Some.reading.value c.take.result due taken c.args.self.now.paced;
+      spelled = spelled_taken c.args.self.now.rows c.take-sampled.new.rows c.args.index c.args.moment c.in-Some.reading.value c.take-sampled.result due taken c.args.self.now.spelled;
+      paced = paced_taken c.args.self.now.rows c.take-sampled.new.rows c.args.index c.args.moment c.in-Some.reading.value c.take-sampled.result due taken c.args.self.now.paced;
+      nearest = c.earliest-self.ensures;
     }
 
 pub returns-in-Some-clause-stands : goal.returns-in-Some-clause-stands
 returns-in-Some-clause-stands g c settings journal st based =
     let fits : SFits w64 c.in-Some.reading.value = search rules in
-    let taken : HasTaken c.args.self.now.rows c.take.new.rows c.args.index c.args.moment c.in-Some.reading.value c.take.result = simp (to_z-of_z, fits) at c.take.ensures in
+    let taken : HasTaken c.args.self.now.rows c.take-sampled.new.rows c.args.index c.args.moment c.in-Some.reading.value c.take-sampled.result = simp (to_z-of_z, fits) at c.take-sampled.ensures in
     let due = due_row c.args.self.now.rows c.args.index c.args.moment c.requires in
     let read = reads c.args.self.now.rows c.len.ensures.rows journal st.rows c.args.index c.args.moment due (g.L.Look.readings c.args.look.now c.args.moment) c.read.result _ c.read.ensures c.in-Some.is in
     record {
-      rows = subst (λ (o : Option ℤ). AreRowsAfter alarm_table no_rows set_to c.take.new.rows (samples c.args.moment c.args.index o ∷ journal)) read
-          (rows_samples settings journal c.args.index c.args.moment c.args.self.now.rows c.take.new.rows c.len.ensures.rows st.rows st.kept based due.row due.here due.course due.has due.now c.in-Some.reading.value c.take.result taken);
-      kept = subst (λ (o : Option ℤ). AreKept c.take.new.rows settings (samples c.args.moment c.args.index o ∷ journal)) read
-          (kept_samples settings journal c.args.index c.args.moment c.args.self.now.rows c.take.new.rows c.len.ensures.rows st.rows st.kept based due.row due.here due.course due.has due.now c.in-Some.reading.value c.take.result taken);
+      rows = subst (λ (o : Option ℤ). AreRowsAfter alarm_table no_rows set_to c.take-sampled.new.rows (samples c.args.moment c.args.index o ∷ journal)) read
+          (rows_samples settings journal c.args.index c.args.moment c.args.self.now.rows c.take-sampled.new.rows c.len.ensures.rows st.rows st.kept based due.row due.here due.course due.has due.now c.in-Some.reading.value c.take-sampled.result taken);
+      kept = subst (λ (o : Option ℤ). AreKept c.take-sampled.new.rows settings (samples c.args.moment c.args.index o ∷ journal)) read
+          (kept_samples settings journal c.args.index c.args.moment c.args.self.now.rows c.take-sampled.new.rows c.len.ensures.rows st.rows st.kept based due.row due.here due.course due.has due.now c.in-Some.reading.value c.take-sampled.result taken);
     }
 
 pub returns-in-Some-clause-based : goal.returns-in-Some-clause-based
 returns-in-Some-clause-based g c settings journal st based =
     let fits : SFits w64 c.in-Some.reading.value = search rules in
-    let taken : HasTaken c.args.self.now.rows c.take.new.rows c.args.index c.args.moment c.in-Some.reading.value c.take.result = simp (to_z-of_z, fits) at c.take.ensures in
+    let taken : HasTaken c.args.self.now.rows c.take-sampled.new.rows c.args.index c.args.moment c.in-Some.reading.value c.take-sampled.result = simp (to_z-of_z, fits) at c.take-sampled.ensures in
     let due = due_row c.args.self.now.rows c.args.index c.args.moment c.requires in
     let read = reads c.args.self.now.rows c.len.ensures.rows journal st.rows c.args.index c.args.moment due (g.L.Look.readings c.args.look.now c.args.moment) c.read.result _ c.read.ensures c.in-Some.is in
-    subst (λ (o : Option ℤ). Based c.take.new.rows settings (samples c.args.moment c.args.index o ∷ journal)) read
-    (based_samples settings journal c.args.index c.args.moment c.args.self.now.rows c.take.new.rows c.len.ensures.rows st.rows st.kept based due.row due.here due.course due.has due.now c.in-Some.reading.value c.take.result taken)
+    subst (λ (o : Option ℤ). Based c.take-sampled.new.rows settings (samples c.args.moment c.args.index o ∷ journal)) read
+    (based_samples settings journal c.args.index c.args.moment c.args.self.now.rows c.take-sampled.new.rows c.len.ensures.rows st.rows st.kept based due.row due.here due.course due.has due.now c.in-Some.reading.value c.take-sampled.result taken)
 
 pub returns-in-Some-clause-result : goal.returns-in-Some-clause-result
 returns-in-Some-clause-result g c settings journal st based =
     let fits : SFits w64 c.in-Some.reading.value = search rules in
-    let taken : HasTaken c.args.self.now.rows c.take.new.rows c.args.index c.args.moment c.in-Some.reading.value c.take.result = simp (to_z-of_z, fits) at c.take.ensures in
+    let taken : HasTaken c.args.self.now.rows c.take-sampled.new.rows c.args.index c.args.moment c.in-Some.reading.value c.take-sampled.result = simp (to_z-of_z, fits) at c.take-sampled.ensures in
     let due = due_row c.args.self.now.rows c.args.index c.args.moment c.requires in
     let read = reads c.args.self.now.rows c.len.ensures.rows journal st.rows c.args.index c.args.moment due (g.L.Look.readings c.args.look.now c.args.moment) c.read.result _ c.read.ensures c.in-Some.is in
-    sample_comes_to settings journal c.args.index c.args.moment c.args.self.now.rows c.take.new.rows c.len.ensures.rows st.rows st.kept based due.row due.here due.course due.has due.now c.in-Some.reading.value c.take.result taken
+    sample_comes_to settings journal c.args.index c.args.moment c.args.self.now.rows c.take-sampled.new.rows c.len.ensures.rows st.rows st.kept based due.row due.here due.course due.has due.now c.in-Some.reading.value c.take-sampled.result taken
     ∙ ap (sampled settings journal c.args.moment c.args.index) read
 
 pub invariant_of-self-in-None : goal.invariant_of-self-in-None
@@ -77,14 +78,15 @@ invariant_of-self-in-None g c =
     record {
       spelled = spelled_gone c.args.self.now.rows c.remove.new.self c.args.index c.remove.ensures c.args.self.now.spelled;
       paced = paced_gone c.args.self.now.rows c.remove.new.self c.args.index c.remove.ensures c.args.self.now.paced;
+      nearest = c.earliest-self-in-None.ensures;
     }
 
 pub returns-in-Some-clause-fewer : goal.returns-in-Some-clause-fewer
 returns-in-Some-clause-fewer g c latest within =
     let fits : SFits w64 c.in-Some.reading.value = search rules in
-    let taken : HasTaken c.args.self.now.rows c.take.new.rows c.args.index c.args.moment c.in-Some.reading.value c.take.result = simp (to_z-of_z, fits) at c.take.ensures in
+    let taken : HasTaken c.args.self.now.rows c.take-sampled.new.rows c.args.index c.args.moment c.in-Some.reading.value c.take-sampled.result = simp (to_z-of_z, fits) at c.take-sampled.ensures in
     let due = due_row c.args.self.now.rows c.args.index c.args.moment c.requires in
-    fewer_taken c.args.self.now.rows c.take.new.rows c.args.index c.args.moment latest within c.len.ensures.rows c.args.self.now.paced due c.in-Some.reading.value c.take.result taken
+    fewer_taken c.args.self.now.rows c.take-sampled.new.rows c.args.index c.args.moment latest within c.len.ensures.rows c.args.self.now.paced due c.in-Some.reading.value c.take-sampled.result taken
 
 pub returns-in-None-clause-fewer : goal.returns-in-None-clause-fewer
 returns-in-None-clause-fewer g c latest within =
