@@ -85,10 +85,17 @@ impl Group for Alarms {
 
 impl Objects for Alarms {
     ghost use Rattle.rm_model.specs.Cells.{is_of_column};
-    ghost use Rattle.rm_acts.specs.Alarms.{alarm_entry};
-    ghost use Rattle.rm_alarm.specs.AlarmTable.{alarm_columns};
+    ghost use Rattle.rm_acts.specs.Alarms.{alarm_entry, alarm_table};
+    ghost use Rattle.rm_alarm.specs.AlarmTable.{alarm_columns, alarms_table};
+    ghost use Rattle.rm_group.specs.Listed.{is_settable, of_columns, control_refused};
 
     ghost objects = { is_of_column alarm_entry alarm_columns };
+
+    ghost settable = { is_settable alarm_table };
+
+    ghost listed = { λ settings journal now. of_columns (alarms_table settings journal) };
+
+    ghost refused = { control_refused alarm_table alarm_columns };
 
     fn has_object(name: &Oid) -> bool {
         is_of_column(name, &entry(), &COLUMNS)

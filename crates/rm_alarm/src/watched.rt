@@ -120,8 +120,19 @@ impl<G: Readable> Group for Watched<G> {
     }
 }
 
-impl<G: Objects> Objects for Watched<G> {
+impl<G: Readable + Objects> Objects for Watched<G> {
+    ghost use Rattle.rm_group.specs.Listed.{is_settable, of_columns, both_of_objects, control_refused, both_refused};
+
     ghost objects = { λ name. G.objects name || is_of_column alarm_entry alarm_columns name };
+
+    ghost settable = { λ name. G.settable name || is_settable alarm_table name };
+
+    ghost listed = { λ settings journal now.
+        both_of_objects G.objects (is_of_column alarm_entry alarm_columns) (G.cells settings journal now) (cells_of (alarms_table settings journal))
+        (G.listed settings journal now) (of_columns (alarms_table settings journal)) };
+
+    ghost refused = { both_refused G.objects (is_of_column alarm_entry alarm_columns) G.settable (is_settable alarm_table) G.alone alarm_alone
+        G.refused (control_refused alarm_table alarm_columns) };
 
     fn has_object(name: &Oid) -> bool {
         G::has_object(name) || Alarms::has_object(name)

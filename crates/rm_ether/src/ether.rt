@@ -146,9 +146,16 @@ impl Group for Ether {
 impl Objects for Ether {
     ghost use Rattle.rm_model.specs.Cells.{is_of_column};
     ghost use Rattle.rm_ether.specs.Columns.{ether_columns};
-    ghost use Rattle.rm_ether.specs.EtherStats.{ether_entry};
+    ghost use Rattle.rm_ether.specs.EtherStats.{ether_entry, ether_stats, ether_table};
+    ghost use Rattle.rm_group.specs.Listed.{is_settable, of_columns, control_refused};
 
     ghost objects = { is_of_column ether_entry ether_columns };
+
+    ghost settable = { is_settable ether_stats };
+
+    ghost listed = { λ settings journal now. of_columns (ether_table settings journal) };
+
+    ghost refused = { control_refused ether_stats ether_columns };
 
     fn has_object(name: &Oid) -> bool {
         is_of_column(name, &entry(), &COLUMNS)

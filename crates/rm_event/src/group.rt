@@ -88,8 +88,24 @@ impl Group for Events {
 
 impl Objects for Events {
     ghost use Rattle.rm_event.specs.Group.{event_objects};
+    ghost use Rattle.rm_model.specs.Cells.{cells_of, is_of_column};
+    ghost use Rattle.rm_model.specs.Judgement.{place_of, alone_fault};
+    ghost use Rattle.rm_event.specs.Columns.{event_columns, log_columns};
+    ghost use Rattle.rm_event.specs.EventTable.{event_entry, event_table};
+    ghost use Rattle.rm_event.specs.Tables.{events_table, log_entry, log_table};
+    ghost use Rattle.rm_group.specs.Listed.{is_settable, of_columns, both_of_objects, control_refused, with_read_only};
 
     ghost objects = { event_objects };
+
+    ghost settable = { is_settable event_table };
+
+    ghost listed = { λ settings journal now.
+        both_of_objects (is_of_column event_entry event_columns) (is_of_column log_entry log_columns)
+        (cells_of (events_table settings journal)) (cells_of (log_table settings journal))
+        (of_columns (events_table settings journal)) (of_columns (log_table settings journal)) };
+
+    ghost refused = { with_read_only (is_of_column event_entry event_columns) (is_of_column log_entry log_columns) (is_settable event_table)
+        (λ name value. alone_fault event_table (place_of event_entry name) value) (control_refused event_table event_columns) };
 
     fn has_object(name: &Oid) -> bool {
         is_of_column(name, &event_entry(), &EVENT_SHOWN)

@@ -13,7 +13,7 @@ use Rattle.rm_model.specs.declared.instance.Instance.{Instance}
 use Rattle.rm_model.proofs.Tables.{behind_front}
 use Rattle.rm_group.specs.Alone.{AreFineAlone, read_only}
 use Rattle.rm_group.proofs.Finds.{find_never}
-use Rattle.rm_group.proofs.ColumnLemmas.{is_of_column-instance}
+use Rattle.rm_group.specs.ColumnLemmas.{is_of_column-instance}
 
 not_named : (named : Bool) → unless (not named) NotWritable ≡ None → named ≡ true → ⊥
 not_named true fine is = cc

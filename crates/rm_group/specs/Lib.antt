@@ -4,3 +4,5 @@ pub mod Look
 pub mod Alone
 pub mod Passing
 pub mod Due
+pub mod ColumnLemmas
+pub mod Listed

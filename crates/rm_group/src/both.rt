@@ -2,6 +2,7 @@
 ghost use Rattle.std.specs.Prelude.{◌||◌, ◌⊎◌, max};
 ghost use Rattle.std.specs.Option.{option_or};
 ghost use Rattle.rm_model.proofs.Finite.{both_finite};
+ghost use Rattle.rm_group.specs.Listed.{both_of_objects, both_refused};
 
 use crate::assigns::Assigns;
 use crate::denied::Denied;
@@ -103,6 +104,14 @@ impl<G: Group, H: Group> Group for Both<G, H> {
 
 impl<G: Objects, H: Objects> Objects for Both<G, H> {
     ghost objects = { λ name. G.objects name || H.objects name };
+
+    ghost settable = { λ name. G.settable name || H.settable name };
+
+    ghost listed = { λ settings journal now.
+        both_of_objects G.objects H.objects (G.cells settings journal now) (H.cells settings journal now)
+        (G.listed settings journal now) (H.listed settings journal now) };
+
+    ghost refused = { both_refused G.objects H.objects G.settable H.settable G.alone H.alone G.refused H.refused };
 
     fn has_object(name: &Oid) -> bool {
         G::has_object(name) || H::has_object(name)

@@ -1,11 +1,12 @@
 // The system group.
-ghost use Rattle.std.specs.Prelude.{◌≡◌, [], ◌∷◌, None, IfSome};
+ghost use Rattle.std.specs.Prelude.{◌≡◌, [], ◌∷◌, false, None, IfSome};
 ghost use Rattle.std.specs.Option.{option_map};
 ghost use Rattle.rm_val.specs.Val.{val_of};
 ghost use Rattle.rm_val.specs.Spellable.{HasSpelling};
 ghost use Rattle.rm_model.specs.Cells.{cells_of, is_of_column};
 ghost use Rattle.rm_model.proofs.Finite.{one_row_finite};
 ghost use Rattle.rm_group.specs.Alone.{read_only};
+ghost use Rattle.rm_group.specs.Listed.{of_columns, read_only_refused};
 ghost use Rattle.rm_group.specs.System.{system_entry, system_columns, system_table};
 
 use crate::assigns::Assigns;
@@ -95,6 +96,12 @@ impl Group for System {
 
 impl Objects for System {
     ghost objects = { is_of_column system_entry system_columns };
+
+    ghost settable = { λ name. false };
+
+    ghost listed = { λ settings journal now. of_columns (system_table now) };
+
+    ghost refused = { read_only_refused (is_of_column system_entry system_columns) };
 
     fn has_object(name: &Oid) -> bool {
         is_of_column(name, &identifier(), &COLUMNS)

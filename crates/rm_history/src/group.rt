@@ -93,8 +93,24 @@ impl Group for History {
 
 impl Objects for History {
     ghost use Rattle.rm_history.specs.Group.{history_objects};
+    ghost use Rattle.rm_model.specs.Cells.{cells_of, is_of_column};
+    ghost use Rattle.rm_model.specs.Judgement.{place_of, alone_fault};
+    ghost use Rattle.rm_history.specs.Columns.{control_columns, sample_columns};
+    ghost use Rattle.rm_history.specs.HistoryControl.{control_entry, history_control, control_table};
+    ghost use Rattle.rm_history.specs.EtherHistory.{sample_entry, sample_table};
+    ghost use Rattle.rm_group.specs.Listed.{is_settable, of_columns, both_of_objects, control_refused, with_read_only};
 
     ghost objects = { history_objects };
+
+    ghost settable = { is_settable history_control };
+
+    ghost listed = { λ settings journal now.
+        both_of_objects (is_of_column control_entry control_columns) (is_of_column sample_entry sample_columns)
+        (cells_of (control_table journal)) (cells_of (sample_table settings journal now))
+        (of_columns (control_table journal)) (of_columns (sample_table settings journal now)) };
+
+    ghost refused = { with_read_only (is_of_column control_entry control_columns) (is_of_column sample_entry sample_columns) (is_settable history_control)
+        (λ name value. alone_fault history_control (place_of control_entry name) value) (control_refused history_control control_columns) };
 
     fn has_object(name: &Oid) -> bool {
         is_of_column(name, &control_entry(), &CONTROL_COLUMNS)

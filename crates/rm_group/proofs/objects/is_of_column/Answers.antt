@@ -1,4 +1,4 @@
-use Rattle.rm_group.proofs.ColumnLemmas.{is_of_column-instance}
+use Rattle.rm_group.specs.ColumnLemmas.{is_of_column-instance}
 use Rattle.rm_group.proofs.objects.is_of_column.Goals as goal
 
 pub returns : goal.returns
