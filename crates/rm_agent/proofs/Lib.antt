@@ -10,3 +10,4 @@ mod CountLemmas
 mod OrderlyLemmas
 mod AdvanceLemmas
 mod RepliesOrderly
+mod GroupDues

@@ -5,14 +5,13 @@ use Rattle.rm_model.specs.Journal.{Act, Journal, samples, last_moment}
 use Rattle.rm_acts.specs.Alarms.{IsNextDue, due_of}
 use Rattle.rm_acts.specs.Channels.{HasNoChannel}
 use Rattle.rm_alarm.specs.Group.{due_in}
-use Rattle.rm_alarm.specs.Left.{samples_left}
 use Rattle.rm_alarm.specs.Watched.{number_read}
 use Rattle.rm_pdu.specs.Message.{Message, message_octets}
 use Rattle.rm_agent.specs.declared.settings.Settings.{Settings}
 use Rattle.rm_agent.specs.declared.agent.Agent.{Agent}
 use Rattle.rm_agent.specs.Known.{counting_by}
 use Rattle.rm_agent.specs.Members.{alarms_of}
-use Rattle.rm_agent.specs.Groups.{GroupsStand}
+use Rattle.rm_agent.specs.Groups.{GroupsStand, left_of}
 use Rattle.rm_agent.specs.Notifications.{count_notifications, notification_of}
 use Rattle.rm_agent.specs.Orderly.{IsOrderly}
 
@@ -47,7 +46,7 @@ IsNextMoment due moment = (next : Option (ℕ × ℕ)) × IsNextDue due next × 
 
 -- no more samples than this are due up to a moment
 abbrev pub samples_left_of : Agent → ℕ → ℕ
-samples_left_of agent latest = samples_left (alarms_of agent.groups) latest
+samples_left_of agent latest = left_of agent.groups latest
 
 -- the sample that an alarm takes at a moment after a journal
 abbrev pub sample_of : Settings → Journal → (moment alarm : ℕ) → Act

@@ -1,11 +1,13 @@
 -- What the agent's groups answer and refuse, by what the probe was set to, and when they stand for a journal.
 use Rattle.std.specs.Prelude.{◌≡◌, ℕ, List, [], ◌∷◌, Bool, false, Option}
+use Rattle.std.specs.Option.{option_map}
 use Rattle.rm_val.specs.Val.{Val}
 use Rattle.rm_val.specs.declared.error.ErrorStatus.{ErrorStatus}
 use Rattle.rm_model.specs.Settings.{Settings as Counting}
 use Rattle.rm_model.specs.Journal.{Act, Journal}
 use Rattle.rm_model.specs.Cells.{Cells}
 use Rattle.rm_model.specs.Judgement.{Bindings}
+use Rattle.rm_group.specs.declared.due.Due.{Due}
 use Rattle.rm_event.specs.Firings.{is_set}
 use Rattle.rm_event.specs.Standing.{IsUnderWay as EventsUnderWay}
 use Rattle.rm_agent.specs.declared.settings.Settings.{Settings}
@@ -53,3 +55,14 @@ clock_of = all_groups.clock
 
 abbrev pub frames_of : Groups → ℕ
 frames_of = all_groups.frames
+
+-- something of the groups falls due next, and a bound of how many are left to take up to a moment, in milliseconds
+abbrev pub FallsDueOf : Groups → Due → Type 0
+FallsDueOf = all_groups.falls_due
+
+abbrev pub left_of : Groups → ℕ → ℕ
+left_of = all_groups.left
+
+-- a sample that falls due, by its moment and the number of its alarm
+abbrev pub sample_in : Option Due → Option (ℕ × ℕ)
+sample_in next = option_map (λ due. (due.moment, due.number)) next

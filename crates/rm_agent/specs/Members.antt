@@ -1,6 +1,6 @@
 -- The groups of objects that the agent answers for: the system group, the events, etherStats, the history, and the alarms that
 -- sample variables of these two. What holds of a group is a record; two groups are one, and their record is made of both.
-use Rattle.std.specs.Prelude.{◌||◌, ◌⊎◌, ℕ, List, Bool, max, Option, None}
+use Rattle.std.specs.Prelude.{◌||◌, ◌⊎◌, ℕ, ◌+◌, List, Bool, max, Option, None}
 use Rattle.std.specs.Option.{option_or}
 use Rattle.rm_val.specs.Val.{Val}
 use Rattle.rm_val.specs.declared.error.ErrorStatus.{ErrorStatus}
@@ -13,6 +13,7 @@ use Rattle.rm_model.specs.Judgement.{Bindings, second_pass, rows_after}
 use Rattle.rm_model.specs.Reserves.{Reserves as ReservesRow}
 use Rattle.rm_group.specs.Alone.{read_only}
 use Rattle.rm_group.specs.System.{system_entry, system_columns, system_table}
+use Rattle.rm_group.specs.declared.due.Due.{Due}
 use Rattle.rm_group.specs.declared.both.Both.{Both}
 use Rattle.rm_group.specs.declared.system.System.{System}
 use Rattle.rm_ether.specs.Columns.{ether_columns}
@@ -25,6 +26,7 @@ use Rattle.rm_history.specs.Group.{Stands as HistoryStands, IsStocked as IsHisto
 use Rattle.rm_history.specs.declared.history.History.{History}
 use Rattle.rm_alarm.specs.AlarmTable.{alarm_columns, alarms_table}
 use Rattle.rm_alarm.specs.Group.{alarm_alone, alarm_together}
+use Rattle.rm_alarm.specs.Left.{IsSampleDue, samples_left}
 use Rattle.rm_alarm.specs.Watched.{AreWatched}
 use Rattle.rm_alarm.specs.declared.alarms.Alarms.{Alarms}
 use Rattle.rm_alarm.specs.declared.watched.Watched.{Watched}
@@ -62,6 +64,10 @@ pub record OfObjects (Keeps : Type 0) : Type 1 where
   pub stocked : Keeps → Type 0
   -- its variables that have a value, at a moment in milliseconds
   pub cells : Settings → Journal → ℕ → Cells
+  -- something falls due next
+  pub falls_due : Keeps → Due → Type 0
+  -- a bound of how many are left to take up to a moment, in milliseconds
+  pub left : Keeps → ℕ → ℕ
   -- whether a name begins with the identifier of one of its objects
   pub objects : List ℕ → Bool
   -- what is wrong with a binding alone
@@ -78,6 +84,8 @@ both one other = record {
   clock = λ keeps. max (one.clock keeps.first) (other.clock keeps.second);
   frames = λ keeps. max (one.frames keeps.first) (other.frames keeps.second);
   stocked = λ keeps. one.stocked keeps.first × other.stocked keeps.second;
+  falls_due = λ keeps due. one.falls_due keeps.first due ⊎ other.falls_due keeps.second due;
+  left = λ keeps latest. one.left keeps.first latest + other.left keeps.second latest;
   cells = λ settings journal now name. option_or (one.cells settings journal now name) (other.cells settings journal now name);
   objects = λ name. one.objects name || other.objects name;
   alone = λ name value. option_or (one.alone name value) (other.alone name value);
@@ -92,6 +100,8 @@ with_alarms group = record {
   clock = λ keeps. group.clock keeps.watched;
   frames = λ keeps. group.frames keeps.watched;
   stocked = λ keeps. group.stocked keeps.watched;
+  falls_due = λ keeps due. group.falls_due keeps.watched due ⊎ IsSampleDue keeps.alarms due;
+  left = λ keeps latest. group.left keeps.watched latest + samples_left keeps.alarms latest;
   cells = λ settings journal now name. option_or (group.cells settings journal now name) (cells_of (alarms_table settings journal) name);
   objects = λ name. group.objects name || is_of_column alarm_entry alarm_columns name;
   alone = λ name value. option_or (group.alone name value) (alarm_alone name value);
@@ -106,6 +116,8 @@ system = record {
   clock = λ keeps. 0;
   frames = λ keeps. 0;
   stocked = λ keeps. Unit {0};
+  falls_due = λ keeps due. ⊥;
+  left = λ keeps latest. 0;
   cells = λ settings journal now. cells_of (system_table now);
   objects = is_of_column system_entry system_columns;
   alone = read_only (is_of_column system_entry system_columns);
@@ -119,6 +131,8 @@ events = record {
   clock = λ keeps. 0;
   frames = λ keeps. 0;
   stocked = IsEventStocked;
+  falls_due = λ keeps due. ⊥;
+  left = λ keeps latest. 0;
   cells = λ settings journal now. event_cells settings journal;
   objects = event_objects;
   alone = event_alone;
@@ -132,6 +146,8 @@ ether = record {
   clock = ether_last;
   frames = ether_frames;
   stocked = λ keeps. Unit {0};
+  falls_due = λ keeps due. ⊥;
+  left = λ keeps latest. 0;
   cells = λ settings journal now. cells_of (ether_table settings journal);
   objects = is_of_column ether_entry ether_columns;
   alone = ether_alone;
@@ -145,6 +161,8 @@ history = record {
   clock = history_last;
   frames = history_frames;
   stocked = IsHistoryStocked;
+  falls_due = λ keeps due. ⊥;
+  left = λ keeps latest. 0;
   cells = λ settings journal now name. option_or (cells_of (control_table journal) name) (cells_of (sample_table settings journal now) name);
   objects = history_objects;
   alone = history_alone;

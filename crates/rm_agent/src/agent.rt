@@ -1,14 +1,14 @@
 // The agent.
 ghost use Rattle.std.specs.Prelude.{◌≡◌, ℕ, ◌+◌, ◌≤◌, ◌<◌, ◌^◌, [], ◌∷◌, true, length, max, Some, IfOk, IfSome};
 ghost use Rattle.std.specs.Option.{option_map};
-ghost use Rattle.rm_agent.specs.Groups.{AreStocked, clock_of, frames_of};
+ghost use Rattle.rm_agent.specs.Groups.{AreStocked, clock_of, frames_of, sample_in};
 
 use crate::answer::{Answer, Reason};
 use crate::groups::{Groups, all_groups, next_due};
 use crate::notification::notification;
 use crate::sampling::take;
 use crate::settings::Settings;
-use rm_group::{MOST_FRAMES, Passing, pass_whole};
+use rm_group::{Due, MOST_FRAMES, Passing, pass_whole};
 use rm_pcap::Frame;
 use rm_pdu::{Bindings, read_message};
 use rm_proto::facts;
@@ -165,17 +165,16 @@ impl Agent {
         ensures next { IsNextDue (due_of_agent self.now) (Some (moment, result)) }
         ensures journal { (journal : Journal) → Stands self.now journal → IsNextDue (due_of journal) (Some (moment, result)) }
     {
-        let (_moment, alarm) = next_due(&self.groups).unwrap();
-        alarm
+        next_due(&self.groups).unwrap().number
     }
 }
 
-// The moment of a sample that is taken next, if there is one.
-fn moment_of(next: Option<(u64, u32)>) -> Option<u64>
-    ensures { result ≡ option_map (λ sample. sample.0) next }
+// The moment of what falls due next, if there is something.
+fn moment_of(next: Option<Due>) -> Option<u64>
+    ensures { result ≡ option_map (λ sample. sample.0) (sample_in next) }
 {
     match next {
-        Some((moment, _index)) => Some(moment),
+        Some(due) => Some(due.moment),
         None => None,
     }
 }

@@ -6,17 +6,16 @@ ghost use Rattle.rm_acts.specs.Alarms.{due_of, IsNextDue, sampled};
 ghost use Rattle.rm_acts.specs.Fired.{act_fires, fired};
 ghost use Rattle.rm_acts.specs.Recurring.{sampling};
 ghost use Rattle.rm_alarm.specs.Group.{due_in};
-ghost use Rattle.rm_alarm.specs.Left.{samples_left};
 ghost use Rattle.rm_alarm.specs.Watched.{number_read};
 ghost use Rattle.rm_agent.specs.Members.{events_of, alarms_of};
 ghost use Rattle.rm_agent.specs.Watched.{watched_cells};
-ghost use Rattle.rm_agent.specs.Groups.{GroupsStand, AreUnderWay, AreStocked, clock_of, frames_of};
+ghost use Rattle.rm_agent.specs.Groups.{GroupsStand, AreUnderWay, AreStocked, clock_of, frames_of, left_of, sample_in};
 
 use rm_acts::Firing;
 use rm_alarm::{Alarms, Sampled, Watched, reads_cells};
 use rm_ether::Ether;
 use rm_event::Events;
-use rm_group::{Both, System, sample_begins, take_whole};
+use rm_group::{Both, Due, FallsDue, System, sample_begins, take_whole};
 use rm_history::History;
 use rm_val::NoMemory;
 use std::alloc::Global;
@@ -69,12 +68,14 @@ pub(crate) fn alarms(groups: &Groups) -> &Alarms
     &groups.second.second.alarms
 }
 
-/// The sample that is taken next: its moment, in milliseconds, and the number of the alarm. None where no alarm is valid.
-pub(crate) fn next_due(groups: &Groups) -> Option<(u64, u32)>
-    ensures next { IsNextDue (due_in (alarms_of groups.now)) result }
-    ensures journal { (settings : Settings) (journal : Journal) → GroupsStand groups.now settings journal → IsNextDue (due_of journal) result }
+/// What falls due next, which is the sample that is taken next: its moment, in milliseconds, and the number of the alarm. None where
+/// no alarm is valid.
+pub(crate) fn next_due(groups: &Groups) -> Option<Due>
+    ensures next { IsNextDue (due_in (alarms_of groups.now)) (sample_in result) }
+    ensures journal { (settings : Settings) (journal : Journal) → GroupsStand groups.now settings journal
+        → IsNextDue (due_of journal) (sample_in result) }
 {
-    groups.second.second.next_due()
+    groups.next_due()
 }
 
 /// Takes the sample of an alarm that is due at a moment, in milliseconds, and tells what it comes to. All groups are then in that
@@ -89,7 +90,7 @@ pub(crate) fn sample(groups: &mut Groups, index: u32, moment: u32) -> Sampled
     ensures clock { clock_of groups.new ≡ clock_of groups.old }
     ensures frames { frames_of groups.new ≡ frames_of groups.old }
     ensures stocked { AreStocked groups.old → AreStocked groups.new }
-    ensures fewer { (latest : ℕ) → moment ≤ latest → samples_left (alarms_of groups.new) latest < samples_left (alarms_of groups.old) latest }
+    ensures fewer { (latest : ℕ) → moment ≤ latest → left_of groups.new latest < left_of groups.old latest }
 {
     sample_begins(&groups.second.first, moment);
     groups.second.second.sample(index, moment)

@@ -9,10 +9,9 @@ ghost use Rattle.rm_acts.specs.Alarms.{alarm_state, due_of};
 ghost use Rattle.rm_acts.specs.Events.{event_asked};
 ghost use Rattle.rm_acts.specs.Fired.{act_fires, fired as all_fired};
 ghost use Rattle.rm_alarm.specs.Group.{due_in};
-ghost use Rattle.rm_alarm.specs.Left.{samples_left};
 ghost use Rattle.rm_alarm.specs.Standing.{Stands as AlarmsStand};
 ghost use Rattle.rm_agent.specs.Members.{alarms_of};
-ghost use Rattle.rm_agent.specs.Groups.{GroupsStand, AreUnderWay, AreStocked, clock_of, frames_of};
+ghost use Rattle.rm_agent.specs.Groups.{GroupsStand, AreUnderWay, AreStocked, clock_of, frames_of, left_of};
 ghost use Rattle.rm_agent.specs.Notifications.{trap_of};
 ghost use Rattle.rm_agent.specs.Told.{IsTaken, firings_by};
 
@@ -40,7 +39,7 @@ pub(crate) fn take(groups: &mut Groups, index: u32, moment: u32) -> Taken
     ensures frames { frames_of groups.new ≡ frames_of groups.old }
     ensures stocked { AreStocked groups.old → AreStocked groups.new }
     ensures fewer { (latest : ℕ) → moment ≤ latest
-        → samples_left (alarms_of groups.new) latest < samples_left (alarms_of groups.old) latest }
+        → left_of groups.new latest < left_of groups.old latest }
 {
     let comes = sample(groups, index, moment);
     let event = event_asked(alarms(groups), index, comes);

@@ -2,7 +2,7 @@ mod RowFacts
 mod Steps
 mod Samples
 mod Taken
-mod NextDue
+pub mod NextDue
 mod AfterSets
 mod Changes
 mod Judged

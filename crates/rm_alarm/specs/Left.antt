@@ -1,5 +1,6 @@
--- How many samples are left to take up to a moment, at most.
-use Rattle.std.specs.Prelude.{ℕ, zero, suc, ◌+◌, ◌-◌, Option, Some, None}
+-- The samples that fall due, and how many are left to take up to a moment, at most.
+use Rattle.std.specs.Prelude.{◌≡◌, ℕ, zero, suc, ◌+◌, ◌-◌, Option, Some, None}
+use Rattle.rm_group.specs.declared.due.Due.{Due}
 use Rattle.rm_alarm.specs.declared.alarms.Alarms.{Alarms}
 use Rattle.rm_alarm.specs.Group.{due_in}
 
@@ -17,3 +18,7 @@ span_to latest (Some due) = latest + 1 - due
 -- each of which it takes one sample at most. Each sample that is taken makes it less.
 abbrev pub samples_left : Alarms → ℕ → ℕ
 samples_left alarms latest = sum_below (λ alarm. span_to latest (due_in alarms alarm)) 65536
+
+-- what falls due is the next sample of an alarm: samples are of kind 1, and each has the number of its alarm
+abbrev pub IsSampleDue : Alarms → Due → Type 0
+IsSampleDue alarms due = (due.kind ≡ 1) × (due_in alarms due.number ≡ Some due.moment)

@@ -1,28 +1,12 @@
 // Which sample is due next.
 ghost use Rattle.std.specs.Prelude.{◌≡◌};
-ghost use Rattle.rm_acts.specs.Alarms.{IsNextDue, due_of};
-ghost use Rattle.rm_model.specs.Settings.{Settings};
-ghost use Rattle.rm_model.specs.Journal.{Journal};
-ghost use Rattle.rm_alarm.specs.Group.{due_in};
-ghost use Rattle.rm_alarm.specs.Standing.{Stands};
+ghost use Rattle.rm_acts.specs.Alarms.{IsNextDue};
 ghost use Rattle.rm_alarm.specs.Due.{nearer, due_at};
 
 use crate::alarms::Alarms;
 use crate::row::AlarmRow;
 use rm_group::{Due, FallsDue, SAMPLES};
 use rm_status::Controls;
-
-impl Alarms {
-    /// The sample that is taken next: its moment, in milliseconds, and the number of the alarm. It is the earliest, and of
-    /// several at one moment the one of the lowest alarm. None where no alarm is valid.
-    pub fn next_due(&self) -> Option<(u64, u32)>
-        ensures next { IsNextDue (due_in self.now) result }
-        ensures journal { (settings : Settings) (journal : Journal) → Stands self.now settings journal
-            → IsNextDue (due_of journal) result }
-    {
-        self.next
-    }
-}
 
 /// The sample that is taken next of the alarms with these rows: its moment, in milliseconds, and the number of the alarm.
 pub(crate) fn earliest(rows: &Controls<AlarmRow>) -> Option<(u64, u32)>
@@ -39,15 +23,14 @@ pub(crate) fn earliest(rows: &Controls<AlarmRow>) -> Option<(u64, u32)>
 }
 
 impl FallsDue for Alarms {
-    ghost use Rattle.std.specs.Prelude.{Some};
-    ghost use Rattle.rm_alarm.specs.Left.{samples_left};
+    ghost use Rattle.rm_alarm.specs.Left.{IsSampleDue, samples_left};
 
-    ghost falls_due = { λ s due. (due.kind ≡ 1) × (due_in s due.number ≡ Some due.moment) };
+    ghost falls_due = { IsSampleDue };
 
     ghost left = { samples_left };
 
     fn next_due(&self) -> Option<Due> {
-        match self.next_due() {
+        match self.next {
             Some((moment, number)) => Some(Due {
                 moment,
                 kind: SAMPLES,

@@ -1,24 +1,24 @@
 // A group, and the alarms that sample its variables.
-ghost use Rattle.std.specs.Prelude.{◌≡◌, ℕ, ◌<◌, ◌≤◌, [], ◌∷◌, ◌||◌, Some};
+ghost use Rattle.std.specs.Prelude.{◌≡◌, ◌⊎◌, ℕ, ◌+◌, ◌<◌, ◌≤◌, [], ◌∷◌, ◌||◌, Some};
 ghost use Rattle.std.specs.Option.{option_or};
 ghost use Rattle.rm_model.specs.Settings.{Settings};
 ghost use Rattle.rm_model.specs.Journal.{Journal, samples, last_moment};
 ghost use Rattle.rm_model.specs.Cells.{cells_of, is_of_column};
 ghost use Rattle.rm_model.specs.ControlRows.{no_rows};
 ghost use Rattle.rm_model.specs.Judgement.{rows_after};
-ghost use Rattle.rm_acts.specs.Alarms.{alarm_entry, alarm_table, sampled, due_of, IsNextDue};
+ghost use Rattle.rm_acts.specs.Alarms.{alarm_entry, alarm_table, sampled};
 ghost use Rattle.rm_model.proofs.Finite.{both_finite};
 ghost use Rattle.rm_alarm.specs.AlarmTable.{alarm_columns, alarms_table};
 ghost use Rattle.rm_alarm.specs.Group.{alarm_alone, alarm_together, AreFine, HasForgotten, alarms_finite, due_in};
-ghost use Rattle.rm_alarm.specs.Left.{samples_left};
+ghost use Rattle.rm_alarm.specs.Left.{IsSampleDue, samples_left};
 ghost use Rattle.rm_alarm.specs.Watched.{AreWatched, ArePrepared, number_read};
 
 use crate::alarms::Alarms;
 use crate::laws::frames_pass;
 use rm_acts::{Firing, Sampled};
 use rm_group::{
-    Assigns, Denied, Group, Look, Objects, Passing, Readable, Sight, Steps, Unsampled,
-    choose_nearer, lower_verdict,
+    Assigns, Denied, Due, FallsDue, Group, Look, Objects, Passing, Readable, Sight, Steps,
+    Unsampled, choose_nearer, lower_verdict, sooner,
 };
 use rm_model::Verdict;
 use rm_val::{Oid, Value};
@@ -157,18 +157,18 @@ impl<G: Readable + Steps> Steps for Watched<G> {
         record { readings = under.readings; watched = G.ends s.watched settings act earlier under.watched; stand = under.stand; based = under.based } };
 }
 
-impl<G: Readable + Unsampled> Watched<G> {
-    /// The sample that is taken next: its moment, in milliseconds, and the number of the alarm. It is the earliest, and of
-    /// several at one moment the one of the lowest alarm. None where no alarm is valid.
-    pub fn next_due(&self) -> Option<(u64, u32)>
-        ensures next { IsNextDue (due_in self.now.alarms) result }
-        ensures journal { (settings : Settings) (journal : Journal)
-            → AreWatched G.sampleable (G.stands self.now.watched settings journal) self.now.alarms settings journal
-            → IsNextDue (due_of journal) result }
-    {
-        self.alarms.next_due()
-    }
+// What falls due is what does of the group, and the samples of the alarms.
+impl<G: FallsDue> FallsDue for Watched<G> {
+    ghost falls_due = { λ s due. G.falls_due s.watched due ⊎ IsSampleDue s.alarms due };
 
+    ghost left = { λ s latest. G.left s.watched latest + samples_left s.alarms latest };
+
+    fn next_due(&self) -> Option<Due> {
+        sooner(self.watched.next_due(), self.alarms.next_due())
+    }
+}
+
+impl<G: Readable + Unsampled> Watched<G> {
     /// Takes the sample of an alarm that is due at a moment, in milliseconds, and tells what it comes to. The row of an alarm
     /// whose variable is gone is removed. The act is under way then: its firings are still to be taken.
     pub fn sample(&mut self, index: u32, moment: u32) -> Sampled

@@ -1,8 +1,7 @@
 -- What the rows show is what the table shows after the journal.
-use Rattle.std.proofs.Common.{◌≡◌, ℕ, ◌%◌, ◌^◌, List, [], ◌∷◌, refl, sym, ◌∙◌, ap, true, cond, Option, Some, None}
+use Rattle.std.proofs.Common.{◌≡◌, ℕ, ◌%◌, ◌^◌, List, [], ◌∷◌, refl, sym, ◌∙◌, ap, cond, Option, Some, None}
 use Rattle.std.specs.Prelude.{not, is_some}
 use Rattle.std.proofs.Math.Pow.{mod-mod-pow}
-use borrow.Author.Tests.{eqb-true}
 use Rattle.rm_val.specs.Val.{Val, int, counter}
 use Rattle.rm_model.specs.Settings.{Settings}
 use Rattle.rm_model.specs.Journal.{Journal}

@@ -7,8 +7,8 @@ use crate::column::COLUMNS;
 use crate::row::StatisticsRow;
 use rm_acts::Firing;
 use rm_group::{
-    Assigns, Denied, Group, Look, MOST_FRAMES, Objects, Passing, Readable, Steps, Unsampled,
-    is_of_column, next_name,
+    Assigns, Denied, Due, FallsDue, Group, Look, MOST_FRAMES, Objects, Passing, Readable, Steps,
+    Unsampled, is_of_column, next_name,
 };
 use rm_model::{State, StatusKind, Verdict};
 use rm_proto::Facts;
@@ -202,4 +202,15 @@ impl Unsampled for Ether {
     ghost use Rattle.rm_ether.specs.Sampled.{ether_sampled};
 
     ghost begins = { λ s settings earlier moment alarm reading stands later. ether_sampled settings earlier moment alarm reading s stands };
+}
+
+// Nothing of the group falls due.
+impl FallsDue for Ether {
+    ghost falls_due = { λ s due. ⊥ };
+
+    ghost left = { λ s latest. 0 };
+
+    fn next_due(&self) -> Option<Due> {
+        None
+    }
 }

@@ -4,6 +4,7 @@ ghost use Rattle.rm_group.specs.Due.{ComesFirst, IsFirst, IsSooner};
 ghost use Rattle.rm_group.specs.declared.due.Due.{Due as Falling};
 
 use crate::both::Both;
+use crate::system::System;
 
 /// What falls due: its moment in milliseconds, its kind and its number.
 #[derive(Clone, Copy, Debug, PartialEq, Eq)]
@@ -33,6 +34,16 @@ pub trait FallsDue {
         ensures { IsFirst (falls_due self.now) result };
 }
 
+impl FallsDue for System {
+    ghost falls_due = { λ s due. ⊥ };
+
+    ghost left = { λ s latest. 0 };
+
+    fn next_due(&self) -> Option<Due> {
+        None
+    }
+}
+
 impl<G: FallsDue, H: FallsDue> FallsDue for Both<G, H> {
     ghost falls_due = { λ s due. G.falls_due s.first due ⊎ H.falls_due s.second due };
 
@@ -57,8 +68,8 @@ fn comes_first(one: &Due, other: &Due) -> bool
     }
 }
 
-// The sooner one of two.
-fn sooner(one: Option<Due>, other: Option<Due>) -> Option<Due>
+/// The sooner one of two.
+pub fn sooner(one: Option<Due>, other: Option<Due>) -> Option<Due>
     ensures { IsSooner one other result }
 {
     match (one, other) {

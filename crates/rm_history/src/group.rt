@@ -11,8 +11,8 @@ use crate::sample_cell::sample_entry;
 use crate::sample_column::SAMPLE_COLUMNS;
 use rm_acts::Firing;
 use rm_group::{
-    Assigns, Denied, Group, Look, Objects, Passing, Readable, Steps, Unsampled, is_of_column,
-    judge_read_only, lower_verdict,
+    Assigns, Denied, Due, FallsDue, Group, Look, Objects, Passing, Readable, Steps, Unsampled,
+    is_of_column, judge_read_only, lower_verdict,
 };
 use rm_model::Verdict;
 use rm_val::{Oid, Value};
@@ -160,4 +160,15 @@ impl Unsampled for History {
     ghost use Rattle.rm_history.specs.Sampled.{history_sampled};
 
     ghost begins = { λ s settings earlier moment alarm reading stands later. history_sampled settings earlier moment alarm reading later s stands };
+}
+
+// Nothing of the group falls due.
+impl FallsDue for History {
+    ghost falls_due = { λ s due. ⊥ };
+
+    ghost left = { λ s latest. 0 };
+
+    fn next_due(&self) -> Option<Due> {
+        None
+    }
 }

@@ -4,7 +4,7 @@ use crate::tests::given::{Given, answer, name_of, number, scalar};
 use crate::tests::passed::Passed;
 use crate::{Alarms, Sampled, Watched};
 use arrayvec::ArrayVec;
-use rm_group::{Group, Readable, Unsampled};
+use rm_group::{Due, FallsDue, Group, Readable, SAMPLES, Unsampled};
 use rm_val::Value;
 use std::alloc::Global;
 use std::process::Abort;
@@ -52,21 +52,21 @@ fn with_alarm(
 
 // Takes the next sample at its moment. The alarm, its moment in milliseconds and what the sample comes to.
 fn take_next<G: Readable + Unsampled>(group: &mut Watched<G>) -> Option<(u32, u32, Sampled)> {
-    let (moment, index) = group.next_due()?;
-    let moment = u32::try_from(moment).ok()?;
-    Some((index, moment, group.sample(index, moment)))
+    let due = group.alarms.next_due()?;
+    let moment = u32::try_from(due.moment).ok()?;
+    Some((due.number, moment, group.sample(due.number, moment)))
 }
 
 // Takes all samples that are due up to a moment. The alarm and the moment of each.
 fn take_all(group: &mut Watched<Passed>, latest: u32) -> ArrayVec<(u32, u32), 8> {
     let mut taken = ArrayVec::new();
-    while let Some((moment, index)) = group.next_due() {
-        if moment > u64::from(latest) {
+    while let Some(due) = group.alarms.next_due() {
+        if due.moment > u64::from(latest) {
             break;
         }
-        let moment = moment as u32;
-        group.sample(index, moment);
-        let _ = taken.try_push((index, moment));
+        let moment = due.moment as u32;
+        group.sample(due.number, moment);
+        let _ = taken.try_push((due.number, moment));
     }
     taken
 }
@@ -210,6 +210,11 @@ fn samples_in_order(rt: HostRuntime) -> Result<(), Fail> {
     let taken = take_all(&mut group, 6999);
     let expected = [(2, 2000), (1, 3000), (2, 4000), (1, 6000), (2, 6000)];
     assert_eq!(rt; taken.as_slice(), expected.as_slice());
-    assert_eq!(rt; group.next_due(), Some((8000, 2)));
+    let next = Due {
+        moment: 8000,
+        kind: SAMPLES,
+        number: 2,
+    };
+    assert_eq!(rt; group.alarms.next_due(), Some(next));
     Ok(())
 }

@@ -1,3 +1,4 @@
+use Rattle.std.proofs.Common.{arith}
 use Rattle.rm_alarm.specs.Watched.{number_read}
 use Rattle.rm_agent.proofs.groups.sample.Goals as goal
 
@@ -11,3 +12,6 @@ returns-clause-under_way c settings journal stands later =
 
 pub returns-clause-result : goal.returns-clause-result
 returns-clause-result c settings journal stands later = c.sample.ensures.result settings journal stands.1.1 later
+
+pub returns-clause-fewer : goal.returns-clause-fewer
+returns-clause-fewer c latest within = let less = c.sample.ensures.fewer latest within in omega arith

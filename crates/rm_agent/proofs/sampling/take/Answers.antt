@@ -1,9 +1,10 @@
-use Rattle.std.proofs.Common.{◌≡◌, [], ◌∷◌, refl, sym, ap, subst, ◌∙◌}
+use Rattle.std.proofs.Common.{◌≡◌, [], ◌∷◌, refl, sym, ap, subst, ◌∙◌, arith}
 use Rattle.std.specs.Prelude.{is_some}
 use Rattle.rm_model.specs.Journal.{Act, samples}
 use Rattle.rm_acts.specs.Events.{event_asked}
 use Rattle.rm_acts.specs.Fired.{by_sample}
 use Rattle.rm_acts.specs.declared.sampled.Sampled.{Sampled}
+use Rattle.rm_alarm.specs.Left.{samples_left}
 use Rattle.rm_alarm.specs.Watched.{number_read}
 use Rattle.rm_alarm.specs.Standing.{Stands as AlarmsStand}
 use Rattle.rm_alarm.specs.declared.alarms.Alarms.{Alarms}
@@ -43,3 +44,9 @@ returns-clause-taken c settings journal stands later due =
       event = event;
       fired = becomes;
     }
+
+pub returns-clause-fewer : goal.returns-clause-fewer
+returns-clause-fewer c latest within =
+    let less = c.sample-comes.ensures.fewer latest within in
+    let same = ap (λ (a : Alarms). samples_left a latest) c.take_firing.ensures.alarms in
+    omega arith
