@@ -1,4 +1,5 @@
 mod Known
+mod Askable
 mod Written
 mod Leaving
 mod ChannelLemmas

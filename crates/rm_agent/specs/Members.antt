@@ -58,6 +58,8 @@ pub record OfObjects (Keeps : Type 0) : Type 1 where
   pub stands : Keeps → Settings → Journal → Type 0
   -- the least moment at which it may be given a Set, in milliseconds
   pub clock : Keeps → ℕ
+  -- it may be asked at a moment in milliseconds
+  pub askable : Keeps → ℕ → Type 0
   -- how many frames it was given
   pub frames : Keeps → ℕ
   -- it has the storage of one row of each of its tables whose rows take storage
@@ -82,6 +84,7 @@ abbrev pub both : {One Other : Type 0} → OfObjects One → OfObjects Other →
 both one other = record {
   stands = λ keeps settings journal. one.stands keeps.first settings journal × other.stands keeps.second settings journal;
   clock = λ keeps. max (one.clock keeps.first) (other.clock keeps.second);
+  askable = λ keeps moment. one.askable keeps.first moment × other.askable keeps.second moment;
   frames = λ keeps. max (one.frames keeps.first) (other.frames keeps.second);
   stocked = λ keeps. one.stocked keeps.first × other.stocked keeps.second;
   falls_due = λ keeps due. one.falls_due keeps.first due ⊎ other.falls_due keeps.second due;
@@ -98,6 +101,7 @@ abbrev pub with_alarms : {Keeps : Type 0} → OfObjects Keeps → OfObjects (Wat
 with_alarms group = record {
   stands = λ keeps settings journal. AreWatched group.cells (group.stands keeps.watched settings journal) keeps.alarms settings journal;
   clock = λ keeps. group.clock keeps.watched;
+  askable = λ keeps moment. group.askable keeps.watched moment;
   frames = λ keeps. group.frames keeps.watched;
   stocked = λ keeps. group.stocked keeps.watched;
   falls_due = λ keeps due. group.falls_due keeps.watched due ⊎ IsSampleDue keeps.alarms due;
@@ -114,6 +118,7 @@ abbrev pub system : OfObjects System
 system = record {
   stands = λ keeps settings journal. Unit {0};
   clock = λ keeps. 0;
+  askable = λ keeps moment. Unit {0};
   frames = λ keeps. 0;
   stocked = λ keeps. Unit {0};
   falls_due = λ keeps due. ⊥;
@@ -129,6 +134,7 @@ abbrev pub events : OfObjects Events
 events = record {
   stands = EventsStand;
   clock = λ keeps. 0;
+  askable = λ keeps moment. Unit {0};
   frames = λ keeps. 0;
   stocked = IsEventStocked;
   falls_due = λ keeps due. ⊥;
@@ -144,6 +150,7 @@ abbrev pub ether : OfObjects Ether
 ether = record {
   stands = EtherStands;
   clock = ether_last;
+  askable = λ keeps moment. Unit {0};
   frames = ether_frames;
   stocked = λ keeps. Unit {0};
   falls_due = λ keeps due. ⊥;
@@ -159,6 +166,7 @@ abbrev pub history : OfObjects History
 history = record {
   stands = HistoryStands;
   clock = history_last;
+  askable = λ keeps moment. Unit {0};
   frames = history_frames;
   stocked = IsHistoryStocked;
   falls_due = λ keeps due. ⊥;

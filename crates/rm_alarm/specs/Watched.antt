@@ -22,12 +22,12 @@ pub record AreWatched (cells : Sampleable) (stands : Type 0) (alarms : Alarms) (
   pub stand : Stands alarms settings journal
   pub based : AreBased alarms settings journal
 
--- Both are ready for a Set at a moment: with the alarms nothing is wrong, and they remember what their variables read after
--- each journal that the group stands for.
-pub record ArePrepared (cells : Sampleable) (stands : Settings → Journal → Type 0) (prepared : Type 0) (alarms : Alarms) (now : ℕ) (bindings : Bindings) : Type 0 where
+-- Both are ready for a Set at a moment: with the alarms nothing is wrong, and where the group may be asked they remember what
+-- their variables read after each journal that it stands for.
+pub record ArePrepared (cells : Sampleable) (stands : Settings → Journal → Type 0) (askable prepared : Type 0) (alarms : Alarms) (now : ℕ) (bindings : Bindings) : Type 0 where
   pub watched : prepared
   pub fine : AreFine alarms bindings
-  pub read : (settings : Settings) (journal : Journal) → ReadsFrom cells settings → stands settings journal → last_moment journal ≤ now → AreRead alarms settings journal now bindings
+  pub read : (settings : Settings) (journal : Journal) → ReadsFrom cells settings → stands settings journal → last_moment journal ≤ now → askable → AreRead alarms settings journal now bindings
 
 -- the number that the variable of an alarm reads at a moment after a journal, if there is a reading of it
 abbrev pub number_read : Settings → Journal → (moment alarm : ℕ) → Option ℤ

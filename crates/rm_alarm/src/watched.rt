@@ -39,6 +39,8 @@ impl<G: Readable> Group for Watched<G> {
 
     ghost clock = { λ s. G.clock s.watched };
 
+    ghost askable = { λ s moment. G.askable s.watched moment };
+
     ghost frames = { λ s. G.frames s.watched };
 
     ghost stocked = { λ s. G.stocked s.watched };
@@ -57,7 +59,7 @@ impl<G: Readable> Group for Watched<G> {
     ghost accepts = { λ s now readings bindings. G.accepts s.watched now readings bindings × AreFine s.alarms bindings };
 
     ghost prepared = { λ s now bindings.
-        ArePrepared G.sampleable (G.stands s.watched) (G.prepared s.watched now bindings) s.alarms now bindings };
+        ArePrepared G.sampleable (G.stands s.watched) (G.askable s.watched now) (G.prepared s.watched now bindings) s.alarms now bindings };
 
     ghost released = { λ s. G.released s.watched × HasForgotten s.alarms };
 
@@ -169,19 +171,19 @@ impl<G: FallsDue> FallsDue for Watched<G> {
 }
 
 impl<G: Readable + Unsampled> Watched<G> {
-    /// Takes the sample of an alarm that is due at a moment, in milliseconds, and tells what it comes to. The row of an alarm
-    /// whose variable is gone is removed. The act is under way then: its firings are still to be taken.
+    /// Takes the sample of an alarm that is due at a moment, in milliseconds, at which the group may be asked, and tells what it
+    /// comes to. The row of an alarm whose variable is gone is removed. The act is under way then: its firings are still to be taken.
     pub fn sample(&mut self, index: u32, moment: u32) -> Sampled
         requires { due_in self.old.alarms index ≡ Some moment }
         ensures watched { self.new.watched ≡ self.old.watched }
         ensures under_way { (settings : Settings) (journal : Journal)
             → AreWatched G.sampleable (G.stands self.old.watched settings journal) self.old.alarms settings journal
-            → last_moment journal ≤ moment
+            → last_moment journal ≤ moment → G.askable self.old.watched moment
             → let act = samples moment index (number_read settings journal moment index) in
             AreWatched G.sampleable (G.under_way self.new.watched settings act journal []) self.new.alarms settings (act ∷ journal) }
         ensures result { (settings : Settings) (journal : Journal)
             → AreWatched G.sampleable (G.stands self.old.watched settings journal) self.old.alarms settings journal
-            → last_moment journal ≤ moment
+            → last_moment journal ≤ moment → G.askable self.old.watched moment
             → result ≡ sampled settings journal moment index (number_read settings journal moment index) }
         ensures fewer { (latest : ℕ) → moment ≤ latest
             → samples_left self.new.alarms latest < samples_left self.old.alarms latest }

@@ -82,6 +82,8 @@ impl Group for Ether {
 
     ghost clock = { last_given };
 
+    ghost askable = { λ s moment. Unit {0} };
+
     ghost frames = { frames_given };
 
     ghost stocked = { λ s. Unit {0} };

@@ -26,6 +26,8 @@ impl Group for Events {
 
     ghost clock = { λ s. 0 };
 
+    ghost askable = { λ s moment. Unit {0} };
+
     ghost frames = { λ s. 0 };
 
     ghost stocked = { IsStocked };

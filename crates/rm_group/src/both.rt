@@ -30,6 +30,8 @@ impl<G: Group, H: Group> Group for Both<G, H> {
 
     ghost clock = { λ s. max (G.clock s.first) (H.clock s.second) };
 
+    ghost askable = { λ s moment. G.askable s.first moment × H.askable s.second moment };
+
     ghost frames = { λ s. max (G.frames s.first) (H.frames s.second) };
 
     ghost stocked = { λ s. G.stocked s.first × H.stocked s.second };

@@ -30,6 +30,10 @@ pub trait Group {
     /// The least moment at which the group may be given a Set, in milliseconds.
     ghost clock: { Self → ℕ };
 
+    /// The group may be asked at a moment in milliseconds: of what ends by itself, as a report does, exactly that has ended whose
+    /// end isn't later. A group with nothing of that kind may always be asked.
+    ghost askable: { Self → ℕ → Type 0 };
+
     /// How many frames the group was given.
     ghost frames: { Self → ℕ };
 
@@ -59,19 +63,19 @@ pub trait Group {
     /// The group holds nothing for a Set that is to be committed.
     ghost released: { Self → Type 0 };
 
-    /// The value of the variable with that name at a moment in milliseconds, which isn't below that of the last act.
-    /// None where the group has no such variable.
+    /// The value of the variable with that name at a moment in milliseconds, which isn't below that of the last act, and at
+    /// which the group may be asked. None where the group has no such variable.
     fn cell(&self, name: &Oid, now: u32) -> Option<Value<'_>>
         ensures value { (settings : Settings) (journal : Journal) → stands self.now settings journal → last_moment journal ≤ now
-            → option_map val_of result ≡ cells settings journal now name.now }
+            → askable self.now now → option_map val_of result ≡ cells settings journal now name.now }
         ensures spelling { IfSome result (λ value. HasSpelling (val_of value)) };
 
     /// The value of the variable with the least name above that one (RFC 1905, section 4.2.2), at a moment in
-    /// milliseconds, which isn't below that of the last act. Its name is put into `out`. None where the group has no
-    /// variable with a greater name; `out` is then as before.
+    /// milliseconds, which isn't below that of the last act, and at which the group may be asked. Its name is put into `out`.
+    /// None where the group has no variable with a greater name; `out` is then as before.
     fn after(&self, name: &Oid, now: u32, out: &mut Oid) -> Option<Value<'_>>
         ensures next { (settings : Settings) (journal : Journal) → stands self.now settings journal → last_moment journal ≤ now
-            → IsNext (cells settings journal now) name.now (option_map val_of result) out.new }
+            → askable self.now now → IsNext (cells settings journal now) name.now (option_map val_of result) out.new }
         ensures stays { IfNone result (out.new ≡ out.old) }
         ensures name_spelling { OnSome result (IsSpellable out.new) }
         ensures spelling { IfSome result (λ value. HasSpelling (val_of value)) };
@@ -80,13 +84,13 @@ pub trait Group {
     fn judge_alone<A: Assigns>(&self, set: &A) -> Verdict
         ensures { let bindings = A.bindings set.now in IsFirstFault (length bindings) (alone_at alone bindings) result };
 
-    /// The second pass of a Set at a moment in milliseconds, which isn't below that of the last act: the bindings of each
-    /// row together. The first pass found nothing wrong.
+    /// The second pass of a Set at a moment in milliseconds, which isn't below that of the last act, and at which the group may
+    /// be asked: the bindings of each row together. The first pass found nothing wrong.
     fn judge_rows<A: Assigns, L: Look>(&self, set: &A, now: u32, look: &L) -> Verdict
         requires alone { AreFineAlone alone (A.bindings set.now) }
         ensures accepted { result ≡ Verdict.Fine → accepts self.now now (L.readings look.now now) (A.bindings set.now) }
         ensures verdict { let bindings = A.bindings set.now in (settings : Settings) (journal : Journal) → stands self.now settings journal → last_moment journal ≤ now
-            → IsFirstFault (length bindings) (together settings journal now (L.readings look.now now) bindings) result }
+            → askable self.now now → IsFirstFault (length bindings) (together settings journal now (L.readings look.now now) bindings) result }
         ensures within { IsWithin (length (A.bindings set.now)) result };
 
     /// Makes ready for a Set at a moment in milliseconds, with which both passes found nothing wrong, in a group that is
@@ -103,6 +107,7 @@ pub trait Group {
         requires accepted { accepts self.old now (L.readings look.now now) (A.bindings set.now) }
         requires stocked { stocked self.old }
         ensures clock { clock self.new ≡ clock self.old }
+        ensures askable { (moment : ℕ) → askable self.old moment → askable self.new moment }
         ensures frames { frames self.new ≡ frames self.old }
         ensures stocked { stocked self.new }
         ensures stands { (settings : Settings) (journal : Journal) → stands self.old settings journal → stands self.new settings journal }
@@ -112,7 +117,7 @@ pub trait Group {
             → reserves settings journal (A.bindings set.now) denied.index) }
         ensures within { IfErr result (λ denied. denied.index ≤ length (A.bindings set.now)) };
 
-    /// Does a Set at a moment in milliseconds, for which it was made ready. The values act all at once: of each variable the
+    /// Does a Set at a moment in milliseconds, for which it was made ready, and at which the group may be asked. The values act all at once: of each variable the
     /// first binding counts. No memory is taken.
     fn commit<A: Assigns>(&mut self, set: &A, now: u32)
         requires later { clock self.old ≤ now }
@@ -122,12 +127,13 @@ pub trait Group {
         ensures frames { frames self.new ≡ frames self.old }
         ensures stocked { stocked self.new }
         ensures stands { (settings : Settings) (journal : Journal) (values : Assignments) → stands self.old settings journal → last_moment journal ≤ now
-            → ((name : List ℕ) → value_given values name ≡ value_given (A.bindings set.now) name) → stands self.new settings (assigns now values ∷ journal) }
+            → askable self.old now → ((name : List ℕ) → value_given values name ≡ value_given (A.bindings set.now) name) → stands self.new settings (assigns now values ∷ journal) }
         ensures released { released self.new };
 
     /// Gives back what was made ready for a Set that isn't committed. No variable changes.
     fn discard(&mut self)
         ensures clock { clock self.new ≡ clock self.old }
+        ensures askable { (moment : ℕ) → askable self.old moment → askable self.new moment }
         ensures frames { frames self.new ≡ frames self.old }
         ensures stocked { stocked self.old → stocked self.new }
         ensures stands { (settings : Settings) (journal : Journal) → stands self.old settings journal → stands self.new settings journal }

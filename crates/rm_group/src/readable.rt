@@ -31,11 +31,11 @@ pub trait Readable: Group {
     fn value(&self, name: &Oid, now: u32) -> Option<Value<'_>>
         ensures { option_map val_of result ≡ shown self.now now name.now };
 
-    /// A law: what it shows at a moment, in milliseconds, is its cells after each journal that it stands for, whose last
-    /// act isn't later. It does nothing.
+    /// A law: what it shows at a moment, in milliseconds, at which it may be asked, is its cells after each journal that it
+    /// stands for, whose last act isn't later. It does nothing.
     fn shows(&self, now: u32)
         ensures { (settings : Settings) (journal : Journal) → Self.Group.stands self.now settings journal → last_moment journal ≤ now
-            → (name : List ℕ) → shown self.now now name ≡ sampleable settings journal now name };
+            → Self.Group.askable self.now now → (name : List ℕ) → shown self.now now name ≡ sampleable settings journal now name };
 
     /// They depend on what alarms read after earlier acts only.
     ghost recurring: { ReadBefore sampleable };

@@ -42,6 +42,8 @@ impl Group for System {
 
     ghost clock = { λ s. 0 };
 
+    ghost askable = { λ s moment. Unit {0} };
+
     ghost frames = { λ s. 0 };
 
     ghost stocked = { λ s. Unit {0} };

@@ -32,6 +32,8 @@ impl Group for History {
 
     ghost clock = { last_given };
 
+    ghost askable = { λ s moment. Unit {0} };
+
     ghost frames = { frames_given };
 
     ghost stocked = { IsStocked };

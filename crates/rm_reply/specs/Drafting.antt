@@ -15,10 +15,11 @@ use Rattle.rm_reply.specs.declared.answers.Answers.{Answers}
 use Rattle.rm_reply.specs.Answered.{IsGetBinding, IsNextBinding, AreFirst, AreAnswers, are_end}
 use Rattle.rm_reply.specs.Replies.{names_of, carrying, size_with}
 
--- what holds of the cells by each journal that a group stands for, at a moment that isn't below its last act's
-abbrev pub OfCells : (Settings → Journal → Type 0) → (Settings → Journal → ℕ → Cells) → ℕ → (Cells → Type 0) → Type 0
-OfCells stands cells now Holds =
-    (settings : Settings) (journal : Journal) → stands settings journal → last_moment journal ≤ now → Holds (cells settings journal now)
+-- what holds of the cells by each journal that a group stands for, at a moment that isn't below its last act's and at which the
+-- group may be asked
+abbrev pub OfCells : (Settings → Journal → Type 0) → (askable : ℕ → Type 0) → (Settings → Journal → ℕ → Cells) → ℕ → (Cells → Type 0) → Type 0
+OfCells stands askable cells now Holds =
+    (settings : Settings) (journal : Journal) → stands settings journal → last_moment journal ≤ now → askable now → Holds (cells settings journal now)
 
 -- the binding that was found
 abbrev pub binding_found : Found → Binding

@@ -31,7 +31,7 @@ impl Answers {
         draft: &mut Draft,
     ) -> Result<Answers, Room>
         requires { All IsSpellable names.now }
-        ensures put { OfCells (G.stands groups.now) G.cells now (λ cells. (m : Message) (list : List Binding) → IsDrafted m list draft.old
+        ensures put { OfCells (G.stands groups.now) (G.askable groups.now) G.cells now (λ cells. (m : Message) (list : List Binding) → IsDrafted m list draft.old
             → MatchResult result
             (λ answered. Puts (IsFound cells G.objects lookup) names.now m list answered draft.new)
             (λ room. Stops (IsFound cells G.objects lookup) names.now m list draft.new)) }

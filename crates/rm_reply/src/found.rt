@@ -41,7 +41,7 @@ impl Lookup {
     /// The answer to a name at a moment in milliseconds (RFC 1905, sections 4.2.1 and 4.2.2).
     pub fn answer<'a, G: Group + Objects>(self, groups: &'a G, name: &Oid, now: u32) -> Found<'a>
         requires { IsSpellable name.now }
-        ensures answer { OfCells (G.stands groups.entry.now) G.cells now (λ cells. IsFound cells G.objects self name.now (binding_found result)) }
+        ensures answer { OfCells (G.stands groups.entry.now) (G.askable groups.entry.now) G.cells now (λ cells. IsFound cells G.objects self name.now (binding_found result)) }
         ensures name_spelling { IsSpellable result.name }
         ensures spelling { HasSpelling (val_of result.value) }
     {
@@ -55,7 +55,7 @@ impl Lookup {
 // The answer to a GetRequest for a name.
 fn value_of<'a, G: Group + Objects>(groups: &'a G, name: &Oid, now: u32) -> Found<'a>
     requires { IsSpellable name.now }
-    ensures answer { OfCells (G.stands groups.entry.now) G.cells now (λ cells. IsGetBinding cells G.objects name.now (binding_found result)) }
+    ensures answer { OfCells (G.stands groups.entry.now) (G.askable groups.entry.now) G.cells now (λ cells. IsGetBinding cells G.objects name.now (binding_found result)) }
     ensures name_spelling { IsSpellable result.name }
     ensures spelling { HasSpelling (val_of result.value) }
 {
@@ -73,7 +73,7 @@ fn value_of<'a, G: Group + Objects>(groups: &'a G, name: &Oid, now: u32) -> Foun
 // The answer to a GetNextRequest for a name.
 fn next_of<'a, G: Group>(groups: &'a G, name: &Oid, now: u32) -> Found<'a>
     requires { IsSpellable name.now }
-    ensures answer { OfCells (G.stands groups.entry.now) G.cells now (λ cells. IsNextBinding cells name.now (binding_found result)) }
+    ensures answer { OfCells (G.stands groups.entry.now) (G.askable groups.entry.now) G.cells now (λ cells. IsNextBinding cells name.now (binding_found result)) }
     ensures name_spelling { IsSpellable result.name }
     ensures spelling { HasSpelling (val_of result.value) }
 {

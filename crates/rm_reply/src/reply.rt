@@ -22,7 +22,7 @@ pub(crate) fn reply<G: Group + Objects>(
 ) -> Option<Draft>
     requires { (m : Message) × IsAsked request.now m }
     ensures built { is_some result ≡ is_built request.now.message.kind }
-    ensures reply { OfCells (G.stands groups.now) G.cells now (λ cells. (m : Message) → IsAsked request.now m
+    ensures reply { OfCells (G.stands groups.now) (G.askable groups.now) G.cells now (λ cells. (m : Message) → IsAsked request.now m
         → IfSome result (DraftsOne (IsReply cells G.objects m))) }
 {
     let few = !request.is_long();
@@ -38,7 +38,7 @@ pub(crate) fn reply<G: Group + Objects>(
 // The reply to a GetRequest or a GetNextRequest: the answers to all names, or tooBig.
 fn whole<G: Group + Objects>(groups: &G, lookup: Lookup, request: &Request<'_>, now: u32) -> Draft
     requires { (m : Message) × IsAsked request.now m × (length m.bindings ≤ 128) }
-    ensures { OfCells (G.stands groups.now) G.cells now (λ cells. (m : Message) → IsAsked request.now m
+    ensures { OfCells (G.stands groups.now) (G.askable groups.now) G.cells now (λ cells. (m : Message) → IsAsked request.now m
         → DraftsOne (IsWholeReply (IsFound cells G.objects lookup) m) result) }
 {
     let mut draft = request.begin(ErrorStatus::NoError, 0);
@@ -52,7 +52,7 @@ fn whole<G: Group + Objects>(groups: &G, lookup: Lookup, request: &Request<'_>, 
 // The reply to a GetBulkRequest: as many answers as fit.
 fn bulk<G: Group + Objects>(groups: &G, request: &Request<'_>, now: u32) -> Draft
     requires { (m : Message) × IsAsked request.now m × (length m.bindings ≤ 128) }
-    ensures { OfCells (G.stands groups.now) G.cells now (λ cells. (m : Message) → IsAsked request.now m
+    ensures { OfCells (G.stands groups.now) (G.askable groups.now) G.cells now (λ cells. (m : Message) → IsAsked request.now m
         → DraftsOne (IsBulkReply (IsNextBinding cells) m) result) }
 {
     bindings_lengthen();
@@ -71,7 +71,7 @@ fn bulk<G: Group + Objects>(groups: &G, request: &Request<'_>, now: u32) -> Draf
 // endOfMibView if any is.
 fn repeat<G: Group + Objects>(groups: &G, names: Names, most: u32, now: u32, draft: &mut Draft)
     requires { All IsSpellable names }
-    ensures { OfCells (G.stands groups.now) G.cells now (λ cells. (m : Message) (list : List Binding) → IsDrafted m list draft.old
+    ensures { OfCells (G.stands groups.now) (G.askable groups.now) G.cells now (λ cells. (m : Message) (list : List Binding) → IsDrafted m list draft.old
         → PutsLongest (AreRepetitions (IsNextBinding cells) most names) m list draft.new) }
 {
     bindings_lengthen();

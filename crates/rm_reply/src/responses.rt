@@ -15,8 +15,8 @@ use rm_group::{Group, Objects};
 use rm_pdu::Draft;
 use std::alloc::Global;
 
-/// The response to a request at a moment in milliseconds, where its community may write or may not (RFC 1905, section 4.2). A
-/// SetRequest that is accepted is done.
+/// The response to a request at a moment in milliseconds, at which the groups may be asked, where its community may write or may
+/// not (RFC 1905, section 4.2). A SetRequest that is accepted is done.
 pub fn respond<G: Group + Objects>(
     groups: &mut G,
     alloc: Global,
@@ -28,7 +28,7 @@ pub fn respond<G: Group + Objects>(
     requires later { G.clock groups.old ≤ now }
     requires stocked { G.stocked groups.old }
     ensures reply { (settings : Settings) (journal : Journal) (m : Message) → G.stands groups.old settings journal
-        → last_moment journal ≤ now → IsAsked request.now m
+        → last_moment journal ≤ now → G.askable groups.old now → IsAsked request.now m
         → (after : Journal) × G.stands groups.new settings after × (last_moment after ≤ now)
         × DraftsOne (λ reply. IsReplyBy (G.cells settings journal now) G.objects G.alone (G.together settings journal now nothing_read) (G.reserves settings journal) may_write now journal m.kind m reply after) result }
     ensures clock { G.clock groups.new ≤ now }

@@ -18,7 +18,8 @@ use rm_pdu::Draft;
 use rm_val::ErrorStatus;
 use std::alloc::Global;
 
-/// Answers a SetRequest at a moment in milliseconds, where its community may write or may not (RFC 1905, section 4.2.5).
+/// Answers a SetRequest at a moment in milliseconds, at which the groups may be asked, where its community may write or may not
+/// (RFC 1905, section 4.2.5).
 /// Where it is accepted, all its values act at once. Memory is asked for only where it makes a row valid that takes storage.
 pub(crate) fn set<G: Group + Objects>(
     groups: &mut G,
@@ -31,7 +32,7 @@ pub(crate) fn set<G: Group + Objects>(
     requires later { G.clock groups.old ≤ now }
     requires stocked { G.stocked groups.old }
     ensures reply { (settings : Settings) (journal : Journal) (m : Message) → G.stands groups.old settings journal
-        → last_moment journal ≤ now → IsAsked request.now m
+        → last_moment journal ≤ now → G.askable groups.old now → IsAsked request.now m
         → (after : Journal) × G.stands groups.new settings after
         × DraftsOne (λ reply. IsSetReply (alone_among G.objects G.alone) (G.together settings journal now nothing_read) (G.reserves settings journal) may_write now journal m reply after) result }
     ensures clock { G.clock groups.new ≤ now }
@@ -58,7 +59,8 @@ fn is_barred<A: Assigns>(may_write: bool, set: &A) -> bool
     !may_write && set.count() > 0
 }
 
-// Judges a Set at a moment in milliseconds, and does it where nothing is wrong with it and there is memory for it.
+// Judges a Set at a moment in milliseconds, at which the groups may be asked, and does it where nothing is wrong with it and there
+// is memory for it.
 fn perform<G: Group + Objects, A: Assigns>(
     groups: &mut G,
     alloc: Global,
@@ -68,7 +70,7 @@ fn perform<G: Group + Objects, A: Assigns>(
     requires later { G.clock groups.old ≤ now }
     requires stocked { G.stocked groups.old }
     ensures judged { (settings : Settings) (journal : Journal) → G.stands groups.old settings journal → last_moment journal ≤ now
-        → (after : Journal) × G.stands groups.new settings after
+        → G.askable groups.old now → (after : Journal) × G.stands groups.new settings after
         × Judges (alone_among G.objects G.alone) (G.together settings journal now nothing_read) (G.reserves settings journal) now journal (A.bindings set.now) result after }
     ensures within { IsWithin (length (A.bindings set.now)) result }
     ensures clock { G.clock groups.new ≤ now }

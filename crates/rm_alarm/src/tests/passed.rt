@@ -74,6 +74,8 @@ impl Group for Passed {
 
     ghost clock = { λ s. 0 };
 
+    ghost askable = { λ s moment. Unit {0} };
+
     ghost frames = { λ s. s.frames };
 
     ghost stocked = { λ s. Unit {0} };

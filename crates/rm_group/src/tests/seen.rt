@@ -62,6 +62,8 @@ impl Group for Seen {
 
     ghost clock = { λ s. 0 };
 
+    ghost askable = { λ s moment. Unit {0} };
+
     ghost frames = { λ s. s.frames };
 
     ghost stocked = { λ s. Unit {0} };

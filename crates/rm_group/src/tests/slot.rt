@@ -25,6 +25,8 @@ impl Group for Slot {
 
     ghost clock = { λ s. 0 };
 
+    ghost askable = { λ s moment. Unit {0} };
+
     ghost frames = { λ s. 0 };
 
     ghost stocked = { λ s. Unit {0} };

@@ -1,5 +1,6 @@
 use Rattle.std.proofs.Common.{arith}
 use Rattle.rm_alarm.specs.Watched.{number_read}
+use Rattle.rm_agent.proofs.Askable.{sources_askable}
 use Rattle.rm_agent.proofs.groups.sample.Goals as goal
 
 pub returns-clause-under_way : goal.returns-clause-under_way
@@ -7,11 +8,11 @@ returns-clause-under_way c settings journal stands later =
     let index = c.args.index in
     let moment = c.args.moment in (
       c.sample_begins.ensures settings journal index (number_read settings journal moment index) stands.1.0 later,
-      c.sample.ensures.under_way settings journal stands.1.1 later,
+      c.sample.ensures.under_way settings journal stands.1.1 later (sources_askable c.args.groups.now.second.second.watched c.args.moment),
     )
 
 pub returns-clause-result : goal.returns-clause-result
-returns-clause-result c settings journal stands later = c.sample.ensures.result settings journal stands.1.1 later
+returns-clause-result c settings journal stands later = c.sample.ensures.result settings journal stands.1.1 later (sources_askable c.args.groups.now.second.second.watched c.args.moment)
 
 pub returns-clause-fewer : goal.returns-clause-fewer
 returns-clause-fewer c latest within = let less = c.sample.ensures.fewer latest within in omega arith

@@ -5,36 +5,36 @@ use Rattle.rm_reply.proofs.reply.repeat.Goals as goal
 
 -- src/reply.rt:91:13
 pub returns-in_default : goal.returns-in_default
-returns-in_default g c settings journal stands later m list drafted_so =
+returns-in_default g c settings journal stands later askable m list drafted_so =
     let cells = g.G.Group.cells settings journal c.args.now in
-    let before = c.loop.invariant.0 settings journal stands later m list drafted_so in
+    let before = c.loop.invariant.0 settings journal stands later askable m list drafted_so in
     repeat_stops (IsNextBinding cells) (next_one cells) c.bindings_lengthen.ensures c.args.most c.args.names m list (c.args.most - c.loop.counter) (c.args.most - (c.loop.counter + 1))
     c.loop.last c.loop.draft c.put.new.draft (omega (arith, c.loop-test.true)) before
-    (c.in_default.ensures.put settings journal stands later m (list ++ before.answers) before.is_drafted)
+    (c.in_default.ensures.put settings journal stands later askable m (list ++ before.answers) before.is_drafted)
 
 -- src/reply.rt:94:13
 pub returns-then-answered : goal.returns-then-answered
-returns-then-answered g c settings journal stands later m list drafted_so =
+returns-then-answered g c settings journal stands later askable m list drafted_so =
     let cells = g.G.Group.cells settings journal c.args.now in
-    let before = c.loop.invariant.0 settings journal stands later m list drafted_so in
+    let before = c.loop.invariant.0 settings journal stands later askable m list drafted_so in
     repeat_ends (IsNextBinding cells) c.args.most c.args.names m list (c.args.most - c.loop.counter) (c.args.most - (c.loop.counter + 1))
     c.loop.last c.in-Ok.answered c.loop.draft c.put.new.draft (omega (arith, c.loop-test.true)) before
-    (c.in-Ok.ensures.put settings journal stands later m (list ++ before.answers) before.is_drafted) c.if-answered.true
+    (c.in-Ok.ensures.put settings journal stands later askable m (list ++ before.answers) before.is_drafted) c.if-answered.true
 
 -- src/reply.rt:89:5
 pub loop-preserved : goal.loop-preserved
 loop-preserved g c = (
-  λ settings journal stands later m list drafted_so.
+  λ settings journal stands later askable m list drafted_so.
       let cells = g.G.Group.cells settings journal c.args.now in
-      let before = c.loop.invariant.0 settings journal stands later m list drafted_so in
+      let before = c.loop.invariant.0 settings journal stands later askable m list drafted_so in
       repeat_more (IsNextBinding cells) c.args.most c.args.names m list (c.args.most - c.loop.counter) (c.args.most - (c.loop.counter + 1))
       c.loop.last c.in-Ok.answered c.loop.draft c.put.new.draft (omega (arith, c.loop-test.true)) before
-      (c.in-Ok.ensures.put settings journal stands later m (list ++ before.answers) before.is_drafted) c.if-answered.false,
+      (c.in-Ok.ensures.put settings journal stands later askable m (list ++ before.answers) before.is_drafted) c.if-answered.false,
   c.in-Ok.ensures.spelling,
 )
 
 -- src/reply.rt:76:1
 pub returns : goal.returns
-returns g c settings journal stands later m list drafted_so =
+returns g c settings journal stands later askable m list drafted_so =
     repeat_done (IsNextBinding (g.G.Group.cells settings journal c.args.now)) c.args.most c.args.names m list (c.args.most - c.loop.counter) c.loop.last c.loop.draft
-    (omega (arith, c.loop-test.false)) (c.loop.invariant.0 settings journal stands later m list drafted_so)
+    (omega (arith, c.loop-test.false)) (c.loop.invariant.0 settings journal stands later askable m list drafted_so)

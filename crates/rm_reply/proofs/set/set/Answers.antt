@@ -9,7 +9,7 @@ use Rattle.rm_reply.proofs.SetLemmas.{barred_is, no_access, told}
 use Rattle.rm_reply.proofs.set.set.Goals as goal
 
 pub returns-then-is_barred-clause-reply : goal.returns-then-is_barred-clause-reply
-returns-then-is_barred-clause-reply g c settings journal m stands later asked =
+returns-then-is_barred-clause-reply g c settings journal m stands later askable asked =
     let fits : is_too_much m ≡ false = sym (c.is_too_much.ensures m asked) ∙ c.if-is_too_much.false in
     let barred : is_barred c.args.may_write m ≡ true =
     sym (barred_is c.args.may_write m c.given-given.result (c.given-given.ensures m asked)) ∙ sym c.is_barred.ensures ∙ c.if-is_barred.true in (
@@ -23,19 +23,19 @@ returns-then-is_barred-clause-reply g c settings journal m stands later asked =
     )
 
 pub returns-in-Fine-clause-reply : goal.returns-in-Fine-clause-reply
-returns-in-Fine-clause-reply g c settings journal m stands later asked =
+returns-in-Fine-clause-reply g c settings journal m stands later askable asked =
     let alone = alone_among g.G.Objects.objects g.G.Group.alone in
     let together = g.G.Group.together settings journal c.args.now nothing_read in
     let reserves = g.G.Group.reserves settings journal in
     let fits : is_too_much m ≡ false = sym (c.is_too_much.ensures m asked) ∙ c.if-is_too_much.false in
     let may : is_barred c.args.may_write m ≡ false =
     sym (barred_is c.args.may_write m c.given-given.result (c.given-given.ensures m asked)) ∙ sym c.is_barred.ensures ∙ c.if-is_barred.false in
-    let (after, stood, judges) = c.in-Fine.ensures.judged settings journal stands later in
+    let (after, stood, judges) = c.in-Fine.ensures.judged settings journal stands later askable in
     let judged = subst (λ (bs : Bindings). Judges alone together reserves c.args.now journal bs Fine after) (c.given-given.ensures m asked) judges in
     (after, stood, (telling m Fine, told alone together reserves c.args.may_write c.args.now journal m fits Fine after may judged, c.telling-in-Fine.ensures m asked))
 
 pub returns-in-Wrong-clause-reply : goal.returns-in-Wrong-clause-reply
-returns-in-Wrong-clause-reply g c settings journal m stands later asked =
+returns-in-Wrong-clause-reply g c settings journal m stands later askable asked =
     let alone = alone_among g.G.Objects.objects g.G.Group.alone in
     let together = g.G.Group.together settings journal c.args.now nothing_read in
     let reserves = g.G.Group.reserves settings journal in
@@ -43,6 +43,6 @@ returns-in-Wrong-clause-reply g c settings journal m stands later asked =
     let fits : is_too_much m ≡ false = sym (c.is_too_much.ensures m asked) ∙ c.if-is_too_much.false in
     let may : is_barred c.args.may_write m ≡ false =
     sym (barred_is c.args.may_write m c.given-given.result (c.given-given.ensures m asked)) ∙ sym c.is_barred.ensures ∙ c.if-is_barred.false in
-    let (after, stood, judges) = c.in-Wrong.ensures.judged settings journal stands later in
+    let (after, stood, judges) = c.in-Wrong.ensures.judged settings journal stands later askable in
     let judged = subst (λ (bs : Bindings). Judges alone together reserves c.args.now journal bs verdict after) (c.given-given.ensures m asked) judges in
     (after, stood, (telling m verdict, told alone together reserves c.args.may_write c.args.now journal m fits verdict after may judged, c.telling-in-Wrong.ensures m asked))

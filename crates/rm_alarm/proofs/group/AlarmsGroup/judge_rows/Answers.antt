@@ -12,7 +12,7 @@ use Rattle.rm_alarm.proofs.Judged.{variable_alike, fault_within}
 use Rattle.rm_alarm.proofs.group.AlarmsGroup.judge_rows.Goals as goal
 
 pub returns-clause-verdict : goal.returns-clause-verdict
-returns-clause-verdict g c settings journal stands later =
+returns-clause-verdict g c settings journal stands later askable =
     let bs = g.A.Assigns.bindings c.args.set.now in
     let readings = g.L.Look.readings c.args.look.now c.args.now in
     let before = rows_before set_to c.args.self.now.rows in

@@ -8,8 +8,8 @@ use Rattle.rm_alarm.proofs.Watching.{reads}
 use Rattle.rm_alarm.proofs.watched.Watched.sample.Goals as goal
 
 pub returns-clause-under_way : goal.returns-clause-under_way
-returns-clause-under_way g c settings journal is later =
-    let read = ap (option_map (λ reading. reading.value)) (reads g.G.Readable.sampleable (g.G.Readable.shown c.args.self.now.watched c.args.moment) settings journal c.args.moment (c.shows.ensures settings journal is.watched later) is.readings (variable_of journal c.args.index)) in
+returns-clause-under_way g c settings journal is later askable =
+    let read = ap (option_map (λ reading. reading.value)) (reads g.G.Readable.sampleable (g.G.Readable.shown c.args.self.now.watched c.args.moment) settings journal c.args.moment (c.shows.ensures settings journal is.watched later askable) is.readings (variable_of journal c.args.index)) in
     record {
       readings = is.readings;
       watched = g.met.G.Unsampled.begins c.args.self.now.watched settings journal c.args.moment c.args.index _ is.watched later;
@@ -20,7 +20,7 @@ returns-clause-under_way g c settings journal is later =
     }
 
 pub returns-clause-result : goal.returns-clause-result
-returns-clause-result g c settings journal is later =
-    let read = ap (option_map (λ reading. reading.value)) (reads g.G.Readable.sampleable (g.G.Readable.shown c.args.self.now.watched c.args.moment) settings journal c.args.moment (c.shows.ensures settings journal is.watched later) is.readings (variable_of journal c.args.index)) in
+returns-clause-result g c settings journal is later askable =
+    let read = ap (option_map (λ reading. reading.value)) (reads g.G.Readable.sampleable (g.G.Readable.shown c.args.self.now.watched c.args.moment) settings journal c.args.moment (c.shows.ensures settings journal is.watched later askable) is.readings (variable_of journal c.args.index)) in
     subst (λ (number : Option ℤ). c.sample.result ≡ sampled settings journal c.args.moment c.args.index number) read
     (c.sample.ensures.result settings journal is.stand is.based)

@@ -13,7 +13,7 @@ pub returns-clause-ready : goal.returns-clause-ready
 returns-clause-ready g c = record {
   watched = c.in_ok-prepare.ensures.ready;
   fine = c.remember.ensures.fine;
-  read = λ settings journal readings stands later.
+  read = λ settings journal readings stands later askable.
       c.remember.ensures.read settings journal
-      (reads g.G.Readable.sampleable (g.G.Readable.shown c.prepare.new.self c.args.now) settings journal c.args.now (c.shows.ensures settings journal stands later) readings);
+      (reads g.G.Readable.sampleable (g.G.Readable.shown c.prepare.new.self c.args.now) settings journal c.args.now (c.shows.ensures settings journal stands later askable) readings);
 }

@@ -4,7 +4,7 @@ use Rattle.rm_ether.proofs.Steps.{rows_with_set, counters_with_set}
 use Rattle.rm_ether.proofs.ether.EtherGroup.commit.Goals as goal
 
 pub returns-clause-stands : goal.returns-clause-stands
-returns-clause-stands g c settings journal values stands later gives =
+returns-clause-stands g c settings journal values stands later askable gives =
     let bs = g.A.Assigns.bindings c.args.set.now in
     let fine = all_fine ether_stats bs c.requires.ready.alone in
     record {

@@ -7,5 +7,5 @@ next_of-requires c = record {
 }
 
 pub returns-clause-next : goal.returns-clause-next
-returns-clause-next c settings journal stands later =
+returns-clause-next c settings journal stands later askable =
     next_cell c.args.self.now.rows c.len.ensures.rows c.args.self.now.logs settings journal stands.rows stands.logs c.args.name.now _ _ c.next_of.ensures.next

@@ -8,5 +8,5 @@ cell_of-requires c = record {
 }
 
 pub returns-clause-value : goal.returns-clause-value
-returns-clause-value c settings journal stands later =
+returns-clause-value c settings journal stands later askable =
     c.cell_of.ensures.value ∙ same_cells c.args.self.now.rows c.len.ensures.rows c.args.self.now.logs settings journal stands.rows stands.logs c.args.name.now

@@ -6,5 +6,5 @@ pub next_of-requires-clause-numbered : goal.next_of-requires-clause-numbered
 next_of-requires-clause-numbered c = numbered c.args.self.now.rows c.len.ensures.rows c.args.self.now.runs c.args.self.now.held
 
 pub returns-clause-next : goal.returns-clause-next
-returns-clause-next c settings journal stands later =
+returns-clause-next c settings journal stands later askable =
     next_cell c.args.self.now.rows c.len.ensures.rows c.args.self.now.runs settings journal stands.rows stands.histories c.args.now later c.args.name.now _ _ c.next_of.ensures.next

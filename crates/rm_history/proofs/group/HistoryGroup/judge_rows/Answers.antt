@@ -15,7 +15,7 @@ judge_rows-requires g c =
     (search rules, (c.control_entry.ensures, (refl, fine)))
 
 pub returns-clause-verdict : goal.returns-clause-verdict
-returns-clause-verdict g c settings journal stands later =
+returns-clause-verdict g c settings journal stands later askable =
     let bs = g.A.Assigns.bindings c.args.set.now in
     let same = second_pass_alike history_control (rows_before set_to c.args.self.now.rows) (rows_after history_control no_rows journal) stands.rows.alike bs in
     subst (λ (fault : ℕ → Option ErrorStatus). IsFirstFault (length bs) fault c.judge_rows.result) (λ d k. same k d) c.judge_rows.ensures.verdict
