@@ -270,13 +270,13 @@ module _ (journal : Journal) (now : ℕ) (bs : Bindings) (alone : (k : ℕ) → 
             let enabled_fault : row_fault alarm_table UnderCreation Enable ready crowded again 12 ≡ None = ap (λ a. row_fault alarm_table UnderCreation a ready crowded again 12) (sym enabled) ∙ under_creation in
             passes_test ready InconsistentValue (no_first _ _ enabled_fault)
 
-    is_set : is_ready_with alarm_table before bs (i ∷ []) ≡ true → is_some (option_or (given 2) (interval_set journal i)) ≡ true
-    is_set is = (both_true _ _ (both_true _ _ is).0).0
+    is_set : state ≡ UnderCreation → is_ready_with alarm_table before bs (i ∷ []) ≡ true → is_some (option_or (given 2) (interval_set journal i)) ≡ true
+    is_set under is = ap (λ s. is_some (option_or (given 2) (cond (is_absent s) None (interval_set journal i)))) (sym under) ∙ (both_true _ _ (both_true _ _ is).0).0
 
     has_after : (s : State) → state ≡ s → is_valid (next_state ask s) ≡ true → is_some (interval_set (set ∷ journal) i) ≡ true
     has_after Absent e valid = absurd (not_created (given 12) (creates ask valid))
     has_after UnderCreation e valid =
-        ap is_some (set_now ∙ ap (λ s. option_or (given 2) (cond (is_absent s) None (interval_set journal i))) e) ∙ is_set (is_ready e (enables ask valid))
+        ap is_some (set_now ∙ ap (λ s. option_or (given 2) (cond (is_absent s) None (interval_set journal i))) e) ∙ is_set e (is_ready e (enables ask valid))
     has_after Valid e valid =
         ap is_some (same_set e (ap (λ s. is_valid (next_state ask s)) e ∙ valid)) ∙ orderly.has_interval i (ap is_valid e)
 

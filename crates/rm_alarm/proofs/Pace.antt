@@ -10,7 +10,7 @@ use Rattle.rm_val.specs.Val.{Val, int}
 use Rattle.rm_val.specs.declared.error.ErrorStatus.{ErrorStatus}
 use Rattle.rm_val.specs.declared.error.ErrorStatus.TheVariants.{InconsistentValue, WrongValue}
 use Rattle.rm_model.specs.Journal.{value_given}
-use Rattle.rm_model.specs.ControlRows.{cell_name, value_ask, set_ask, next_state}
+use Rattle.rm_model.specs.ControlRows.{cell_name, value_ask, set_ask, next_state, is_absent}
 use Rattle.rm_model.specs.Judgement.{Bindings, name_at, place_of, first_pass, second_pass, together_fault, alone_fault, value_fault, column_kind, is_in, is_ready_with, is_again, is_crowded, row_fault, unless}
 use Rattle.rm_acts.specs.Alarms.{alarm_entry, alarm_table, up_from}
 use Rattle.rm_model.specs.declared.row.StatusKind.TheVariants.{EntryStatus}
@@ -187,8 +187,10 @@ module _ (now : ℕ) (bs : Bindings) (alone : (k : ℕ) → k < length bs → fi
             passes is_ready_then InconsistentValue (no_first _ _ enabled)
 
     -- and so has an interval
-    is_set : is_ready_then ≡ true → is_some (option_or (given 2) ((rows_before set_to rows).set (i ∷ []) 2)) ≡ true
-    is_set is = (both_true _ _ (both_true _ _ is).0).0
+    is_set : state_seen (row_in rows i) ≡ UnderCreation → is_ready_then ≡ true → is_some (option_or (given 2) ((rows_before set_to rows).set (i ∷ []) 2)) ≡ true
+    is_set under is =
+        ap (λ s. is_some (option_or (given 2) (cond (is_absent s) None ((rows_before set_to rows).set (i ∷ []) 2)))) (sym under)
+        ∙ (both_true _ _ (both_true _ _ is).0).0
 
     needs_interval : (o : Option (Row AlarmRow)) → row_in rows i ≡ o → next_state ask (state_seen o) ≡ Valid → given 2 ≡ None → (unwrap_or (columns_seen o) blank_row).interval ≡ None → ⊥
     needs_interval None e next none interval = not_made_valid (given 12) next
@@ -200,7 +202,7 @@ module _ (now : ℕ) (bs : Bindings) (alone : (k : ℕ) → k < length bs → fi
             let no : is_paced Valid None r.columns.course ≡ true = ap (λ s. is_paced s None r.columns.course) (sym is) ∙ ap (λ o. is_paced r.state o r.columns.course) (sym interval) ∙ paced i r e in
             cc
         by_state UnderCreation is =
-            let some = is_set (ready (ap state_seen e ∙ is) (ap (next_state ask) (sym is) ∙ next)) in
+            let some = is_set (ap state_seen e ∙ is) (ready (ap state_seen e ∙ is) (ap (next_state ask) (sym is) ∙ next)) in
             let before : (rows_before set_to rows).set (i ∷ []) 2 ≡ None = ap (λ o. option_and_then (λ c. set_to c 2) (columns_seen o)) e ∙ ap (option_map int) interval in
             let unset : option_or (given 2) ((rows_before set_to rows).set (i ∷ []) 2) ≡ None = ap (λ g. option_or g ((rows_before set_to rows).set (i ∷ []) 2)) none ∙ before in
             let no : false ≡ true = sym (ap is_some unset) ∙ some in

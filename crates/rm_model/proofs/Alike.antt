@@ -5,41 +5,13 @@ use Rattle.std.specs.List.{list_all, AllByRecursion}
 use Rattle.std.specs.Option.{option_or}
 use borrow.Author.Tests.{eqb-true}
 use Rattle.rm_val.specs.Val.{Val}
-use Rattle.rm_val.specs.declared.error.ErrorStatus.TheVariants.{InconsistentValue, InconsistentName}
-use Rattle.rm_model.specs.declared.row.StatusKind.{StatusKind}
-use Rattle.rm_model.specs.declared.row.StatusKind.TheVariants.{EntryStatus, RowStatus}
-use Rattle.rm_model.specs.declared.row.State.{State}
-use Rattle.rm_model.specs.declared.row.State.TheVariants.{Absent, UnderCreation, Valid}
-use Rattle.rm_model.specs.declared.row.Ask.{Ask}
-use Rattle.rm_model.specs.declared.row.Ask.TheVariants.{Nothing, Create, CreateValid, Enable, Disable, Destroy}
 use Rattle.rm_model.specs.declared.place.Place.{Place}
 use Rattle.rm_model.specs.declared.place.Place.TheVariants.{Outside, Entry, Column, Cell}
 use Rattle.rm_model.specs.Journal.{value_given}
 use Rattle.rm_model.specs.ControlTable.{Column as TableColumn, ControlTable, column_of, default_of, is_ready}
 use Rattle.rm_model.specs.ControlRows.{Beginning, cell_name, set_ask, is_absent}
-use Rattle.rm_model.specs.Judgement.{Bindings, name_at, place_of, status_fault, column_fault, is_always, is_made, row_fault, unless, of_columns, is_ready_with, is_held_or_made, count_below, is_crowded, is_again, together_fault, second_pass}
+use Rattle.rm_model.specs.Judgement.{Bindings, name_at, place_of, is_made, row_fault, of_columns, set_before, is_ready_with, is_held_or_made, count_below, is_crowded, is_again, together_fault, second_pass}
 use Rattle.rm_model.specs.Alike.{IsSameColumn, HasSameColumns, AreAlike}
-
--- readiness counts only in a row that there is
-no_row : (kind : StatusKind) (a : Ask) (r s : Bool) → status_fault kind Absent a r ≡ status_fault kind Absent a s
-no_row EntryStatus Nothing r s = refl
-no_row EntryStatus Create r s = refl
-no_row EntryStatus CreateValid r s = refl
-no_row EntryStatus Enable r s = refl
-no_row EntryStatus Disable r s = refl
-no_row EntryStatus Destroy r s = refl
-no_row RowStatus Nothing r s = refl
-no_row RowStatus Create r s = refl
-no_row RowStatus CreateValid r s = refl
-no_row RowStatus Enable r s = refl
-no_row RowStatus Disable r s = refl
-no_row RowStatus Destroy r s = refl
-
-pub same_ready : (t : ControlTable) (state : State) (a : Ask) (r s crowded again : Bool) (column : ℕ) → (is_absent state ≡ false → r ≡ s) → row_fault t state a r crowded again column ≡ row_fault t state a s crowded again column
-same_ready t Absent a r s crowded again column same =
-    ap (λ f. cond (is_made Absent a && crowded) (Some InconsistentName) (option_or (cond (nat_eq column t.status) f (column_fault Absent a (is_always t column))) (unless (not again) InconsistentValue))) (no_row t.status_kind a r s)
-same_ready t UnderCreation a r s crowded again column same = ap (λ b. row_fault t UnderCreation a b crowded again column) (same refl)
-same_ready t Valid a r s crowded again column same = ap (λ b. row_fault t Valid a b crowded again column) (same refl)
 
 -- a Set gives the same to two columns of which each shows the same, and was set as well as the other
 pub with_given : (given a b : Option Val) (default : Val) → unwrap_or a default ≡ unwrap_or b default → unwrap_or (option_or given a) default ≡ unwrap_or (option_or given b) default
@@ -95,12 +67,27 @@ module _ (t : ControlTable) (a b : ℕ → Option Val) where
         ap (λ s. s && t.go_together (λ n. unwrap_or (with_a n) (default_of t n))) (all_set t.columns all)
         ∙ ap (λ (f : ℕ → Val). list_all (λ c. not c.needed || is_some (with_b c.number)) t.columns && t.go_together f) (λ d n. (shows all n) d)
 
+-- columns are the same as they are
+same_itself : (t : ControlTable) (set : ℕ → Option Val) (columns : List TableColumn) → AllByRecursion (IsSameColumn t set set) columns
+same_itself t set [] = tt
+same_itself t set (c ∷ more) = (record { shown = refl; needed = λ _. refl }, same_itself t set more)
+
 module _ (t : ControlTable) (rows others : Beginning) (alike : AreAlike t rows others) (bs : Bindings) where
   crowded_alike : is_crowded t rows bs ≡ is_crowded t others bs
   crowded_alike = ap (λ (f : ℕ → Bool). nat_lt 16 (count_below f 65536)) (λ d row. (held_alike row) d)
     where
       held_alike : (row : ℕ) → is_held_or_made t rows bs (row ∷ []) ≡ is_held_or_made t others bs (row ∷ [])
       held_alike row = ap (λ s. not (is_absent s) || is_made s (set_ask t bs (row ∷ []))) (alike.states row)
+
+  -- a row is as ready among both, also where it isn't there
+  as_ready : (row : ℕ) → is_ready_with t rows bs (row ∷ []) ≡ is_ready_with t others bs (row ∷ [])
+  as_ready row =
+      ready_alike t (set_before rows (row ∷ [])) (set_before others (row ∷ [])) (λ column. value_given bs (cell_name t.entry column (row ∷ [])))
+      (subst (λ s. HasSameColumns t (set_before rows (row ∷ [])) (λ column. cond (is_absent s) None (others.set (row ∷ []) column))) (alike.states row) (by_state (is_absent (rows.state (row ∷ []))) refl))
+    where
+      by_state : (b : Bool) → is_absent (rows.state (row ∷ [])) ≡ b → HasSameColumns t (λ column. cond b None (rows.set (row ∷ []) column)) (λ column. cond b None (others.set (row ∷ []) column))
+      by_state true e = same_itself t (λ column. None) t.columns
+      by_state false e = alike.columns row e
 
   -- the second pass finds the same wrong with a Set
   pub second_pass_alike : (k : ℕ) → second_pass t rows bs k ≡ second_pass t others bs k
@@ -111,7 +98,6 @@ module _ (t : ControlTable) (rows others : Beginning) (alike : AreAlike t rows o
       of_place Entry = refl
       of_place (Column c) = refl
       of_place (Cell c row) =
-          same_ready t (rows.state (row ∷ [])) (set_ask t bs (row ∷ [])) (is_ready_with t rows bs (row ∷ [])) (is_ready_with t others bs (row ∷ [])) (is_crowded t rows bs) (is_again bs k) c
-          (λ there. ready_alike t (rows.set (row ∷ [])) (others.set (row ∷ [])) (λ column. value_given bs (cell_name t.entry column (row ∷ []))) (alike.columns row there))
+          ap (λ b. row_fault t (rows.state (row ∷ [])) (set_ask t bs (row ∷ [])) b (is_crowded t rows bs) (is_again bs k) c) (as_ready row)
           ∙ ap (λ s. row_fault t s (set_ask t bs (row ∷ [])) (is_ready_with t others bs (row ∷ [])) (is_crowded t rows bs) (is_again bs k) c) (alike.states row)
           ∙ ap (λ s. row_fault t (others.state (row ∷ [])) (set_ask t bs (row ∷ [])) (is_ready_with t others bs (row ∷ [])) s (is_again bs k) c) crowded_alike

@@ -14,7 +14,7 @@ use Rattle.rm_model.specs.Journal.{Assignment}
 use Rattle.rm_model.specs.Interfaces.{interface_name}
 use Rattle.rm_model.specs.ControlTable.{number, text, any_name, data_source, ControlTable}
 use Rattle.rm_model.specs.ControlRows.{Beginning, number_ask, next_state}
-use Rattle.rm_model.specs.Judgement.{first_pass, second_pass, row_fault, is_held_or_made, count_below, is_sound}
+use Rattle.rm_model.specs.Judgement.{first_pass, second_pass, row_fault, is_ready_with, is_held_or_made, count_below, is_sound}
 
 -- an ordinary column that a row needs, two ordinary ones, a name, and an owner, which may always be set
 abbrev table : ControlTable
@@ -144,6 +144,10 @@ row_absent : map (step row_table Absent) (1 ∷ 2 ∷ 4 ∷ 5 ∷ 6 ∷ [])
     ≡ (wrong_value ∷ wrong_name ∷ wrong_name ∷ []) ∷ (wrong_value ∷ wrong_name ∷ wrong_name ∷ []) ∷ fine ∷ fine ∷ (None ∷ wrong_name ∷ wrong_name ∷ []) ∷ []
 row_absent = refl
 
+-- a row can't be made active without a column that it needs, and can be made without it
+row_not_ready : map (λ n. faults row_table Absent (number_ask RowStatus n) false) (4 ∷ 5 ∷ []) ≡ (wrong_value ∷ None ∷ None ∷ []) ∷ fine ∷ []
+row_not_ready = refl
+
 row_out_of_service : map (step row_table UnderCreation) (1 ∷ 2 ∷ 4 ∷ 5 ∷ 6 ∷ [])
     ≡ fine ∷ fine ∷ (wrong_value ∷ None ∷ None ∷ []) ∷ (wrong_value ∷ None ∷ None ∷ []) ∷ fine ∷ []
 row_out_of_service = refl
@@ -170,6 +174,16 @@ there_already = refl
 
 again : row_fault table UnderCreation Nothing true false true 2 ≡ wrong_value
 again = refl
+
+-- row 5 that was there, and that a Set makes active: what it had counts no more
+abbrev gone_5 : Beginning
+gone_5 = record { state = λ index. Absent; set = λ index column. Some (int (pos 7)) }
+
+abbrev goes : Assignment
+goes = binds (12 ∷ 5 ∷ []) (int (pos 4))
+
+made_ready : map (λ bindings. is_ready_with row_table gone_5 bindings (5 ∷ [])) ((goes ∷ []) ∷ (goes ∷ binds (2 ∷ 5 ∷ []) (int (pos 7)) ∷ []) ∷ []) ≡ false ∷ true ∷ []
+made_ready = refl
 
 -- row 5 under creation, with or without the column that it needs
 abbrev row_5 : Option Val → Beginning

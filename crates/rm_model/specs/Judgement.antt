@@ -127,6 +127,7 @@ status_fault EntryStatus Absent Enable ready = Some InconsistentName
 status_fault EntryStatus Absent Disable ready = Some InconsistentName
 status_fault RowStatus Absent Enable ready = Some InconsistentValue
 status_fault RowStatus Absent Disable ready = Some InconsistentValue
+status_fault kind Absent CreateValid ready = unless ready InconsistentValue
 status_fault kind UnderCreation Create ready = Some InconsistentValue
 status_fault kind UnderCreation CreateValid ready = Some InconsistentValue
 status_fault kind UnderCreation Enable ready = unless ready InconsistentValue
@@ -157,11 +158,15 @@ row_fault table state ask ready crowded again column =
 abbrev pub of_columns : ControlTable → (ℕ → Option Val) → ℕ → Option Val
 of_columns table set column = if is_some (column_of table column) then set column else None
 
--- whether a row is ready with what a Set gives to its columns
+-- what a column of a row was set to before a Set, if there was the row
+abbrev pub set_before : Beginning → List ℕ → ℕ → Option Val
+set_before before index column = if is_absent (before.state index) then None else before.set index column
+
+-- whether a row is ready with what a Set gives to its columns, also one that the Set makes
 abbrev pub is_ready_with : ControlTable → Beginning → Bindings → List ℕ → Bool
 is_ready_with table before bindings index =
     is_ready table
-    (of_columns table (λ column. option_or (value_given bindings (cell_name table.entry column index)) (before.set index column)))
+    (of_columns table (λ column. option_or (value_given bindings (cell_name table.entry column index)) (set_before before index column)))
 
 -- whether there is a row before a Set, or the Set makes it
 abbrev pub is_held_or_made : ControlTable → Beginning → Bindings → List ℕ → Bool

@@ -1,7 +1,7 @@
 -- The bindings of a Set in a row's columns.
-use Rattle.std.proofs.Common.{◌≡◌, ℕ, ◌<◌, suc, Bool, true, false, cond, ◌&&◌, List, [], ◌∷◌, length, Option, Some, None, find, nat_eq, refl, ap, ◌∙◌, subst, arith, option_map}
+use Rattle.std.proofs.Common.{◌≡◌, ℕ, ◌<◌, suc, Bool, true, false, cond, ◌&&◌, List, [], ◌∷◌, length, Option, Some, None, find, nat_eq, refl, sym, ap, ◌∙◌, subst, arith, option_map}
 use Rattle.std.specs.Prelude.{is_some, is_none}
-use Rattle.std.specs.Option.{option_or}
+use Rattle.std.specs.Option.{option_or, option_and_then}
 use Rattle.std.specs.Str.{bytes_eq}
 use borrow.Author.Tests.{eqb-true}
 use Rattle.rm_val.specs.Val.{Val}
@@ -9,9 +9,12 @@ use Rattle.rm_model.specs.declared.place.Place.{Place}
 use Rattle.rm_model.specs.declared.place.Place.TheVariants.{Outside, Entry, Column, Cell}
 use Rattle.rm_model.specs.Journal.{value_given}
 use Rattle.rm_model.specs.ControlTable.{ControlTable, column_of, is_ready}
-use Rattle.rm_model.specs.ControlRows.{cell_name}
-use Rattle.rm_model.specs.Judgement.{Bindings, place_of, column_kind, writable_kind, value_fault, alone_fault, first_pass, of_columns, is_sound}
+use Rattle.rm_model.specs.ControlRows.{cell_name, is_absent}
+use Rattle.rm_model.specs.Judgement.{Bindings, place_of, column_kind, writable_kind, value_fault, alone_fault, first_pass, of_columns, set_before, is_sound}
+use Rattle.rm_status.specs.declared.row.Row.{Row}
+use Rattle.rm_status.specs.Rows.{row_in, state_seen, columns_seen, rows_before, AreControlRows}
 use Rattle.rm_status.specs.Commit.{is_cell, put_at, put_all}
+use Rattle.rm_status.proofs.RowFacts.{row_there}
 use Rattle.rm_status.proofs.PlaceLemmas.{is_cell_name}
 
 no_first : {A : Type 0} (o p : Option A) → option_or o p ≡ None → o ≡ None
@@ -75,13 +78,29 @@ module _ {C : Type 0} (t : ControlTable) (with_column : C → ℕ → Val → C)
       ]
       ∙ ap (λ s. option_or (option_map (λ a. a.value) (cond s (Some b) (find (λ a. bytes_eq a.name name) bs))) (set_to x m)) (is_cell_name t.entry b.name m i)
 
-  module _ (sound : is_sound t ≡ true) (bs : Bindings) (i : ℕ) (x y : C) (fine : AllFine t bs) (bare : (n : ℕ) → set_to x n ≡ set_to y n) where
-    each : (m : ℕ) → of_columns t (set_to (put_all t with_column blank bs i x)) m ≡ of_columns t (λ column. option_or (value_given bs (cell_name t.entry column (i ∷ []))) (set_to y column)) m
-    each m = elim (is_some (column_of t m)) as (λ b. is_some (column_of t m) ≡ b → cond b (set_to (put_all t with_column blank bs i x) m) None ≡ cond b (option_or (value_given bs (cell_name t.entry m (i ∷ []))) (set_to y m)) None) [
-      | true ↦ λ e. set_in_all bs i m x (not_status t m sound e) fine ∙ ap (option_or (value_given bs (cell_name t.entry m (i ∷ [])))) (bare m)
+  module _ (sound : is_sound t ≡ true) (bs : Bindings) (i : ℕ) (x : C) (fine : AllFine t bs) where
+    each : (m : ℕ) → of_columns t (set_to (put_all t with_column blank bs i x)) m ≡ of_columns t (λ column. option_or (value_given bs (cell_name t.entry column (i ∷ []))) (set_to x column)) m
+    each m = elim (is_some (column_of t m)) as (λ b. is_some (column_of t m) ≡ b → cond b (set_to (put_all t with_column blank bs i x) m) None ≡ cond b (option_or (value_given bs (cell_name t.entry m (i ∷ []))) (set_to x m)) None) [
+      | true ↦ λ e. set_in_all bs i m x (not_status t m sound e) fine
       | false ↦ λ _. refl
     ] refl
 
     -- so a row is as ready as its columns say
-    pub ready_is : is_ready t (of_columns t (set_to (put_all t with_column blank bs i x))) ≡ is_ready t (of_columns t (λ column. option_or (value_given bs (cell_name t.entry column (i ∷ []))) (set_to y column)))
+    pub ready_is : is_ready t (of_columns t (set_to (put_all t with_column blank bs i x))) ≡ is_ready t (of_columns t (λ column. option_or (value_given bs (cell_name t.entry column (i ∷ []))) (set_to x column)))
     ready_is = ap (is_ready t) (λ d m. each m d)
+
+-- a row is as ready by columns that were set to the same
+pub same_ready : (t : ControlTable) (given set other : ℕ → Option Val) → ((n : ℕ) → set n ≡ other n) → is_ready t (of_columns t (λ n. option_or (given n) (set n))) ≡ is_ready t (of_columns t (λ n. option_or (given n) (other n)))
+same_ready t given set other same = ap (λ (f : ℕ → Option Val). is_ready t (of_columns t (λ n. option_or (given n) (f n)))) (λ d n. (same n) d)
+
+module _ {C : Type 0} (set_to : C → ℕ → Option Val) (rows : List (Row C)) (i : ℕ) where
+  abbrev before_in : Option (Row C) → ℕ → Option Val
+  before_in o n = cond (is_absent (state_seen o)) None (option_and_then (λ c. set_to c n) (columns_seen o))
+
+  -- what the columns of a row were set to before a Set, if there is the row
+  pub set_held : AreControlRows rows → (row : Row C) → Some row ≡ row_in rows i → (n : ℕ) → set_to row.columns n ≡ set_before (rows_before set_to rows) (i ∷ []) n
+  set_held held row here n =
+      sym (ap (λ b. cond b None (set_to row.columns n)) (row_there rows i row held (sym here))) ∙ ap (λ o. before_in o n) here
+
+  pub set_not_held : None ≡ row_in rows i → (n : ℕ) → ◌≡◌ {A = Option Val} None (set_before (rows_before set_to rows) (i ∷ []) n)
+  set_not_held none n = ap (λ o. before_in o n) none

@@ -1,23 +1,22 @@
 -- The second pass of a binding, by what it asks of its row.
-use Rattle.std.proofs.Common.{◌≡◌, ℕ, Bool, false, [], ◌∷◌, sym, ap, ◌∙◌}
+use Rattle.std.proofs.Common.{◌≡◌, ℕ, Bool, [], ◌∷◌, sym, ap, ◌∙◌}
 use Rattle.rm_model.specs.declared.row.State.{State}
 use Rattle.rm_model.specs.declared.row.Ask.{Ask}
 use Rattle.rm_model.specs.declared.place.Place.{Place}
 use Rattle.rm_model.specs.declared.place.Place.TheVariants.{Cell}
 use Rattle.rm_model.specs.ControlTable.{ControlTable}
-use Rattle.rm_model.specs.ControlRows.{Beginning, set_ask, is_absent}
-use Rattle.rm_model.proofs.Alike.{same_ready}
+use Rattle.rm_model.specs.ControlRows.{Beginning, set_ask}
 use Rattle.rm_model.specs.Judgement.{Bindings, name_at, place_of, row_fault, is_ready_with, is_crowded, is_again, together_fault, second_pass}
 
 module _ (t : ControlTable) (before : Beginning) (bs : Bindings) (k column row : ℕ) (p : Place) (at : p ≡ place_of t.entry (name_at bs k)) (cell : p ≡ Cell column row) where
   pub second_is : (state : State) (a : Ask) (ready crowded again : Bool)
-      → state ≡ before.state (row ∷ []) → a ≡ set_ask t bs (row ∷ []) → (is_absent (before.state (row ∷ [])) ≡ false → ready ≡ is_ready_with t before bs (row ∷ []))
+      → state ≡ before.state (row ∷ []) → a ≡ set_ask t bs (row ∷ []) → ready ≡ is_ready_with t before bs (row ∷ [])
       → crowded ≡ is_crowded t before bs → again ≡ is_again bs k
       → row_fault t state a ready crowded again column ≡ second_pass t before bs k
   second_is state a ready crowded again states asks readies crowds agains =
       ap (λ s. row_fault t s a ready crowded again column) states
       ∙ ap (λ x. row_fault t (before.state (row ∷ [])) x ready crowded again column) asks
-      ∙ same_ready t (before.state (row ∷ [])) (set_ask t bs (row ∷ [])) ready (is_ready_with t before bs (row ∷ [])) crowded again column readies
+      ∙ ap (λ b. row_fault t (before.state (row ∷ [])) (set_ask t bs (row ∷ [])) b crowded again column) readies
       ∙ ap (λ b. row_fault t (before.state (row ∷ [])) (set_ask t bs (row ∷ [])) (is_ready_with t before bs (row ∷ [])) b again column) crowds
       ∙ ap (λ b. row_fault t (before.state (row ∷ [])) (set_ask t bs (row ∷ [])) (is_ready_with t before bs (row ∷ [])) (is_crowded t before bs) b column) agains
       ∙ ap (together_fault t before bs k) (sym cell ∙ at)

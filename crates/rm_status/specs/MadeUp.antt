@@ -1,10 +1,11 @@
--- A made-up control table, for the tests: a row needs column 2, column 4 may always be set, and the status is column 7.
+-- A made-up control table, for the tests, with either kind of status: a row needs column 2, column 4 may always be set, and the status is
+-- column 7.
 use Rattle.std.specs.Prelude.{◌≡◌, ℕ, ℤ, pos, List, [], ◌∷◌, true, false, cond, Option, Some, None, refl, nat_eq}
 use Rattle.std.proofs.Common.{subst}
 use Rattle.std.specs.Option.{option_map}
 use borrow.Author.Tests.{eqb-true}
 use Rattle.rm_val.specs.Val.{Val, int}
-use Rattle.rm_model.specs.declared.row.StatusKind.TheVariants.{EntryStatus}
+use Rattle.rm_model.specs.declared.row.StatusKind.{StatusKind}
 use Rattle.rm_model.specs.ControlTable.{Range, number, ControlTable}
 use Rattle.rm_model.specs.Alike.{HasSameColumns}
 use Rattle.rm_model.specs.Judgement.{column_kind, value_fault}
@@ -13,11 +14,11 @@ use Rattle.rm_status.specs.Taken.{number_in, number_taken}
 abbrev up_to : ℕ → List Range
 up_to most = record { least = pos 1; greatest = pos most } ∷ []
 
-abbrev pub table : ControlTable
-table = record {
+abbrev pub table : StatusKind → ControlTable
+table kind = record {
   entry = 1 ∷ 3 ∷ 6 ∷ 1 ∷ 4 ∷ 1 ∷ 9 ∷ 5 ∷ [];
   status = 7;
-  status_kind = EntryStatus;
+  status_kind = kind;
   columns =
       record { number = 2; kind = number (up_to 9); always = false; needed = true; default = int (pos 0) }
       ∷ record { number = 3; kind = number (up_to 3600); always = false; needed = false; default = int (pos 1800) }
@@ -36,8 +37,8 @@ set_to second third fourth n =
 abbrev pub with_value : ℕ → ℕ → Val → Option ℤ → Option ℤ
 with_value column n value old = cond (nat_eq column n) (number_in value) old
 
-pub blank_alike : HasSameColumns table (set_to None None None) (λ column. None)
-blank_alike = (
+pub blank_alike : (kind : StatusKind) → HasSameColumns (table kind) (set_to None None None) (λ column. None)
+blank_alike kind = (
   record { shown = refl; needed = λ _. refl },
   (
     record { shown = refl; needed = λ _. refl },
@@ -67,23 +68,23 @@ module _ (second third fourth : Option ℤ) (value : Val) (m : ℕ) (taken : opt
     | false ↦ λ _. refl
   ] refl
 
-abbrev Sets : Option ℤ → Option ℤ → Option ℤ → ℕ → Val → ℕ → Type 0
-Sets second third fourth m value n =
-    value_fault (column_kind table n) value ≡ None
+abbrev Sets : StatusKind → Option ℤ → Option ℤ → Option ℤ → ℕ → Val → ℕ → Type 0
+Sets kind second third fourth m value n =
+    value_fault (column_kind (table kind) n) value ≡ None
     → set_to (with_value 2 n value second) (with_value 3 n value third) (with_value 4 n value fourth) m ≡ cond (nat_eq n m) (Some value) (set_to second third fourth m)
 
-pub set_with : (second third fourth : Option ℤ) (n m : ℕ) (value : Val) → Sets second third fourth m value n
-set_with second third fourth n m value =
-    elim (nat_eq 2 n) as (λ t. nat_eq 2 n ≡ t → Sets second third fourth m value n) [
-      | true ↦ λ e. subst (Sets second third fourth m value) (eqb-true 2 n e) (λ fine. two second third fourth value m (number_taken (up_to 9) value fine))
-      | false ↦ λ two_no. elim (nat_eq 3 n) as (λ t. nat_eq 3 n ≡ t → Sets second third fourth m value n) [
-        | true ↦ λ e. subst (Sets second third fourth m value) (eqb-true 3 n e) (λ fine. three second third fourth value m (number_taken (up_to 3600) value fine))
-        | false ↦ λ three_no. elim (nat_eq 4 n) as (λ t. nat_eq 4 n ≡ t → Sets second third fourth m value n) [
-          | true ↦ λ e. subst (Sets second third fourth m value) (eqb-true 4 n e) (λ fine. four second third fourth value m (number_taken (up_to 100) value fine))
+pub set_with : (kind : StatusKind) (second third fourth : Option ℤ) (n m : ℕ) (value : Val) → Sets kind second third fourth m value n
+set_with kind second third fourth n m value =
+    elim (nat_eq 2 n) as (λ t. nat_eq 2 n ≡ t → Sets kind second third fourth m value n) [
+      | true ↦ λ e. subst (Sets kind second third fourth m value) (eqb-true 2 n e) (λ fine. two second third fourth value m (number_taken (up_to 9) value fine))
+      | false ↦ λ two_no. elim (nat_eq 3 n) as (λ t. nat_eq 3 n ≡ t → Sets kind second third fourth m value n) [
+        | true ↦ λ e. subst (Sets kind second third fourth m value) (eqb-true 3 n e) (λ fine. three second third fourth value m (number_taken (up_to 3600) value fine))
+        | false ↦ λ three_no. elim (nat_eq 4 n) as (λ t. nat_eq 4 n ≡ t → Sets kind second third fourth m value n) [
+          | true ↦ λ e. subst (Sets kind second third fourth m value) (eqb-true 4 n e) (λ fine. four second third fourth value m (number_taken (up_to 100) value fine))
           | false ↦ λ four_no fine. absurd (no_column two_no three_no four_no fine)
         ] refl
       ] refl
     ] refl
   where
-    no_column : nat_eq 2 n ≡ false → nat_eq 3 n ≡ false → nat_eq 4 n ≡ false → value_fault (column_kind table n) value ≡ None → ⊥
+    no_column : nat_eq 2 n ≡ false → nat_eq 3 n ≡ false → nat_eq 4 n ≡ false → value_fault (column_kind (table kind) n) value ≡ None → ⊥
     no_column two_no three_no four_no fine = let same = rw (two_no, three_no, four_no) at fine in cc

@@ -86,14 +86,14 @@ pub(crate) fn status_fault(
             StatusKind::EntryStatus => Some(ErrorStatus::InconsistentName),
             StatusKind::RowStatus => Some(ErrorStatus::InconsistentValue),
         },
-        (State::Absent, _) => None,
-        (State::UnderCreation, Ask::Enable) => {
+        (State::Absent, Ask::CreateValid) | (State::UnderCreation, Ask::Enable) => {
             if ready {
                 None
             } else {
                 Some(ErrorStatus::InconsistentValue)
             }
         }
+        (State::Absent, _) => None,
         (_, Ask::Create) | (_, Ask::CreateValid) => Some(ErrorStatus::InconsistentValue),
         _ => None,
     }

@@ -1,5 +1,6 @@
 mod beside;
 mod made_up;
+mod row_status;
 mod sets;
 
 use crate::{INTERFACES, interface_name, source};

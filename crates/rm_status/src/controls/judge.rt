@@ -1,7 +1,10 @@
 // How a Set is judged on the rows of a control table.
-ghost use Rattle.std.specs.Prelude.{◌≡◌, ◌<◌, ◌≤◌, [], ◌∷◌, length, false};
-ghost use Rattle.rm_model.specs.ControlRows.{is_absent};
-ghost use Rattle.rm_model.specs.Judgement.{IsFirstFault, first_pass, second_pass, name_at, place_of, is_again, is_crowded, is_ready_with};
+ghost use Rattle.std.specs.Prelude.{◌≡◌, ◌<◌, ◌≤◌, [], ◌∷◌, length};
+ghost use Rattle.std.specs.Option.{option_or};
+ghost use Rattle.rm_model.specs.Journal.{value_given};
+ghost use Rattle.rm_model.specs.ControlTable.{is_ready};
+ghost use Rattle.rm_model.specs.ControlRows.{cell_name};
+ghost use Rattle.rm_model.specs.Judgement.{IsFirstFault, first_pass, second_pass, name_at, place_of, is_again, is_crowded, is_ready_with, of_columns};
 ghost use Rattle.rm_status.specs.Rows.{AreControlRows, rows_before, state_in};
 ghost use Rattle.rm_status.specs.Commit.{made_by, count_made};
 
@@ -127,20 +130,35 @@ impl<C: Columns> Controls<C> {
         }
     }
 
-    // Whether a row that there is would be ready with the columns that a Set gives to it.
+    // Whether a row would be ready with the columns that a Set gives to it, a blank one where there is no such row.
     fn is_ready_with<A: Assigns>(&self, set: &A, entry: &Oid, status: u32, row: u32) -> bool
         requires entry { entry.now ≡ C.table.entry }
         requires status { status ≡ C.table.status }
         requires fine { IsFirstFault (length (A.bindings set.now)) (first_pass C.table (A.bindings set.now)) Verdict.Fine }
-        ensures { is_absent (state_in self.now row) ≡ false → result ≡ is_ready_with C.table (rows_before C.set_to self.now) (A.bindings set.now) (row ∷ []) }
+        ensures { result ≡ is_ready_with C.table (rows_before C.set_to self.now) (A.bindings set.now) (row ∷ []) }
     {
-        match self.get(row) {
-            None => false,
-            Some(columns) => {
-                let mut with = columns.bare();
-                put_all::<C, A>(&mut with, set, entry, status, row);
-                is_ready(&with)
-            }
+        prove!(self.len() <= MAX_ROWS);
+        match self.row(row) {
+            None => is_ready_after::<C, A>(C::blank(), set, entry, status, row),
+            Some(found) => { is_ready_after::<C, A>(found.columns.bare(), set, entry, status, row) }
         }
     }
+}
+
+// Whether columns are ready once the bindings of a row are in them.
+fn is_ready_after<C: Columns, A: Assigns>(
+    columns: C,
+    set: &A,
+    entry: &Oid,
+    status: u32,
+    row: u32,
+) -> bool
+    requires entry { entry.now ≡ C.table.entry }
+    requires status { status ≡ C.table.status }
+    requires fine { IsFirstFault (length (A.bindings set.now)) (first_pass C.table (A.bindings set.now)) Verdict.Fine }
+    ensures { result ≡ is_ready C.table (of_columns C.table (λ column. option_or (value_given (A.bindings set.now) (cell_name C.table.entry column (row ∷ []))) (C.set_to columns column))) }
+{
+    let mut with = columns;
+    put_all::<C, A>(&mut with, set, entry, status, row);
+    is_ready(&with)
 }

@@ -2,6 +2,7 @@
 // needed, column 3 is 1 to 3600, column 4 is 1 to 100 and may always be set.
 ghost use Rattle.std.specs.Prelude.{◌≡◌, [], ◌∷◌, map, None, refl};
 ghost use Rattle.rm_val.specs.Val.{int};
+ghost use Rattle.rm_model.specs.declared.row.StatusKind.TheVariants.{EntryStatus, RowStatus};
 ghost use Rattle.rm_status.specs.MadeUp.{table, set_to, with_value, blank_alike, set_with};
 
 use crate::Columns;
@@ -35,7 +36,7 @@ impl Default for MadeUp {
 }
 
 impl Columns for MadeUp {
-    ghost table = { table };
+    ghost table = { table EntryStatus };
 
     ghost set_to = { λ s n. set_to s.second s.third s.fourth n };
 
@@ -45,9 +46,9 @@ impl Columns for MadeUp {
 
     ghost with_column = { λ s n value. record { second = with_value 2 n value s.second; third = with_value 3 n value s.third; fourth = with_value 4 n value s.fourth } };
 
-    ghost blank_alike = { blank_alike };
+    ghost blank_alike = { blank_alike EntryStatus };
 
-    ghost set_with = { λ columns n other value fine. set_with columns.second columns.third columns.fourth n other value fine };
+    ghost set_with = { λ columns n other value fine. set_with EntryStatus columns.second columns.third columns.fourth n other value fine };
 
     ghost sound = { refl };
 
@@ -87,6 +88,68 @@ impl Columns for MadeUp {
             4 => Some(Value::Int(self.fourth?)),
             _ => None,
         }
+    }
+
+    fn agree(&self) -> bool {
+        true
+    }
+
+    fn bare(&self) -> Self {
+        *self
+    }
+}
+
+/// The same columns in a table with a RowStatus.
+#[derive(Clone, Copy, Debug, PartialEq, Eq)]
+pub struct OfRowStatus {
+    columns: MadeUp,
+}
+
+impl Default for OfRowStatus {
+    ghost is_default = { λ row. row.columns ≡ record { second = None; third = None; fourth = None } };
+
+    fn default() -> Self {
+        OfRowStatus::blank()
+    }
+}
+
+impl Columns for OfRowStatus {
+    ghost table = { table RowStatus };
+
+    ghost set_to = { λ s n. set_to s.columns.second s.columns.third s.columns.fourth n };
+
+    ghost blank_row = { record { columns = record { second = None; third = None; fourth = None } } };
+
+    ghost default_is_blank = { λ row is i. record { columns = is i } };
+
+    ghost with_column = { λ s n value. record { columns = record { second = with_value 2 n value s.columns.second; third = with_value 3 n value s.columns.third; fourth = with_value 4 n value s.columns.fourth } } };
+
+    ghost blank_alike = { blank_alike RowStatus };
+
+    ghost set_with = { λ s n other value fine. set_with RowStatus s.columns.second s.columns.third s.columns.fourth n other value fine };
+
+    ghost sound = { refl };
+
+    ghost apart = { refl };
+
+    ghost spelled = { λ s. Unit {0} };
+
+    fn blank() -> Self {
+        OfRowStatus {
+            columns: MadeUp::blank(),
+        }
+    }
+
+    fn sheet() -> &'static [ColumnSheet] {
+        SHEET
+    }
+
+    fn put(&mut self, column: u32, value: &Value<'_>) {
+        self.columns.put(column, value);
+    }
+
+    fn show(&self, column: u32) -> Option<Value<'_>> {
+        self.columns.show(column)
     }
 
     fn agree(&self) -> bool {

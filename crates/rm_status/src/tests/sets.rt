@@ -1,6 +1,8 @@
 // Sets against every cell of the steps of EntryStatus: valid 1, createRequest 2, underCreation 3, invalid 4.
+ghost use Rattle.std.specs.Prelude.{◌≡◌, [], ◌∷◌};
+
 use crate::tests::made_up::{Given, MadeUp, STATUS, Set, entry};
-use crate::{Controls, MAX_ROWS};
+use crate::{Columns, Controls, MAX_ROWS};
 use arrayvec::ArrayVec;
 use rm_model::{State, StatusKind, Verdict};
 use rm_val::ErrorStatus;
@@ -8,19 +10,20 @@ use std::process::Abort;
 use std::test::Fail;
 
 // Columns of row 5, and what they are given.
-type Columns = &'static [(u32, i32)];
+type Row5 = &'static [(u32, i32)];
 
 // The Sets that make of row 5 what it is before: not there, under creation without the column that it needs, with it, and
 // valid.
-const ABSENT: &[Columns] = &[];
+const ABSENT: &[Row5] = &[];
 
-const NOT_READY: &[Columns] = &[&[(STATUS, 2)]];
+const NOT_READY: &[Row5] = &[&[(STATUS, 2)]];
 
-const READY: &[Columns] = &[&[(STATUS, 2), (2, 4)]];
+const READY: &[Row5] = &[&[(STATUS, 2), (2, 4)]];
 
-const VALID: &[Columns] = &[&[(STATUS, 2), (2, 4)], &[(STATUS, 1)]];
+const VALID: &[Row5] = &[&[(STATUS, 2), (2, 4)], &[(STATUS, 1)]];
 
-const FINE: Verdict = Verdict::Fine;
+/// Nothing is wrong.
+pub const FINE: Verdict = Verdict::Fine;
 
 const WRONG_NAME_1: Verdict = Verdict::Wrong {
     status: ErrorStatus::InconsistentName,
@@ -46,10 +49,10 @@ const WRONG_VALUE_2: Verdict = Verdict::Wrong {
 type Numbers = (Option<i32>, Option<i32>, Option<i32>);
 
 // Before, and a Set that is refused, with its verdict.
-type Refused = (&'static [Columns], Columns, Verdict);
+type Refused = (&'static [Row5], Row5, Verdict);
 
 // Before, and a Set that is accepted, with the row's state and columns after it.
-type Accepted = (&'static [Columns], Columns, State, Option<Numbers>);
+type Accepted = (&'static [Row5], Row5, State, Option<Numbers>);
 
 const BLANK: Option<Numbers> = Some((None, None, None));
 
@@ -200,8 +203,8 @@ fn set_of_row_5(columns: &[(u32, i32)]) -> Set {
     set
 }
 
-// The Set of these columns and rows.
-fn set_of(columns: &[(u32, u32, i32)]) -> Set {
+/// The Set of these columns and rows.
+pub fn set_of(columns: &[(u32, u32, i32)]) -> Set {
     let mut set = Set {
         given: ArrayVec::new(),
     };
@@ -223,8 +226,11 @@ fn numbers(rows: &Controls<MadeUp>, row: u32) -> Option<Numbers> {
     }
 }
 
-// Judges a Set in two passes, and acts on it where nothing is wrong.
-fn apply(rows: &mut Controls<MadeUp>, set: &Set) -> Verdict {
+/// Judges a Set in two passes, and acts on it where nothing is wrong.
+pub fn apply<C: Columns>(rows: &mut Controls<C>, set: &Set) -> Verdict
+    requires entry { C.table.entry ≡ 1 ∷ 3 ∷ 6 ∷ 1 ∷ 4 ∷ 1 ∷ 9 ∷ 5 ∷ [] }
+    requires status { C.table.status ≡ 7 }
+{
     let entry = entry();
     match rows.judge_alone(set, &entry, STATUS) {
         Verdict::Fine => match rows.judge_rows(set, &entry, STATUS) {
@@ -239,7 +245,7 @@ fn apply(rows: &mut Controls<MadeUp>, set: &Set) -> Verdict {
 }
 
 // The rows after these Sets of row 5, which are all accepted.
-fn rows_after(rt: &impl Abort, before: &[Columns]) -> Controls<MadeUp> {
+fn rows_after(rt: &impl Abort, before: &[Row5]) -> Controls<MadeUp> {
     let mut rows = Controls::new(StatusKind::EntryStatus);
     for first in before {
         assert_eq!(rt; apply(&mut rows, &set_of_row_5(first)), FINE, "{first:?}");

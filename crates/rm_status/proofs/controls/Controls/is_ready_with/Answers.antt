@@ -1,18 +1,28 @@
-use Rattle.std.proofs.Common.{◌≡◌, Some, ap, ◌∙◌, ◌∷◌, []}
-use Rattle.std.specs.Option.{option_or, option_and_then}
+use Rattle.std.proofs.Common.{ℕ, Option, None, ap, ◌∙◌, ◌∷◌, []}
+use Rattle.std.specs.Option.{option_or}
+use Rattle.rm_val.specs.Val.{Val}
 use Rattle.rm_model.specs.Journal.{value_given}
 use Rattle.rm_model.specs.ControlTable.{is_ready}
 use Rattle.rm_model.specs.ControlRows.{cell_name}
-use Rattle.rm_model.specs.Judgement.{of_columns}
-use Rattle.rm_status.specs.Rows.{columns_in}
-use Rattle.rm_status.proofs.Puts.{all_fine, ready_is}
+use Rattle.rm_model.specs.Judgement.{of_columns, set_before}
+use Rattle.rm_model.proofs.Alike.{ready_alike}
+use Rattle.rm_status.specs.Rows.{rows_before}
+use Rattle.rm_status.proofs.Puts.{same_ready, set_held, set_not_held}
 use Rattle.rm_status.proofs.controls.Controls.is_ready_with.Goals as goal
 
-pub returns-in-Some : goal.returns-in-Some
-returns-in-Some g c = λ _.
+pub returns-in-None : goal.returns-in-None
+returns-in-None g c =
     let C = g.C.Columns in
-    let bs = g.A.Assigns.bindings c.args.set.now in
-    let here : Some c.in-Some.columns.now ≡ columns_in c.args.self.now c.args.row = c.in-Some.ensures in
-    c.is_ready.ensures ∙ ap (λ x. is_ready C.table (of_columns C.table (C.set_to x))) c.put_all.ensures
-    ∙ ready_is C.table C.with_column C.blank_row C.set_to g.met.C.Columns.set_with g.met.C.Columns.sound bs c.args.row c.bare-with.result c.in-Some.columns.now (all_fine C.table bs c.requires.fine) c.bare-with.ensures
-    ∙ ap (λ o. is_ready C.table (of_columns C.table (λ column. option_or (value_given bs (cell_name C.table.entry column (c.args.row ∷ []))) (option_and_then (λ x. C.set_to x column) o)))) here
+    let given : ℕ → Option Val = λ column. value_given (g.A.Assigns.bindings c.args.set.now) (cell_name C.table.entry column (c.args.row ∷ [])) in
+    let rows = c.args.self.now in
+    c.is_ready_after.ensures ∙ ap (λ x. is_ready C.table (of_columns C.table (λ column. option_or (given column) (C.set_to x column)))) c.blank.ensures
+    ∙ ready_alike C.table (C.set_to C.blank_row) (λ column. None) given g.met.C.Columns.blank_alike
+    ∙ same_ready C.table given (λ column. None) (set_before (rows_before C.set_to rows) (c.args.row ∷ [])) (set_not_held C.set_to rows c.args.row c.in-None.ensures.value)
+
+pub returns-in-Some : goal.returns-in-Some
+returns-in-Some g c =
+    let C = g.C.Columns in
+    let given : ℕ → Option Val = λ column. value_given (g.A.Assigns.bindings c.args.set.now) (cell_name C.table.entry column (c.args.row ∷ [])) in
+    let rows = c.args.self.now in
+    c.is_ready_after-in-Some.ensures ∙ same_ready C.table given (C.set_to c.bare.result) (C.set_to c.in-Some.found.now.columns) c.bare.ensures
+    ∙ same_ready C.table given (C.set_to c.in-Some.found.now.columns) (set_before (rows_before C.set_to rows) (c.args.row ∷ [])) (set_held C.set_to rows c.args.row c.len.ensures.rows c.in-Some.found.now c.in-Some.ensures.value)
