@@ -1,14 +1,13 @@
 -- How repetitions come into a draft.
-use Rattle.std.proofs.Common.{◌≡◌, ◌≤◌, ℕ, suc, true, false, List, [], ◌∷◌, ◌++◌, length, Some, None, inl, inr, refl, sym, ap, subst, ◌∙◌, true≢false, arith, append_assoc}
+use Rattle.std.proofs.Common.{◌≡◌, ◌≤◌, ℕ, suc, Bool, true, false, List, [], ◌∷◌, ◌++◌, length, Some, None, inl, inr, refl, sym, ap, subst, ◌∙◌, true≢false, arith, append_assoc}
 use Rattle.std.proofs.lemmas.List.{append-nil}
 use Rattle.rm_model.specs.Cells.{Cells}
 use Rattle.rm_model.proofs.Next.{next_same}
 use Rattle.rm_pdu.specs.Message.{Binding, Message, message_octets}
 use Rattle.rm_pdu.specs.Draft.{Drafted, binding_of}
-use Rattle.rm_reply.specs.declared.answers.Answers.{Answers}
 use Rattle.rm_reply.specs.Answered.{IsNextBinding, AreFirst, are_end}
 use Rattle.rm_reply.specs.Replies.{names_of, carrying, size_with, IsFront, AreRepetitions}
-use Rattle.rm_reply.specs.Drafting.{IsDrafted, Puts, Stops, PutsLongest}
+use Rattle.rm_reply.specs.Drafting.{IsDrafted, PutsNext, Stops, PutsLongest}
 
 -- more bindings make a message longer
 abbrev pub Lengthens : Type 0
@@ -85,18 +84,19 @@ abbrev pub Goes : (List ℕ → Binding → Type 0) → ℕ → List Binding →
 Goes IsOne left answers rest = (are_end answers ≡ true → rest ≡ []) × (are_end answers ≡ false → AreRepetitions IsOne left (names_of answers) rest)
 
 -- one repetition more
-pub repeat_more : (IsOne : List ℕ → Binding → Type 0) (most : ℕ) (names : List (List ℕ)) (m : Message) (list : List Binding) (now left : ℕ) (last : List (List ℕ)) (answered : Answers) (draft new : Drafted)
-    → now ≡ suc left → (before : Repeats IsOne most names m list now last draft) → Puts IsOne last m (list ++ before.answers) answered new → answered.is_end ≡ false
-    → Repeats IsOne most names m list left answered.names new
-repeat_more IsOne most names m list now left last answered draft new count before puts goes_on =
-    let end : are_end puts.answers ≡ false = sym puts.answered_end ∙ goes_on in
+pub repeat_more : (IsOne : List ℕ → Binding → Type 0) (most : ℕ) (names : List (List ℕ)) (m : Message) (list : List Binding) (now left : ℕ) (last : List (List ℕ)) (next_names : List (List ℕ)) (is_end : Bool) (draft new : Drafted)
+    → now ≡ suc left → (before : Repeats IsOne most names m list now last draft) → PutsNext IsOne last m (list ++ before.answers) next_names is_end new → is_end ≡ false
+    → Repeats IsOne most names m list left next_names new
+repeat_more IsOne most names m list now left last next_names is_end draft new count before puts_next goes_on =
+    let puts = puts_next.puts in
+    let end : are_end puts.answers ≡ false = sym puts_next.end ∙ goes_on in
     let whole = λ (rest : List Binding). append_assoc before.answers puts.answers rest in
     record {
       answers = before.answers ++ puts.answers;
       is_drafted = subst (λ (bs : List Binding). IsDrafted m bs new) (append_assoc list before.answers puts.answers) puts.is_drafted;
       on = λ rest are.
           let next : Goes IsOne left puts.answers rest =
-          (λ ends. absurd (true≢false (sym ends ∙ end)), λ _. subst (λ (ns : List (List ℕ)). AreRepetitions IsOne left ns rest) puts.answered_names are) in
+          (λ ends. absurd (true≢false (sym ends ∙ end)), λ _. subst (λ (ns : List (List ℕ)). AreRepetitions IsOne left ns rest) puts_next.next_names are) in
           let front : AreRepetitions IsOne (suc left) last (puts.answers ++ rest) = front_on IsOne last (Goes IsOne left) puts.answers rest puts.are.first puts.are.all next in
           subst (λ (bs : List Binding). AreRepetitions IsOne most names bs) (sym (whole rest))
           (before.on (puts.answers ++ rest) (subst (λ (n : ℕ). AreRepetitions IsOne n last (puts.answers ++ rest)) (sym count) front));
@@ -105,15 +105,16 @@ repeat_more IsOne most names m list now left last answered draft new count befor
           subst (λ (n : ℕ). AreRepetitions IsOne n last (puts.answers ++ rest)) count
           (before.back (puts.answers ++ rest) (subst (λ (bs : List Binding). AreRepetitions IsOne most names bs) (whole rest) are)) in
           let next : Goes IsOne left puts.answers rest = front_back IsOne last (Goes IsOne left) puts.answers rest puts.are.all front in
-          subst (λ (ns : List (List ℕ)). AreRepetitions IsOne left ns rest) (sym puts.answered_names) (next.1 end);
+          subst (λ (ns : List (List ℕ)). AreRepetitions IsOne left ns rest) (sym puts_next.next_names) (next.1 end);
     }
 
 -- a repetition that is wholly endOfMibView is the last
-pub repeat_ends : (IsOne : List ℕ → Binding → Type 0) (most : ℕ) (names : List (List ℕ)) (m : Message) (list : List Binding) (now left : ℕ) (last : List (List ℕ)) (answered : Answers) (draft new : Drafted)
-    → now ≡ suc left → (before : Repeats IsOne most names m list now last draft) → Puts IsOne last m (list ++ before.answers) answered new → answered.is_end ≡ true
+pub repeat_ends : (IsOne : List ℕ → Binding → Type 0) (most : ℕ) (names : List (List ℕ)) (m : Message) (list : List Binding) (now left : ℕ) (last : List (List ℕ)) (next_names : List (List ℕ)) (is_end : Bool) (draft new : Drafted)
+    → now ≡ suc left → (before : Repeats IsOne most names m list now last draft) → PutsNext IsOne last m (list ++ before.answers) next_names is_end new → is_end ≡ true
     → PutsLongest (AreRepetitions IsOne most names) m list new
-repeat_ends IsOne most names m list now left last answered draft new count before puts ended =
-    let end : are_end puts.answers ≡ true = sym puts.answered_end ∙ ended in
+repeat_ends IsOne most names m list now left last next_names is_end draft new count before puts_next ended =
+    let puts = puts_next.puts in
+    let end : are_end puts.answers ≡ true = sym puts_next.end ∙ ended in
     let next : Goes IsOne left puts.answers [] = (λ _. refl, λ no_end. absurd (true≢false (sym end ∙ no_end))) in
     let front : AreRepetitions IsOne (suc left) last (puts.answers ++ []) = front_on IsOne last (Goes IsOne left) puts.answers [] puts.are.first puts.are.all next in
     record {

@@ -1,15 +1,31 @@
 -- How drafts are replies.
-use Rattle.std.proofs.Common.{◌≡◌, ◌≤◌, ℕ, List, [], ◌++◌, take, drop, refl, subst, append_assoc}
+use Rattle.std.proofs.Common.{◌≡◌, ◌≤◌, ℕ, List, [], ◌∷◌, ◌++◌, take, drop, length, inl, inr, refl, subst, append_assoc}
 use Rattle.rm_pdu.specs.Message.{Binding, Message}
 use Rattle.rm_pdu.specs.Draft.{Drafted, drafted}
-use Rattle.rm_reply.specs.declared.answers.Answers.{Answers}
-use Rattle.rm_reply.specs.Replies.{names_of, carrying, size_with, IsFront, AreRepetitions, counting, non_repeaters, IsLongest, IsBulkReply}
+use Rattle.rm_reply.specs.Answered.{AreFirst, AreAnswers}
+use Rattle.rm_reply.specs.Replies.{names_of, carrying, too_big, size_with, IsWholeReply, IsFront, AreRepetitions, counting, non_repeaters, IsLongest, IsBulkReply}
 use Rattle.rm_reply.specs.Drafting.{IsDrafted, Puts, Stops, PutsLongest, DraftsOne}
+use Rattle.rm_reply.proofs.NameLemmas.{all_names}
 use Rattle.rm_reply.proofs.BulkLemmas.{HasOne, Lengthens, front_on, front_back, front_first, stops_longest}
 
 -- the response with no bindings yet
 pub begun : (m : Message) (draft : Drafted) → draft ≡ drafted (carrying m []) → size_with m [] ≤ 1472 → IsDrafted m [] draft
 begun m draft is short = record { is = is; short = short }
+
+-- the answers to all names fit
+pub whole_fits : (IsOne : List ℕ → Binding → Type 0) (m : Message) (count : ℕ) (draft : Drafted) → count ≡ length m.bindings → Puts IsOne (take count (names_of m.bindings)) m [] draft
+    → DraftsOne (IsWholeReply IsOne m) draft
+whole_fits IsOne m count draft all puts =
+    let are = subst (λ (ns : List (List ℕ)). AreAnswers IsOne ns puts.answers) (all_names m.bindings count all) puts.are in
+    (carrying m puts.answers, inl (puts.answers, are, puts.is_drafted.short, refl), puts.is_drafted.is)
+
+-- they don't
+pub whole_stops : (IsOne : List ℕ → Binding → Type 0) (m : Message) (count : ℕ) (draft new : Drafted) → count ≡ length m.bindings → Stops IsOne (take count (names_of m.bindings)) m [] draft
+    → new ≡ drafted (too_big m) → DraftsOne (IsWholeReply IsOne m) new
+whole_stops IsOne m count draft new all stops is =
+    let some = stops.answers ++ stops.next ∷ [] in
+    let first = subst (λ (ns : List (List ℕ)). AreFirst IsOne ns some) (all_names m.bindings count all) stops.first in
+    (too_big m, inr (some, first, stops.long, refl), is)
 
 -- a front of a list of which some names are repeated
 abbrev pub Front : (List ℕ → Binding → Type 0) → List (List ℕ) → List (List ℕ) → ℕ → List Binding → Type 0
@@ -39,10 +55,10 @@ bulk_stops IsOne one lengthen names m draft first stops =
     }) stops.is_drafted.is
 
 -- they fit, and repetitions came behind them
-pub bulk_repeats : (IsOne : List ℕ → Binding → Type 0) (names repeated : List (List ℕ)) (most : ℕ) (m : Message) (answered : Answers) (draft new : Drafted) → names ≡ take (non_repeaters m) (names_of m.bindings)
-    → repeated ≡ drop (non_repeaters m) (names_of m.bindings) → most ≡ counting m.second → (puts : Puts IsOne names m [] answered draft)
+pub bulk_repeats : (IsOne : List ℕ → Binding → Type 0) (names repeated : List (List ℕ)) (most : ℕ) (m : Message) (draft new : Drafted) → names ≡ take (non_repeaters m) (names_of m.bindings)
+    → repeated ≡ drop (non_repeaters m) (names_of m.bindings) → most ≡ counting m.second → (puts : Puts IsOne names m [] draft)
     → PutsLongest (AreRepetitions IsOne most repeated) m puts.answers new → DraftsOne (IsBulkReply IsOne m) new
-bulk_repeats IsOne names repeated most m answered draft new first others times puts repeats =
+bulk_repeats IsOne names repeated most m draft new first others times puts repeats =
     let Follows : List Binding → List Binding → Type 0 = λ answers rest. AreRepetitions IsOne most repeated rest in
     bulk_of IsOne names repeated most m (puts.answers ++ repeats.added) new first others times
     (record {

@@ -11,7 +11,6 @@ use Rattle.rm_reply.specs.declared.found.Found.{Found}
 use Rattle.rm_reply.specs.declared.found.Lookup.{Lookup}
 use Rattle.rm_reply.specs.declared.found.Lookup.TheVariants.{Exact, Above}
 use Rattle.rm_reply.specs.declared.request.Request.{Request}
-use Rattle.rm_reply.specs.declared.answers.Answers.{Answers}
 use Rattle.rm_reply.specs.Answered.{IsGetBinding, IsNextBinding, AreFirst, AreAnswers, are_end}
 use Rattle.rm_reply.specs.Replies.{names_of, carrying, size_with}
 
@@ -41,12 +40,16 @@ pub record IsDrafted (m : Message) (list : List Binding) (draft : Drafted) : Typ
   pub short : size_with m list ≤ 1472
 
 -- the answers to all names came behind the bindings of a draft
-pub record Puts (IsOne : List ℕ → Binding → Type 0) (names : List (List ℕ)) (m : Message) (list : List Binding) (answered : Answers) (draft : Drafted) : Type 0 where
+pub record Puts (IsOne : List ℕ → Binding → Type 0) (names : List (List ℕ)) (m : Message) (list : List Binding) (draft : Drafted) : Type 0 where
   pub answers : List Binding
   pub are : AreAnswers IsOne names answers
   pub is_drafted : IsDrafted m (list ++ answers) draft
-  pub answered_names : answered.names ≡ names_of answers
-  pub answered_end : answered.is_end ≡ are_end answers
+
+-- the same, with the names of the answers, and whether they are wholly endOfMibView
+pub record PutsNext (IsOne : List ℕ → Binding → Type 0) (names : List (List ℕ)) (m : Message) (list : List Binding) (next : List (List ℕ)) (is_end : Bool) (draft : Drafted) : Type 0 where
+  pub puts : Puts IsOne names m list draft
+  pub next_names : next ≡ names_of puts.answers
+  pub end : is_end ≡ are_end puts.answers
 
 -- the answers to the first names came behind the bindings of a draft, and one more would be too much
 pub record Stops (IsOne : List ℕ → Binding → Type 0) (names : List (List ℕ)) (m : Message) (list : List Binding) (draft : Drafted) : Type 0 where

@@ -2,11 +2,12 @@
 //! whole SetRequest. No group is named here.
 #![tactic(auto)]
 
-mod answers;
+mod asked;
 mod found;
 mod given;
 mod laws;
 mod names;
+mod repetition;
 mod reply;
 mod request;
 mod responses;

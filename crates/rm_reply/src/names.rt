@@ -1,5 +1,5 @@
 // Lists of names.
-ghost use Rattle.std.specs.Prelude.{◌≡◌, ◌<◌, ◌≤◌, [], ◌∷◌, ◌++◌, length, Some, slice_get};
+ghost use Rattle.std.specs.Prelude.{◌≡◌, ◌<◌, ◌≤◌, [], ◌∷◌, ◌++◌, length, Some, slice_get, slice_set};
 
 use arrayvec::ArrayVec;
 use rm_val::Oid;
@@ -59,6 +59,14 @@ impl Names {
         ensures { slice_get self.now place ≡ Some result.now }
     {
         &self.items[place].name
+    }
+
+    /// Puts a name in the place of another, counted from 0.
+    pub fn set(&mut self, place: usize, name: Oid)
+        requires { place < length self.old }
+        ensures { self.new ≡ slice_set self.old place name }
+    {
+        self.items[place] = Asked { name };
     }
 
     /// Appends a name.

@@ -6,9 +6,10 @@ ghost use Rattle.rm_reply.specs.Answered.{IsNextBinding};
 ghost use Rattle.rm_reply.specs.Replies.{IsWholeReply, IsBulkReply, AreRepetitions, IsReply, is_built};
 ghost use Rattle.rm_reply.specs.Drafting.{OfCells, IsFound, IsAsked, IsDrafted, DraftsOne, PutsLongest};
 
-use crate::answers::Answers;
+use crate::asked::put_asked;
 use crate::found::Lookup;
 use crate::names::Names;
+use crate::repetition::put_repetition;
 use crate::request::Request;
 use rm_group::{Group, Objects};
 use rm_pdu::{Draft, Kind, bindings_lengthen};
@@ -42,9 +43,8 @@ fn whole<G: Group + Objects>(groups: &G, lookup: Lookup, request: &Request<'_>, 
         → DraftsOne (IsWholeReply (IsFound cells G.objects lookup) m) result) }
 {
     let mut draft = request.begin(ErrorStatus::NoError, 0);
-    let names = request.names(0, request.count());
-    match Answers::put(groups, lookup, &names, now, &mut draft) {
-        Ok(_) => draft,
+    match put_asked(groups, lookup, request, request.count(), now, &mut draft) {
+        Ok(()) => draft,
         Err(_) => request.begin(ErrorStatus::TooBig, 0),
     }
 }
@@ -58,31 +58,28 @@ fn bulk<G: Group + Objects>(groups: &G, request: &Request<'_>, now: u32) -> Draf
     bindings_lengthen();
     let mut draft = request.begin(ErrorStatus::NoError, 0);
     let fixed = request.non_repeaters();
-    let names = request.names(0, fixed);
-    let Ok(_) = Answers::put(groups, Lookup::Above, &names, now, &mut draft) else {
+    let Ok(()) = put_asked(groups, Lookup::Above, request, fixed, now, &mut draft) else {
         return draft;
     };
-    let repeated = request.names(fixed, request.count());
-    repeat(groups, repeated, request.repetitions(), now, &mut draft);
+    let mut names = request.names(fixed, request.count());
+    repeat(groups, &mut names, request.repetitions(), now, &mut draft);
     draft
 }
 
-// Puts repetitions behind the bindings of a draft, as many as are asked for and fit. The last one is wholly
+// Puts repetitions for names behind the bindings of a draft, as many as are asked for and fit. The last one is wholly
 // endOfMibView if any is.
-fn repeat<G: Group + Objects>(groups: &G, names: Names, most: u32, now: u32, draft: &mut Draft)
-    requires { All IsSpellable names }
+fn repeat<G: Group + Objects>(groups: &G, names: &mut Names, most: u32, now: u32, draft: &mut Draft)
+    requires { All IsSpellable names.old }
     ensures { OfCells (G.stands groups.now) (G.askable groups.now) G.cells now (λ cells. (m : Message) (list : List Binding) → IsDrafted m list draft.old
-        → PutsLongest (AreRepetitions (IsNextBinding cells) most names) m list draft.new) }
+        → PutsLongest (AreRepetitions (IsNextBinding cells) most names.old) m list draft.new) }
 {
     bindings_lengthen();
-    let mut last = names;
     for _ in 0..most {
-        let Ok(answered) = Answers::put(groups, Lookup::Above, &last, now, draft) else {
+        let Ok(is_end) = put_repetition(groups, names, now, draft) else {
             return;
         };
-        if answered.is_end {
+        if is_end {
             return;
         }
-        last = answered.names;
     }
 }

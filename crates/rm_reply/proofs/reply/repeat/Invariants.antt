@@ -9,5 +9,5 @@ use Rattle.rm_reply.proofs.reply.repeat.Given as goal
 abbrev pub invariant-loop : goal.invariant-loop
 invariant-loop g l =
     OfCells (g.G.Group.stands l.groups) (g.G.Group.askable l.groups) g.G.Group.cells l.now
-    (λ cells. (m : Message) (list : List Binding) → IsDrafted m list l.fn.draft → Repeats (IsNextBinding cells) l.most l.fn.names m list (l.most - l.counter) l.last l.draft)
-    × All IsSpellable l.last
+    (λ cells. (m : Message) (list : List Binding) → IsDrafted m list l.fn.draft → Repeats (IsNextBinding cells) l.most l.fn.names m list (l.most - l.counter) l.names l.draft)
+    × All IsSpellable l.names
