@@ -4,6 +4,7 @@ use Rattle.std.specs.Prelude.{pos, replicate}
 use Rattle.rm_val.specs.Val.{name}
 use Rattle.rm_model.specs.Journal.{Act, assigns, samples, Journal}
 use Rattle.rm_model.specs.ControlRows.{cell_name}
+use Rattle.rm_model.proofs.ExampleSettings.{plain}
 use Rattle.rm_acts.specs.Alarms.{alarm_entry, alarm_value, base_of}
 use Rattle.rm_acts.specs.Events.{event_entry}
 use Rattle.rm_acts.specs.Channels.{channel_entry}
@@ -59,10 +60,10 @@ fires_event_1 = refl
 turned_on : present data_control (rises ∷ lower_at_3000) (fired settings (rises ∷ lower_at_3000)) 1 ≡ 1
 turned_on = refl
 
-read_off : readings_after sampleable false lower_at_3000 3000 switch_1 ≡ Some (record { value = pos 2; counter = false })
+read_off : readings_after sampleable plain lower_at_3000 3000 switch_1 ≡ Some (record { value = pos 2; counter = false })
 read_off = refl
 
-read_on : readings_after sampleable false (rises ∷ lower_at_3000) 3000 switch_1 ≡ Some (record { value = pos 1; counter = false })
+read_on : readings_after sampleable plain (rises ∷ lower_at_3000) 3000 switch_1 ≡ Some (record { value = pos 1; counter = false })
 read_on = refl
 
 -- an alarm on channelDataControl.1 that becomes valid right after that sample has 1 as its base

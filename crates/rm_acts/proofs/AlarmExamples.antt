@@ -6,6 +6,7 @@ use Rattle.rm_val.specs.Val.{Val, int, name}
 use Rattle.rm_model.specs.Settings.{Settings}
 use Rattle.rm_model.specs.Journal.{Act, Assignment, assigns, samples, Journal}
 use Rattle.rm_model.specs.ControlRows.{cell_name}
+use Rattle.rm_model.proofs.ExampleSettings.{plain}
 use Rattle.rm_acts.specs.Alarms.{alarm_entry, alarm_state, base_of, difference, sample_values, alarm_value, saturated, sampled, due_of}
 use Rattle.rm_model.specs.declared.row.State.TheVariants.{Absent, UnderCreation}
 use Rattle.rm_acts.specs.declared.sampled.Sampled.TheVariants.{Quiet, Gone, Rising, Falling}
@@ -16,8 +17,7 @@ pkts = 1 ∷ 3 ∷ 6 ∷ 1 ∷ 2 ∷ 1 ∷ 16 ∷ 1 ∷ 1 ∷ 1 ∷ 5 ∷ 1 ∷ 
 
 -- it reads 4294967290, a Counter32, after every journal and at every moment; nothing else can be read
 abbrev settings : Settings
-settings = record {
-  keep_short = false;
+settings = record plain {
   readings = λ journal now variable. if bytes_eq variable pkts then Some (record { value = pos 4294967290; counter = true }) else None;
 }
 

@@ -1,5 +1,5 @@
 -- Acts from which examples are made.
-use Rattle.std.proofs.Common.{ℕ, List, [], ◌∷◌, false, Some, None}
+use Rattle.std.proofs.Common.{ℕ, List, [], ◌∷◌, Some, None}
 use Rattle.std.specs.Prelude.{pos, length, replicate, if◌then◌else◌}
 use Rattle.std.specs.Option.{option_or}
 use Rattle.std.specs.Str.{bytes_eq}
@@ -8,6 +8,7 @@ use Rattle.rm_model.specs.Settings.{Settings}
 use Rattle.rm_model.specs.Journal.{Act, Assignment, passes, Journal, frames_in}
 use Rattle.rm_model.specs.Cells.{Cells, cells_of}
 use Rattle.rm_model.specs.ControlRows.{cell_name}
+use Rattle.rm_model.proofs.ExampleSettings.{plain}
 use Rattle.rm_acts.specs.Alarms.{alarm_entry}
 use Rattle.rm_acts.specs.Recurring.{Sampleable, sampling}
 use Rattle.rm_acts.specs.Shown.{channels_shown, buffers_shown}
@@ -25,7 +26,7 @@ sampleable settings journal now variable =
     (option_or (cells_of (channels_shown settings journal) variable) (cells_of (buffers_shown settings journal) variable))
 
 abbrev pub settings : Settings
-settings = sampling sampleable false
+settings = sampling sampleable plain
 
 -- what a Set gives to a column of a row
 abbrev pub given : List ℕ → (row column : ℕ) → Val → Assignment

@@ -1,16 +1,17 @@
 -- That what alarms read by recursion is what the cells read, and that nothing else is.
-use Rattle.std.proofs.Common.{◌≡◌, ℕ, ◌≤◌, List, [], ◌∷◌, length, Bool, true, false, refl, sym, ap, ◌∙◌, nat_eq, arith}
+use Rattle.std.proofs.Common.{◌≡◌, ℕ, ◌≤◌, List, [], ◌∷◌, length, true, false, refl, sym, ap, ◌∙◌, nat_eq, arith}
 use Rattle.std.proofs.lemmas.Bool.Decides.{nat_tests}
+use Rattle.rm_model.specs.Settings.{Settings}
 use Rattle.rm_model.specs.Journal.{Act, Journal}
 use Rattle.rm_model.specs.Readings.{Readings}
 use Rattle.rm_acts.specs.Recurring.{Sampleable, reading_of, read, with_readings, readings_before, readings_after, sampling, ReadAlikeBefore, ReadBefore}
 
-module _ (cells : Sampleable) (keep_short : Bool) (only_before : ReadBefore cells) where
+module _ (cells : Sampleable) (settings : Settings) (only_before : ReadBefore cells) where
   abbrev before : Journal → (Journal → ℕ → Readings)
-  before = readings_before cells keep_short
+  before = readings_before cells settings
 
   abbrev after : Journal → ℕ → Readings
-  after = readings_after cells keep_short
+  after = readings_after cells settings
 
   -- one act more makes no difference to what is read after a journal that is earlier still
   longer : (act : Act) (earlier journal : Journal) → length journal ≤ length earlier
@@ -30,15 +31,15 @@ module _ (cells : Sampleable) (keep_short : Bool) (only_before : ReadBefore cell
 
   -- what is read after a journal is what the cells read by it
   pub reads_cells : (journal : Journal) (now : ℕ) (name : List ℕ)
-      → after journal now name ≡ read (cells (sampling cells keep_short) journal now) name
-  reads_cells journal now name = ap reading_of (only_before keep_short (before journal) after journal (alike_before journal) now name)
+      → after journal now name ≡ read (cells (sampling cells settings) journal now) name
+  reads_cells journal now name = ap reading_of (only_before settings (before journal) after journal (alike_before journal) now name)
 
   module _ (readings : Journal → ℕ → Readings)
-      (reads : (journal : Journal) (now : ℕ) (name : List ℕ) → readings journal now name ≡ read (cells (with_readings keep_short readings) journal now) name) where
+      (reads : (journal : Journal) (now : ℕ) (name : List ℕ) → readings journal now name ≡ read (cells (with_readings settings readings) journal now) name) where
     at : (journal : Journal) → ReadAlikeBefore readings after journal → (now : ℕ) (name : List ℕ)
         → readings journal now name ≡ after journal now name
     at journal earlier now name =
-        reads journal now name ∙ (ap reading_of (only_before keep_short readings after journal earlier now name) ∙ sym (reads_cells journal now name))
+        reads journal now name ∙ (ap reading_of (only_before settings readings after journal earlier now name) ∙ sym (reads_cells journal now name))
 
     alike : (journal : Journal) → ReadAlikeBefore readings after journal
     alike [] = tt

@@ -15,12 +15,12 @@ use Rattle.rm_acts.specs.Recurring.{Sampleable, with_readings, ReadAlikeBefore, 
 use Rattle.rm_acts.specs.Shown.{row_of, channels_shown, buffers_shown, channel_shown, buffer_shown}
 use Rattle.rm_model.specs.declared.instance.Instance.{Instance}
 
-module _ (keep_short : Bool) (one other : Journal → ℕ → Readings) where
+module _ (settings : Settings) (one other : Journal → ℕ → Readings) where
   abbrev left : Settings
-  left = with_readings keep_short one
+  left = with_readings settings one
 
   abbrev right : Settings
-  right = with_readings keep_short other
+  right = with_readings settings other
 
   same_base : (journal : Journal) (alarm : ℕ) → ReadAlikeBefore one other journal → base_of left journal alarm ≡ base_of right journal alarm
   same_base [] alarm alike = refl
@@ -80,14 +80,14 @@ module _ (keep_short : Bool) (one other : Journal → ℕ → Readings) where
 
 -- the cells of each of the two tables do, and so do those of two groups of which each does
 pub channels_before : ReadBefore (λ settings journal now. cells_of (channels_shown settings journal))
-channels_before keep_short one other journal alike now variable =
-    same_channels_at keep_short one other journal (instance_of (channels_shown (left keep_short one other) journal).entry (channels_shown (left keep_short one other) journal).columns variable) alike
+channels_before settings one other journal alike now variable =
+    same_channels_at settings one other journal (instance_of (channels_shown (left settings one other) journal).entry (channels_shown (left settings one other) journal).columns variable) alike
 
 pub buffers_before : ReadBefore (λ settings journal now. cells_of (buffers_shown settings journal))
-buffers_before keep_short one other journal alike now variable =
-    same_buffers_at keep_short one other journal (instance_of (buffers_shown (left keep_short one other) journal).entry (buffers_shown (left keep_short one other) journal).columns variable) alike
+buffers_before settings one other journal alike now variable =
+    same_buffers_at settings one other journal (instance_of (buffers_shown (left settings one other) journal).entry (buffers_shown (left settings one other) journal).columns variable) alike
 
 pub both_before : (first second : Sampleable) → ReadBefore first → ReadBefore second
     → ReadBefore (λ settings journal now variable. option_or (first settings journal now variable) (second settings journal now variable))
-both_before first second are also keep_short one other journal alike now variable =
-    rw (are keep_short one other journal alike now variable, also keep_short one other journal alike now variable) refl
+both_before first second are also settings one other journal alike now variable =
+    rw (are settings one other journal alike now variable, also settings one other journal alike now variable) refl

@@ -7,6 +7,7 @@ use Rattle.rm_model.specs.Journal.{Frame, Journal}
 use Rattle.rm_model.specs.ControlTable.{Column, ControlTable, number, text}
 use Rattle.rm_model.specs.ControlRows.{no_rows}
 use Rattle.rm_model.specs.Indexes.{indexes_of}
+use Rattle.rm_model.specs.declared.interface.TheConstants.{INTERFACES}
 use Rattle.rm_acts.specs.Alarms.{up_from}
 use Rattle.rm_model.specs.declared.row.StatusKind.TheVariants.{EntryStatus}
 use Rattle.rm_acts.specs.Rows.{number_in, valid_rows}
@@ -28,7 +29,7 @@ channel_table = record {
   status = 12;
   status_kind = EntryStatus;
   columns =
-      record { number = 2; kind = number (up_from 1 1); always = false; needed = false; default = int (pos 1) }
+      record { number = 2; kind = number (up_from 1 INTERFACES); always = false; needed = false; default = int (pos 1) }
       ∷ record { number = 3; kind = number (up_from 1 2); always = false; needed = false; default = int (pos 1) }
       ∷ record { number = 4; kind = number (up_from 1 2); always = true; needed = false; default = int (pos 2) }
       ∷ event_column 5 ∷ event_column 6 ∷ event_column 7

@@ -1,5 +1,5 @@
 -- What variables read, by recursion on the journal: what depends on readings asks for those after earlier acts only.
-use Rattle.std.specs.Prelude.{◌≡◌, ℕ, pos, List, [], ◌∷◌, length, Bool, true, false, nat_eq, if◌then◌else◌, Option, Some, None}
+use Rattle.std.specs.Prelude.{◌≡◌, ℕ, pos, List, [], ◌∷◌, length, true, false, nat_eq, if◌then◌else◌, Option, Some, None}
 use Rattle.std.specs.Option.{option_and_then}
 use Rattle.rm_val.specs.Val.{Val, int, counter, gauge, ticks}
 use Rattle.rm_model.specs.Settings.{Settings}
@@ -27,27 +27,27 @@ Sampleable = Settings → Journal → ℕ → Cells
 abbrev pub read : Cells → Readings
 read cells variable = reading_of (cells variable)
 
--- the settings of a probe with these readings
-abbrev pub with_readings : Bool → (Journal → ℕ → Readings) → Settings
-with_readings keep_short readings = record { keep_short = keep_short; readings = readings }
+-- settings with these readings in place of theirs
+abbrev pub with_readings : Settings → (Journal → ℕ → Readings) → Settings
+with_readings settings readings = record settings { readings = readings }
 
 -- What the cells read after each journal that is earlier than one: after the one that is an act shorter, they are the cells
 -- by what they read after those that are earlier still.
-abbrev pub readings_before : Sampleable → (keep_short : Bool) → Journal → (Journal → ℕ → Readings)
-readings_before cells keep_short [] = λ asked now. nothing_read
-readings_before cells keep_short (act ∷ earlier) =
+abbrev pub readings_before : Sampleable → Settings → Journal → (Journal → ℕ → Readings)
+readings_before cells settings [] = λ asked now. nothing_read
+readings_before cells settings (act ∷ earlier) =
     λ asked now. if nat_eq (length asked) (length earlier)
-    then read (cells (with_readings keep_short (readings_before cells keep_short earlier)) earlier now)
-    else readings_before cells keep_short earlier asked now
+    then read (cells (with_readings settings (readings_before cells settings earlier)) earlier now)
+    else readings_before cells settings earlier asked now
 
 -- what they read after a journal
-abbrev pub readings_after : Sampleable → (keep_short : Bool) → Journal → ℕ → Readings
-readings_after cells keep_short journal now =
-    read (cells (with_readings keep_short (readings_before cells keep_short journal)) journal now)
+abbrev pub readings_after : Sampleable → Settings → Journal → ℕ → Readings
+readings_after cells settings journal now =
+    read (cells (with_readings settings (readings_before cells settings journal)) journal now)
 
--- the settings of a probe whose alarms sample these cells
-abbrev pub sampling : Sampleable → (keep_short : Bool) → Settings
-sampling cells keep_short = with_readings keep_short (readings_after cells keep_short)
+-- the settings of a probe whose alarms sample these cells, with all else as it is set
+abbrev pub sampling : Sampleable → Settings → Settings
+sampling cells settings = with_readings settings (readings_after cells settings)
 
 -- readings that are the same after each journal that is earlier than one
 abbrev pub ReadAlikeBefore : (one other : Journal → ℕ → Readings) → Journal → Type 0
@@ -58,5 +58,5 @@ ReadAlikeBefore one other (act ∷ earlier) =
 -- cells depend on what is read after earlier acts only
 abbrev pub ReadBefore : Sampleable → Type 0
 ReadBefore cells =
-    (keep_short : Bool) (one other : Journal → ℕ → Readings) (journal : Journal) → ReadAlikeBefore one other journal
-    → (now : ℕ) (name : List ℕ) → cells (with_readings keep_short one) journal now name ≡ cells (with_readings keep_short other) journal now name
+    (settings : Settings) (one other : Journal → ℕ → Readings) (journal : Journal) → ReadAlikeBefore one other journal
+    → (now : ℕ) (name : List ℕ) → cells (with_readings settings one) journal now name ≡ cells (with_readings settings other) journal now name

@@ -6,6 +6,7 @@ use Rattle.std.specs.Option.{option_map}
 use Rattle.rm_val.specs.Val.{Val, int, name, octets}
 use Rattle.rm_model.specs.Settings.{Settings as Counting}
 use Rattle.rm_model.specs.Journal.{Assignment, Act, Journal, assigns, samples}
+use Rattle.rm_model.proofs.ExampleSettings.{plain}
 use Rattle.rm_acts.specs.Alarms.{alarm_entry}
 use Rattle.rm_model.specs.ControlRows.{cell_name}
 use Rattle.rm_event.specs.EventTable.{event_entry}
@@ -14,7 +15,7 @@ use Rattle.rm_pdu.specs.Message.{message_octets}
 use Rattle.rm_agent.specs.Notifications.{notification_of}
 
 abbrev at_first : Counting
-at_first = record { keep_short = false; readings = λ journal now variable. Some (record { value = pos 0; counter = false }) }
+at_first = record plain { readings = λ journal now variable. Some (record { value = pos 0; counter = false }) }
 
 abbrev of_event : ℕ → Val → Assignment
 of_event column value = record { name = cell_name event_entry column (1 ∷ []); value = value }

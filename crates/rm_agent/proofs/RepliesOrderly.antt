@@ -50,11 +50,11 @@ module _ (settings : Settings) (journal : Journal) (now : ℕ) (orderly : IsOrde
   together_fine : (bindings : Bindings) (k : ℕ) → together settings journal now bindings k ≡ None → second_pass alarm_table (rows_after alarm_table no_rows journal) bindings k ≡ None
   together_fine bindings k fine =
       let before : Beginning = rows_after alarm_table no_rows journal in
-      let sampling : option_or (option_or (second_pass ether_stats (rows_after ether_stats ether_beginning journal) bindings k) (second_pass history_control (rows_after history_control no_rows journal) bindings k))
+      let sampling : option_or (option_or (second_pass ether_stats (rows_after ether_stats (ether_beginning (counting_by settings)) journal) bindings k) (second_pass history_control (rows_after history_control no_rows journal) bindings k))
       (alarm_together ((counting_by settings).readings journal now) before bindings k) ≡ None =
       no_second (second_pass event_table (rows_after event_table no_rows journal) bindings k) _ fine in
       no_first (second_pass alarm_table before bindings k) (variable_fault ((counting_by settings).readings journal now) before bindings k)
-      (no_second (option_or (second_pass ether_stats (rows_after ether_stats ether_beginning journal) bindings k) (second_pass history_control (rows_after history_control no_rows journal) bindings k)) _ sampling)
+      (no_second (option_or (second_pass ether_stats (rows_after ether_stats (ether_beginning (counting_by settings)) journal) bindings k) (second_pass history_control (rows_after history_control no_rows journal) bindings k)) _ sampling)
 
   pub reply_orderly : (kind : Kind) (may_write : Bool) (request reply : Message) (after : Journal) → IsReplyBy (cells settings journal now) objects alone (together settings journal now) (Reserves journal) may_write now journal kind request reply after → IsOrderly after
   reply_orderly kind may_write =

@@ -158,7 +158,7 @@ ether = record {
   cells = λ settings journal now. cells_of (ether_table settings journal);
   objects = is_of_column ether_entry ether_columns;
   alone = ether_alone;
-  together = λ settings journal now. second_pass ether_stats (rows_after ether_stats ether_beginning journal);
+  together = λ settings journal now. second_pass ether_stats (rows_after ether_stats (ether_beginning settings) journal);
   reserves = λ journal bindings index. ⊥;
 }
 

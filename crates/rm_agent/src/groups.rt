@@ -1,5 +1,5 @@
 // The groups of objects that the agent answers for. Only here is it said how they stand in one another.
-ghost use Rattle.std.specs.Prelude.{◌≡◌, ℕ, ◌≤◌, ◌<◌, [], ◌∷◌, Bool, Some, IfOk};
+ghost use Rattle.std.specs.Prelude.{◌≡◌, ℕ, ◌≤◌, ◌<◌, [], ◌∷◌, Some, IfOk};
 ghost use Rattle.rm_model.specs.Settings.{Settings};
 ghost use Rattle.rm_model.specs.Journal.{Act, Journal, samples, moment_of, last_moment};
 ghost use Rattle.rm_acts.specs.Alarms.{due_of, IsNextDue, sampled};
@@ -26,10 +26,10 @@ pub(crate) type Groups = Both<System, Both<Events, Watched<Sources>>>;
 /// The groups whose variables alarms may sample.
 type Sources = Both<Ether, History>;
 
-/// The groups before the first act. They take the storage of one row of each table whose rows take storage while they are valid.
+/// The groups of a probe with one interface before the first act. They take the storage of one row of each table whose rows take storage while they are valid.
 /// NoMemory where there is none.
 pub(crate) fn all_groups(alloc: Global) -> Result<Groups, NoMemory>
-    ensures stands { IfOk result (λ groups. (keep_short : Bool) → GroupsStand groups (sampling watched_cells keep_short) []) }
+    ensures stands { IfOk result (λ groups. (settings : Settings) → settings.interfaces ≡ 1 → GroupsStand groups (sampling watched_cells settings) []) }
     ensures clock { IfOk result (λ groups. clock_of groups ≡ 0) }
     ensures frames { IfOk result (λ groups. frames_of groups ≡ 0) }
     ensures stocked { IfOk result (λ groups. AreStocked groups) }

@@ -25,7 +25,7 @@ pub fn one_crossing()
 
 /// A law: where alarms sample the variables of a group, what they read by recursion on the journal is what these read.
 pub fn reads_cells<G: Readable>()
-    ensures { (keep_short : Bool) → ReadsFrom G.sampleable (sampling G.sampleable keep_short) }
+    ensures { (settings : Settings) → ReadsFrom G.sampleable (sampling G.sampleable settings) }
 {}
 
 /// A law: a frame makes no difference to alarms. Who stands for a journal stands for it with a frame in front.

@@ -27,18 +27,18 @@ use Rattle.rm_status.proofs.RowFacts.{found_there}
 use Rattle.rm_ether.proofs.Steps.{state_is, source_is, owner_is}
 
 module _ (rows : List (Row StatisticsRow)) (held : AreControlRows rows) (settings : Settings) (journal : Journal)
-    (is : AreRowsAfter ether_stats ether_beginning set_to rows journal) (sums : AreCounted rows settings journal) where
+    (is : AreRowsAfter ether_stats (ether_beginning settings) set_to rows journal) (sums : AreCounted rows settings journal) where
   row_shows : (i : ℕ) (row : Row StatisticsRow) → row_in rows i ≡ Some row → (column : Column) → row_value i row.state row.columns column ≡ ether_value settings journal (i ∷ []) column
   row_shows i row here Index = refl
-  row_shows i row here DataSource = source_is rows journal is i row here (found_there rows i row held.1 here).1
+  row_shows i row here DataSource = source_is settings rows journal is i row here (found_there rows i row held.1 here).1
   row_shows i row here (Counts each) =
       ap (λ n. counter (n % 2 ^ 32)) (sums i row here each)
       ∙ ap counter (mod-mod-pow (Rattle.rm_ether.specs.EtherStats.counter_sum settings journal (i ∷ []) each) 32 32)
-  row_shows i row here Owner = owner_is rows journal is i row here (found_there rows i row held.1 here).1
-  row_shows i row here Status = ap (λ s. int (entry_status s)) (state_is rows journal is i row here)
+  row_shows i row here Owner = owner_is settings rows journal is i row here (found_there rows i row held.1 here).1
+  row_shows i row here Status = ap (λ s. int (entry_status s)) (state_is settings rows journal is i row here)
 
-  is_row : (index : List ℕ) → not (is_absent (ether_state journal index)) ≡ is_index_in rows index
-  is_row index = is_row_after ether_stats ether_beginning set_to rows journal held is index
+  is_row : (index : List ℕ) → not (is_absent (ether_state settings journal index)) ≡ is_index_in rows index
+  is_row index = is_row_after ether_stats (ether_beginning settings) set_to rows journal held is index
 
   value_at : (i : ℕ) (o : Option (Row StatisticsRow)) → row_in rows i ≡ o → (column : Column) → cond (is_some o) (Some (value_in i o column)) None ≡ cond (is_some o) (Some (ether_value settings journal (i ∷ []) column)) None
   value_at i None e column = refl

@@ -3,3 +3,4 @@ mod Examples
 mod Steps
 mod Cells
 mod Sums
+mod Begins

@@ -81,11 +81,11 @@ abbrev of_frames : Settings → Counter → List Frame → ℕ
 of_frames settings each frames = sum_by (λ frame. counted each (frame_facts settings frame)) frames
 
 -- nothing was counted by a row that isn't valid
-idle_sum : (settings : Settings) (journal : Journal) (index : List ℕ) (each : Counter) → since ether_stats ether_beginning journal index ≡ [] → counter_sum settings journal index each ≡ 0
-idle_sum settings journal index each none = ap (λ acts. of_frames settings each (frames_of (ether_column journal index 2) (frames_in acts))) none
+idle_sum : (settings : Settings) (journal : Journal) (index : List ℕ) (each : Counter) → since ether_stats (ether_beginning settings) journal index ≡ [] → counter_sum settings journal index each ≡ 0
+idle_sum settings journal index each none = ap (λ acts. of_frames settings each (frames_of (ether_column settings journal index 2) (frames_in acts))) none
 
-module _ (rows : List (Row StatisticsRow)) (journal : Journal) (is : AreRowsAfter ether_stats ether_beginning set_to rows journal) (i : ℕ) (row : Row StatisticsRow) (here : row_in rows i ≡ Some row) where
-  pub state_is : row.state ≡ ether_state journal (i ∷ [])
+module _ (settings : Settings) (rows : List (Row StatisticsRow)) (journal : Journal) (is : AreRowsAfter ether_stats (ether_beginning settings) set_to rows journal) (i : ℕ) (row : Row StatisticsRow) (here : row_in rows i ≡ Some row) where
+  pub state_is : row.state ≡ ether_state settings journal (i ∷ [])
   state_is = ap state_seen (sym here) ∙ is.alike.states i
 
   module _ (there : is_absent row.state ≡ false) where
@@ -93,10 +93,10 @@ module _ (rows : List (Row StatisticsRow)) (journal : Journal) (is : AreRowsAfte
     shown_at = ap (λ o. is_absent (state_seen o)) here ∙ there
 
     -- what the row shows as its data source and its owner
-    pub source_is : name (interface_name row.columns.source) ≡ ether_column journal (i ∷ []) 2
+    pub source_is : name (interface_name row.columns.source) ≡ ether_column settings journal (i ∷ []) 2
     source_is = ap (λ o. unwrap_or (option_and_then (λ c. set_to c 2) (columns_seen o)) (default_of ether_stats 2)) (sym here) ∙ (is.alike.columns i shown_at).0.shown
 
-    pub owner_is : Rattle.rm_val.specs.Val.octets row.columns.owner.items ≡ ether_column journal (i ∷ []) 20
+    pub owner_is : Rattle.rm_val.specs.Val.octets row.columns.owner.items ≡ ether_column settings journal (i ∷ []) 20
     owner_is = ap (λ o. unwrap_or (option_and_then (λ c. set_to c 20) (columns_seen o)) (default_of ether_stats 20)) (sym here) ∙ (is.alike.columns i shown_at).1.0.shown
 
 there_is : (s : State) → is_valid s ≡ true → is_absent s ≡ false
@@ -107,7 +107,7 @@ there_is Valid h = refl
 -- One more frame.
 module _ (settings : Settings) (journal : Journal) (frame : Frame) (facts : Facts) (known : facts ≡ frame_facts settings frame) (rows new : List (Row StatisticsRow))
     (changed : (i : ℕ) → row_in new i ≡ option_map (changed_row (λ index state row. counting facts state row)) (row_in rows i))
-    (is : AreRowsAfter ether_stats ether_beginning set_to rows journal) (sums : AreCounted rows settings journal) where
+    (is : AreRowsAfter ether_stats (ether_beginning settings) set_to rows journal) (sums : AreCounted rows settings journal) where
   abbrev longer : Journal
   longer = passes frame ∷ journal
 
@@ -115,41 +115,41 @@ module _ (settings : Settings) (journal : Journal) (frame : Frame) (facts : Fact
   counting_keeps index state row n =
       elim (is_valid state && nat_eq row.source facts.interface) as (λ b. set_to (cond b (record row { statistics = with_frame facts row.statistics }) row) n ≡ set_to row n) [ true ↦ refl | false ↦ refl ]
 
-  pub rows_with_frame : AreRowsAfter ether_stats ether_beginning set_to new longer
+  pub rows_with_frame : AreRowsAfter ether_stats (ether_beginning settings) set_to new longer
   rows_with_frame =
-      rows_passes ether_stats ether_beginning set_to new journal frame
-      (rows_changed ether_stats ether_beginning set_to (λ index state row. counting facts state row) counting_keeps rows new changed journal is)
+      rows_passes ether_stats (ether_beginning settings) set_to new journal frame
+      (rows_changed ether_stats (ether_beginning settings) set_to (λ index state row. counting facts state row) counting_keeps rows new changed journal is)
 
   module _ (i : ℕ) (row : Row StatisticsRow) (here : row_in rows i ≡ Some row) (each : Counter) where
     abbrev index : List ℕ
     index = i ∷ []
 
-    state : row.state ≡ ether_state journal index
-    state = state_is rows journal is i row here
+    state : row.state ≡ ether_state settings journal index
+    state = state_is settings rows journal is i row here
 
     old_sum : counter_of row.columns.statistics each ≡ counter_sum settings journal index each % 2 ^ 64
     old_sum = sums i row here each
 
     idle : is_valid row.state ≡ false → counter_of row.columns.statistics each ≡ counter_sum settings longer index each % 2 ^ 64
     idle e =
-        let not_valid : is_valid (ether_state journal index) ≡ false = ap is_valid (sym state) ∙ e in
+        let not_valid : is_valid (ether_state settings journal index) ≡ false = ap is_valid (sym state) ∙ e in
         old_sum
-        ∙ ap (λ n. n % 2 ^ 64) (idle_sum settings journal index each (since_idle ether_stats ether_beginning journal index not_valid)
-        ∙ sym (idle_sum settings longer index each (since_idle ether_stats ether_beginning longer index not_valid)))
+        ∙ ap (λ n. n % 2 ^ 64) (idle_sum settings journal index each (since_idle ether_stats (ether_beginning settings) journal index not_valid)
+        ∙ sym (idle_sum settings longer index each (since_idle ether_stats (ether_beginning settings) longer index not_valid)))
 
     of_source : Frame → Bool
-    of_source other = is_interface (ether_column journal index 2) other.interface
+    of_source other = is_interface (ether_column settings journal index 2) other.interface
 
     frames_before : List Frame
-    frames_before = frames_in (since ether_stats ether_beginning journal index)
+    frames_before = frames_in (since ether_stats (ether_beginning settings) journal index)
 
     longer_sum : is_valid row.state ≡ true → counter_sum settings longer index each ≡ counter_sum settings journal index each + cond (nat_eq row.columns.source facts.interface) (counted each facts) 0
     unfolding of_source frames_before
     longer_sum e =
-        let valid : is_valid (ether_state journal index) ≡ true = ap is_valid (sym state) ∙ e in
+        let valid : is_valid (ether_state settings journal index) ≡ true = ap is_valid (sym state) ∙ e in
         let f : Frame → ℕ = λ other. counted each (frame_facts settings other) in
-        let more : counted_frames longer index ≡ filter of_source (frame ∷ frames_before) = rw valid refl in
-        let source : of_source frame ≡ nat_eq row.columns.source frame.interface = ap (λ source. is_interface source frame.interface) (sym (source_is rows journal is i row here (there_is row.state e))) ∙ is_source row.columns.source frame.interface in
+        let more : counted_frames settings longer index ≡ filter of_source (frame ∷ frames_before) = rw valid refl in
+        let source : of_source frame ≡ nat_eq row.columns.source frame.interface = ap (λ source. is_interface source frame.interface) (sym (source_is settings rows journal is i row here (there_is row.state e))) ∙ is_source row.columns.source frame.interface in
         ap (sum_by f) more ∙ sum_more f of_source frame frames_before
         ∙ ap (λ counts. counter_sum settings journal index each + cond counts (f frame) 0) source
         ∙ ap (λ (facts : Facts). counter_sum settings journal index each + cond (nat_eq row.columns.source facts.interface) (counted each facts) 0) (sym known)
@@ -207,18 +207,18 @@ module _ (settings : Settings) (journal : Journal) (moment : ℕ) (bs : Bindings
     (together : (k : ℕ) → k < length bs → second_pass ether_stats (rows_before set_to rows) bs k ≡ None)
     (after : (i : ℕ) → row_in middle i ≡ row_after ether_stats with_column blank_row bs i (row_in rows i))
     (rested : (i : ℕ) → row_in new i ≡ option_map (changed_row (λ index state row. resting state row)) (row_in middle i))
-    (is : AreRowsAfter ether_stats ether_beginning set_to rows journal) (sums : AreCounted rows settings journal) where
+    (is : AreRowsAfter ether_stats (ether_beginning settings) set_to rows journal) (sums : AreCounted rows settings journal) where
   abbrev with_set : Journal
   with_set = assigns moment values ∷ journal
 
   resting_keeps : (number : ℕ) (state : State) (row : StatisticsRow) (n : ℕ) → set_to (resting state row) n ≡ set_to row n
   resting_keeps number state row n = elim (is_valid state) as (λ b. set_to (cond b row (record row { statistics = no_sums })) n ≡ set_to row n) [ true ↦ refl | false ↦ refl ]
 
-  middle_rows : AreRowsAfter ether_stats ether_beginning set_to middle with_set
-  middle_rows = rows_assigns ether_stats ether_beginning set_to with_column blank_row set_with blank_alike refl journal moment bs values gives fine rows middle held is after
+  middle_rows : AreRowsAfter ether_stats (ether_beginning settings) set_to middle with_set
+  middle_rows = rows_assigns ether_stats (ether_beginning settings) set_to with_column blank_row set_with blank_alike refl journal moment bs values gives fine rows middle held is after
 
-  pub rows_with_set : AreRowsAfter ether_stats ether_beginning set_to new with_set
-  rows_with_set = rows_changed ether_stats ether_beginning set_to (λ index state row. resting state row) resting_keeps middle new rested with_set middle_rows
+  pub rows_with_set : AreRowsAfter ether_stats (ether_beginning settings) set_to new with_set
+  rows_with_set = rows_changed ether_stats (ether_beginning settings) set_to (λ index state row. resting state row) resting_keeps middle new rested with_set middle_rows
 
   module _ (i : ℕ) (mid : Row StatisticsRow) (here : row_in middle i ≡ Some mid) (each : Counter) where
     abbrev place : List ℕ
@@ -230,52 +230,52 @@ module _ (settings : Settings) (journal : Journal) (moment : ℕ) (bs : Bindings
     next : (mid.state ≡ next_state (set_ask ether_stats bs place) (state_seen was)) × (mid.columns ≡ put_all ether_stats with_column blank_row bs i (unwrap_or (columns_seen was) blank_row))
     next = is_after bs i was mid (sym (after i) ∙ here)
 
-    new_state : mid.state ≡ ether_state with_set place
-    new_state = state_is middle with_set middle_rows i mid here
+    new_state : mid.state ≡ ether_state settings with_set place
+    new_state = state_is settings middle with_set middle_rows i mid here
 
     sums_left : mid.columns.statistics ≡ (unwrap_or (columns_seen was) blank_row).statistics
     sums_left = ap (λ c. c.statistics) next.1 ∙ all_leave ether_stats with_column blank_row (λ c. c.statistics) (λ c n v. refl) bs i (unwrap_or (columns_seen was) blank_row)
 
     -- a row that wasn't valid had counted nothing
-    none_before : (o : Option (Row StatisticsRow)) → was ≡ o → is_valid (ether_state journal place) ≡ false → counter_of (unwrap_or (columns_seen o) blank_row).statistics each ≡ 0
+    none_before : (o : Option (Row StatisticsRow)) → was ≡ o → is_valid (ether_state settings journal place) ≡ false → counter_of (unwrap_or (columns_seen o) blank_row).statistics each ≡ 0
     none_before None e idle = no_sum each
-    none_before (Some row) e idle = sums i row e each ∙ ap (λ n. n % 2 ^ 64) (idle_sum settings journal place each (since_idle ether_stats ether_beginning journal place idle))
+    none_before (Some row) e idle = sums i row e each ∙ ap (λ n. n % 2 ^ 64) (idle_sum settings journal place each (since_idle ether_stats (ether_beginning settings) journal place idle))
 
     -- a row that was valid had counted what the journal gives
-    sum_before : (o : Option (Row StatisticsRow)) → was ≡ o → is_valid (ether_state journal place) ≡ true → counter_of (unwrap_or (columns_seen o) blank_row).statistics each ≡ counter_sum settings journal place each % 2 ^ 64
+    sum_before : (o : Option (Row StatisticsRow)) → was ≡ o → is_valid (ether_state settings journal place) ≡ true → counter_of (unwrap_or (columns_seen o) blank_row).statistics each ≡ counter_sum settings journal place each % 2 ^ 64
     sum_before None e valid =
-        let absent : Absent ≡ ether_state journal place = ap state_seen (sym e) ∙ is.alike.states i in
+        let absent : Absent ≡ ether_state settings journal place = ap state_seen (sym e) ∙ is.alike.states i in
         let no : is_valid Absent ≡ true = ap is_valid absent ∙ valid in
         absurd (cc)
     sum_before (Some row) e valid = sums i row e each
 
     -- the data source of a row that stays valid is as it was
-    same_source : is_valid (ether_state journal place) ≡ true → is_valid mid.state ≡ true → ether_column with_set place 2 ≡ ether_column journal place 2
+    same_source : is_valid (ether_state settings journal place) ≡ true → is_valid mid.state ≡ true → ether_column settings with_set place 2 ≡ ether_column settings journal place 2
     same_source old valid =
-        let was_valid : state_seen was ≡ Valid = is.alike.states i ∙ valid_is (ether_state journal place) old in
+        let was_valid : state_seen was ≡ Valid = is.alike.states i ∙ valid_is (ether_state settings journal place) old in
         let stays : is_valid (next_state (set_ask ether_stats bs place) Valid) ≡ true = ap (λ s. is_valid (next_state (set_ask ether_stats bs place) s)) (sym was_valid) ∙ sym (ap is_valid next.0) ∙ valid in
         let unbound : value_given values (cell_name ether_stats.entry 2 place) ≡ None = gives (cell_name ether_stats.entry 2 place) ∙ fixed_column ether_stats (rows_before set_to rows) bs together 2 i refl refl was_valid stays in
-        ap (λ o. unwrap_or (option_or o (cond (is_absent (ether_state journal place)) None (set_value ether_stats ether_beginning journal place 2))) (default_of ether_stats 2)) unbound
-        ∙ ap (λ b. unwrap_or (cond b None (set_value ether_stats ether_beginning journal place 2)) (default_of ether_stats 2)) (there_is (ether_state journal place) old)
+        ap (λ o. unwrap_or (option_or o (cond (is_absent (ether_state settings journal place)) None (set_value ether_stats (ether_beginning settings) journal place 2))) (default_of ether_stats 2)) unbound
+        ∙ ap (λ b. unwrap_or (cond b None (set_value ether_stats (ether_beginning settings) journal place 2)) (default_of ether_stats 2)) (there_is (ether_state settings journal place) old)
 
-    valid_with_set : is_valid mid.state ≡ true → (b : Bool) → stays_valid ether_stats ether_beginning (assigns moment values) journal place ≡ b → counter_of mid.columns.statistics each ≡ counter_sum settings with_set place each % 2 ^ 64
+    valid_with_set : is_valid mid.state ≡ true → (b : Bool) → stays_valid ether_stats (ether_beginning settings) (assigns moment values) journal place ≡ b → counter_of mid.columns.statistics each ≡ counter_sum settings with_set place each % 2 ^ 64
     valid_with_set valid true stays =
-        let old : is_valid (ether_state journal place) ≡ true = (and_parts (is_valid (ether_state journal place)) (is_valid (ether_state with_set place)) stays).0 in
-        let frames : frames_in (since ether_stats ether_beginning with_set place) ≡ frames_in (since ether_stats ether_beginning journal place) = frames_kept ether_stats ether_beginning moment values journal place stays in
+        let old : is_valid (ether_state settings journal place) ≡ true = (and_parts (is_valid (ether_state settings journal place)) (is_valid (ether_state settings with_set place)) stays).0 in
+        let frames : frames_in (since ether_stats (ether_beginning settings) with_set place) ≡ frames_in (since ether_stats (ether_beginning settings) journal place) = frames_kept ether_stats (ether_beginning settings) moment values journal place stays in
         ap (λ s. counter_of s each) sums_left ∙ sum_before was refl old
         ∙ ap (λ n. n % 2 ^ 64) (sym (
-        ap (λ source. of_frames settings each (frames_of source (frames_in (since ether_stats ether_beginning with_set place)))) (same_source old valid)
-        ∙ ap (λ frames. of_frames settings each (frames_of (ether_column journal place 2) frames)) frames))
+        ap (λ source. of_frames settings each (frames_of source (frames_in (since ether_stats (ether_beginning settings) with_set place)))) (same_source old valid)
+        ∙ ap (λ frames. of_frames settings each (frames_of (ether_column settings journal place 2) frames)) frames))
     valid_with_set valid false starts =
-        let idle : is_valid (ether_state journal place) ≡ false = not_first (is_valid (ether_state journal place)) (is_valid (ether_state with_set place)) (sym (ap is_valid new_state) ∙ valid) starts in
+        let idle : is_valid (ether_state settings journal place) ≡ false = not_first (is_valid (ether_state settings journal place)) (is_valid (ether_state settings with_set place)) (sym (ap is_valid new_state) ∙ valid) starts in
         ap (λ s. counter_of s each) sums_left ∙ none_before was refl idle
-        ∙ sym (ap (λ n. n % 2 ^ 64) (idle_sum settings with_set place each (since_starts ether_stats ether_beginning (assigns moment values) journal place starts)))
+        ∙ sym (ap (λ n. n % 2 ^ 64) (idle_sum settings with_set place each (since_starts ether_stats (ether_beginning settings) (assigns moment values) journal place starts)))
 
     rested_sum : (b : Bool) → is_valid mid.state ≡ b → counter_of (cond b mid.columns (record mid.columns { statistics = no_sums })).statistics each ≡ counter_sum settings with_set place each % 2 ^ 64
-    rested_sum true valid = valid_with_set valid (stays_valid ether_stats ether_beginning (assigns moment values) journal place) refl
+    rested_sum true valid = valid_with_set valid (stays_valid ether_stats (ether_beginning settings) (assigns moment values) journal place) refl
     rested_sum false idle =
-        let not_valid : is_valid (ether_state with_set place) ≡ false = ap is_valid (sym new_state) ∙ idle in
-        no_sum each ∙ sym (ap (λ n. n % 2 ^ 64) (idle_sum settings with_set place each (since_idle ether_stats ether_beginning with_set place not_valid)))
+        let not_valid : is_valid (ether_state settings with_set place) ≡ false = ap is_valid (sym new_state) ∙ idle in
+        no_sum each ∙ sym (ap (λ n. n % 2 ^ 64) (idle_sum settings with_set place each (since_idle ether_stats (ether_beginning settings) with_set place not_valid)))
 
   pub counters_with_set : AreCounted new settings with_set
   counters_with_set i row here each =

@@ -1,11 +1,10 @@
 -- The table etherStats (RFC 1757, section 5), and what it shows after a journal.
-use Rattle.std.specs.Prelude.{ℕ, ◌%◌, ◌^◌, List, [], ◌∷◌, Bool, true, false, ◌&&◌, nat_eq, not, if◌then◌else◌, Some, None, codes}
+use Rattle.std.specs.Prelude.{ℕ, ◌%◌, ◌^◌, List, [], ◌∷◌, Bool, true, false, ◌&&◌, nat_eq, nat_le, not, if◌then◌else◌, Option, Some, None, codes}
 use Rattle.std.specs.List.{sum_by}
-use Rattle.std.specs.Str.{bytes_eq}
-use Rattle.rm_val.specs.Val.{Val, int, octets, counter}
+use Rattle.rm_val.specs.Val.{Val, int, name, octets, counter}
 use Rattle.rm_model.specs.Settings.{Settings}
 use Rattle.rm_model.specs.Journal.{Frame, Journal, frames_in}
-use Rattle.rm_model.specs.Interfaces.{frames_of}
+use Rattle.rm_model.specs.Interfaces.{interface_name, frames_of}
 use Rattle.rm_model.specs.Cells.{Table}
 use Rattle.rm_model.specs.ControlTable.{ControlTable, source_column, owner_column}
 use Rattle.rm_model.specs.ControlRows.{Beginning, is_absent, state_of, value_of, since, index_value, entry_status}
@@ -34,48 +33,57 @@ ether_stats = record {
   is_sampled = false;
 }
 
--- whether these numbers are the index of row 1
-abbrev pub is_row_1 : List ℕ → Bool
-is_row_1 index = bytes_eq index (1 ∷ [])
+-- whether these numbers are the index of a row of the monitor: there is one for each interface, with its number
+abbrev pub is_of_monitor : Settings → List ℕ → Bool
+is_of_monitor settings (number ∷ []) = nat_le 1 number && nat_le number settings.interfaces
+is_of_monitor settings others = false
 
--- row 1 is valid from before the first act, and belongs to the monitor
-abbrev pub ether_beginning : Beginning
-ether_beginning = record {
-  state = λ index. if is_row_1 index then Valid else Absent;
-  set = λ index column. if is_row_1 index && nat_eq column 20 then Some (octets (codes "monitor")) else None;
+-- what the columns of such a row were set to: it counts the frames of that interface, and belongs to the monitor
+abbrev pub monitor_set : List ℕ → ℕ → Option Val
+monitor_set (number ∷ []) column =
+    if nat_eq column 2 then Some (name (interface_name number))
+    else if nat_eq column 20 then Some (octets (codes "monitor"))
+    else None
+monitor_set others column = None
+
+-- the rows of the monitor are valid from before the first act
+abbrev pub ether_beginning : Settings → Beginning
+ether_beginning settings = record {
+  state = λ index. if is_of_monitor settings index then Valid else Absent;
+  set = λ index column. if is_of_monitor settings index then monitor_set index column else None;
 }
 
 -- the state of a row
-abbrev pub ether_state : Journal → List ℕ → State
-ether_state journal index = state_of ether_stats ether_beginning journal index
+abbrev pub ether_state : Settings → Journal → List ℕ → State
+ether_state settings journal index = state_of ether_stats (ether_beginning settings) journal index
 
 -- the value of a column of a row that can be set: 2 is the data source, 20 the owner
-abbrev pub ether_column : Journal → List ℕ → ℕ → Val
-ether_column journal index column = value_of ether_stats ether_beginning journal index column
+abbrev pub ether_column : Settings → Journal → List ℕ → ℕ → Val
+ether_column settings journal index column = value_of ether_stats (ether_beginning settings) journal index column
 
 -- the frames that a row counts: those of its data source, since it became valid
-abbrev pub counted_frames : Journal → List ℕ → List Frame
-counted_frames journal index =
-    frames_of (ether_column journal index 2) (frames_in (since ether_stats ether_beginning journal index))
+abbrev pub counted_frames : Settings → Journal → List ℕ → List Frame
+counted_frames settings journal index =
+    frames_of (ether_column settings journal index 2) (frames_in (since ether_stats (ether_beginning settings) journal index))
 
 -- a counter of a row: the sum of what each of these frames adds to it
 abbrev pub counter_sum : Settings → Journal → List ℕ → Counter → ℕ
 counter_sum settings journal index each =
-    sum_by (λ frame. counted each (frame_facts settings frame)) (counted_frames journal index)
+    sum_by (λ frame. counted each (frame_facts settings frame)) (counted_frames settings journal index)
 
 -- what a column of a row shows; a Counter32 is shown modulo 2 ^ 32
 abbrev pub ether_value : Settings → Journal → List ℕ → Column → Val
 ether_value settings journal index Index = index_value index
-ether_value settings journal index DataSource = ether_column journal index 2
+ether_value settings journal index DataSource = ether_column settings journal index 2
 ether_value settings journal index (Counts each) = counter (counter_sum settings journal index each % 2 ^ 32)
-ether_value settings journal index Owner = ether_column journal index 20
-ether_value settings journal index Status = int (entry_status (ether_state journal index))
+ether_value settings journal index Owner = ether_column settings journal index 20
+ether_value settings journal index Status = int (entry_status (ether_state settings journal index))
 
 -- the table after a journal
 abbrev pub ether_table : Settings → Journal → Table
 ether_table settings journal = record {
   entry = ether_entry;
   columns = ether_columns;
-  is_row = λ index. not (is_absent (ether_state journal index));
+  is_row = λ index. not (is_absent (ether_state settings journal index));
   value = λ column index. ether_value settings journal index (column_of column);
 }

@@ -33,7 +33,7 @@ AreCounted rows settings journal =
 
 -- The group stands for a journal: its rows are those after the journal, with the counters that the journal gives.
 pub record Stands (ether : Ether) (settings : Settings) (journal : Journal) : Type 0 where
-  pub rows : AreRowsAfter ether_stats ether_beginning set_to ether.rows journal
+  pub rows : AreRowsAfter ether_stats (ether_beginning settings) set_to ether.rows journal
   pub counters : AreCounted ether.rows settings journal
 
 -- what is wrong with a binding alone

@@ -6,3 +6,4 @@ pub mod StatisticsRows
 pub mod Shown
 pub mod Group
 pub mod Sampled
+pub mod FiniteLaws

@@ -17,11 +17,11 @@ use Rattle.rm_ether.specs.Group.{Stands}
 module _ (settings : Settings) (journal : Journal) (moment alarm : ℕ) (reading : Option ℤ) where
   same_sum : (index : List ℕ) (each : Counter) → counter_sum settings (samples moment alarm reading ∷ journal) index each ≡ counter_sum settings journal index each
   same_sum index each =
-      ap (λ frames. sum_by (λ frame. counted each (frame_facts settings frame)) (frames_of (ether_column journal index 2) frames))
-      (frames_sampled ether_stats ether_beginning refl journal moment alarm reading index)
+      ap (λ frames. sum_by (λ frame. counted each (frame_facts settings frame)) (frames_of (ether_column settings journal index 2) frames))
+      (frames_sampled ether_stats (ether_beginning settings) refl journal moment alarm reading index)
 
   pub ether_sampled : (ether : Ether) → Stands ether settings journal → Stands ether settings (samples moment alarm reading ∷ journal)
   ether_sampled ether stands = record {
-    rows = rows_samples ether_stats ether_beginning set_to refl ether.rows journal moment alarm reading stands.rows;
+    rows = rows_samples ether_stats (ether_beginning settings) set_to refl ether.rows journal moment alarm reading stands.rows;
     counters = λ index row here each. stands.counters index row here each ∙ ap (λ sum. sum % 2 ^ 64) (sym (same_sum (index ∷ []) each));
   }

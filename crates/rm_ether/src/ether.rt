@@ -22,7 +22,8 @@ const ROW: u32 = 1;
 /// The number of etherStatsStatus.
 const STATUS: u32 = 21;
 
-/// The statistics of interfaces: etherStatsTable (RFC 1757, section 5). Row 1 is valid from before the first act.
+/// The statistics of interfaces: etherStatsTable (RFC 1757, section 5). Each interface has a row that is valid from before the
+/// first act.
 #[derive(Drop)]
 pub struct Ether {
     rows: Controls<StatisticsRow>,
@@ -38,9 +39,9 @@ impl Ether {
     ghost use Rattle.rm_model.specs.FrameFacts.{frame_facts};
     ghost use Rattle.rm_ether.specs.Group.{Stands, frames_given, last_given};
 
-    /// The statistics before the first frame.
+    /// The statistics of one interface before the first frame.
     pub fn new() -> Ether
-        ensures stands { (settings : Settings) → Stands result settings [] }
+        ensures stands { (settings : Settings) → settings.interfaces ≡ 1 → Stands result settings [] }
         ensures frames { frames_given result ≡ 0 }
         ensures last { last_given result ≡ 0 }
     {
@@ -72,11 +73,9 @@ impl Ether {
 impl Group for Ether {
     ghost use Rattle.rm_model.specs.Cells.{cells_of};
     ghost use Rattle.rm_model.specs.Judgement.{second_pass, rows_after};
-    ghost use Rattle.rm_model.proofs.Finite.{table_finite};
-    ghost use Rattle.rm_model.specs.Indexes.{indexes_of};
-    ghost use Rattle.rm_model.proofs.Rows.{row_listed, one_row_begins};
     ghost use Rattle.rm_ether.specs.EtherStats.{ether_table, ether_stats, ether_beginning};
     ghost use Rattle.rm_ether.specs.Group.{Stands, frames_given, last_given, ether_alone, AreFine};
+    ghost use Rattle.rm_ether.specs.FiniteLaws.{ether_finite};
 
     ghost stands = { Stands };
 
@@ -92,7 +91,7 @@ impl Group for Ether {
 
     ghost alone = { ether_alone };
 
-    ghost together = { λ settings journal now readings bindings place. second_pass ether_stats (rows_after ether_stats ether_beginning journal) bindings place };
+    ghost together = { λ settings journal now readings bindings place. second_pass ether_stats (rows_after ether_stats (ether_beginning settings) journal) bindings place };
 
     ghost reserves = { λ settings journal bindings index. ⊥ };
 
@@ -102,9 +101,7 @@ impl Group for Ether {
 
     ghost released = { λ s. Unit {0} };
 
-    ghost finite = { λ settings journal now.
-        table_finite (ether_table settings journal) (indexes_of ether_stats ((1 ∷ []) ∷ []) journal)
-        (row_listed ether_stats ether_beginning ((1 ∷ []) ∷ []) (one_row_begins (1 ∷ [])) journal) };
+    ghost finite = { λ settings journal now. ether_finite settings journal };
 
     fn cell(&self, name: &Oid, _now: u32) -> Option<Value<'_>> {
         prove!(self.rows.len() <= 16);
@@ -182,7 +179,7 @@ impl Readable for Ether {
         prove!(self.rows.len() <= 16);
     }
 
-    ghost recurring = { λ keep_short one other journal alike now name. refl };
+    ghost recurring = { λ settings one other journal alike now name. refl };
 }
 
 // Firings make no difference: the group stands for the longer journal as soon as an act begins.

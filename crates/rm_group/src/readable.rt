@@ -52,7 +52,7 @@ impl Readable for System {
 
     fn shows(&self, _now: u32) {}
 
-    ghost recurring = { λ keep_short one other journal alike now name. refl };
+    ghost recurring = { λ settings one other journal alike now name. refl };
 }
 
 impl<G: Readable, H: Readable> Readable for Both<G, H> {

@@ -1,18 +1,14 @@
 -- What the history of a row shows, by the definitions.
-use Rattle.std.proofs.Common.{◌≡◌, ℕ, [], ◌∷◌, ◌++◌, refl, false, Option, Some, None}
+use Rattle.std.proofs.Common.{◌≡◌, ℕ, [], ◌∷◌, ◌++◌, refl, Option, Some, None}
 use Rattle.std.specs.Prelude.{pos}
 use Rattle.rm_val.specs.Val.{Val, int, counter, ticks}
-use Rattle.rm_model.specs.Readings.{nothing_read}
-use Rattle.rm_model.specs.Settings.{Settings}
 use Rattle.rm_model.specs.Journal.{Act, Assignment, passes, assigns, Journal}
 use Rattle.rm_model.specs.Cells.{cells_of}
+use Rattle.rm_model.proofs.ExampleSettings.{plain}
 use Rattle.rm_history.specs.Columns.{control_column, sample_column}
 use Rattle.rm_history.specs.Buckets.{utilization}
 use Rattle.rm_history.specs.HistoryControl.{control_entry, control_table}
 use Rattle.rm_history.specs.EtherHistory.{sample_entry, sample_table}
-
-abbrev padded : Settings
-padded = record { keep_short = false; readings = λ journal now. nothing_read }
 
 -- a column of row 1 that is set to a number
 abbrev set : ℕ → ℕ → Assignment
@@ -32,7 +28,7 @@ journal = frame 12000 ∷ frame 11999 ∷ before
 
 -- what a bucket of row 1 shows in a column at a moment
 abbrev shown : Journal → ℕ → ℕ → ℕ → Option Val
-shown j now column bucket = cells_of (sample_table padded j now) (sample_entry ++ column ∷ 1 ∷ bucket ∷ [])
+shown j now column bucket = cells_of (sample_table plain j now) (sample_entry ++ column ∷ 1 ∷ bucket ∷ [])
 
 -- what row 1 of the control table shows
 abbrev control : Journal → ℕ → Option Val

@@ -5,8 +5,7 @@ use Rattle.std.specs.Option.{option_or}
 use Rattle.rm_val.specs.Val.{Val, int, octets, null, name, ip, counter, gauge, ticks, opaque_octets, big, no_object, no_instance, end_of_view}
 use Rattle.rm_val.specs.declared.error.ErrorStatus.{ErrorStatus}
 use Rattle.rm_val.specs.declared.error.ErrorStatus.TheVariants.{WrongValue}
-use Rattle.rm_model.specs.Interfaces.{is_interface}
-use Rattle.rm_model.specs.ControlTable.{number, data_source}
+use Rattle.rm_model.specs.ControlTable.{number}
 use Rattle.rm_model.specs.ControlRows.{is_absent, next_state, set_ask}
 use Rattle.rm_model.specs.Judgement.{Bindings, column_kind, value_fault, alone_fault, writable_kind, place_of, unless}
 use Rattle.rm_model.specs.declared.place.Place.{Place}
@@ -15,35 +14,12 @@ use Rattle.rm_model.specs.declared.row.State.{State}
 use Rattle.rm_status.specs.declared.row.Row.{Row}
 use Rattle.rm_status.specs.Rows.{row_in, state_seen, columns_seen}
 use Rattle.rm_status.specs.Commit.{put_at, put_all, row_after}
-use Rattle.rm_status.specs.Values.{interface_in, natural_in}
+use Rattle.rm_status.specs.Values.{natural_in}
 use Rattle.rm_status.proofs.Puts.{AllFine}
 use Rattle.rm_history.specs.declared.control_columns.ControlColumns.{ControlColumns}
 use Rattle.rm_history.specs.HistoryControl.{history_control}
 use Rattle.rm_history.specs.ControlColumns.{blank_columns, with_column, AreInRange, AreAllInRange}
 use Rattle.rm_history.proofs.Rings.{eq_is, le_is}
-
--- the one data source that there is
-abbrev first_if : Bool → ℕ
-first_if is = unwrap_or (cond is (Some 1) None) 0
-
-interface_one : (value : Val) → value_fault (Some data_source) value ≡ None → interface_in value ≡ 1
-interface_one (int n) fine = cc
-interface_one (octets bytes) fine = cc
-interface_one null fine = cc
-interface_one (name numbers) fine =
-    elim (is_interface (name numbers) 1) as (λ t. unless (t || false) WrongValue ≡ None → first_if t ≡ 1) [
-      | true ↦ λ _. refl
-      | false ↦ λ wrong. absurd (cc)
-    ] fine
-interface_one (ip bytes) fine = cc
-interface_one (counter n) fine = cc
-interface_one (gauge n) fine = cc
-interface_one (ticks n) fine = cc
-interface_one (opaque_octets bytes) fine = cc
-interface_one (big n) fine = cc
-interface_one no_object fine = cc
-interface_one no_instance fine = cc
-interface_one end_of_view fine = cc
 
 between : (a b c : ℕ) → unless ((nat_le a b && nat_le b c) || false) WrongValue ≡ None → (a ≤ b) × (b ≤ c)
 between a b c fine =
@@ -76,12 +52,6 @@ module _ (columns : ControlColumns) (n : ℕ) (value : Val) (fine : value_fault 
   fine_at : (m : ℕ) → nat_eq m n ≡ true → value_fault (column_kind history_control m) value ≡ None
   fine_at m e = subst (λ k. value_fault (column_kind history_control k) value ≡ None) (sym (eq_is m n e)) fine
 
-  source_is : cond (nat_eq 2 n) (interface_in value) columns.source ≡ 1
-  source_is = elim (nat_eq 2 n) as (λ t. nat_eq 2 n ≡ t → cond t (interface_in value) columns.source ≡ 1) [
-    | true ↦ λ e. interface_one value (fine_at 2 e)
-    | false ↦ λ _. is.source
-  ] refl
-
   requested_is : (1 ≤ cond (nat_eq 3 n) (natural_in value) columns.requested) × (cond (nat_eq 3 n) (natural_in value) columns.requested ≤ 65535)
   requested_is = elim (nat_eq 3 n) as (λ t. nat_eq 3 n ≡ t → (1 ≤ cond t (natural_in value) columns.requested) × (cond t (natural_in value) columns.requested ≤ 65535)) [
     | true ↦ λ e. bounded 1 65535 value (fine_at 3 e)
@@ -96,7 +66,6 @@ module _ (columns : ControlColumns) (n : ℕ) (value : Val) (fine : value_fault 
 
   with_in_range : AreInRange (with_column columns n value)
   with_in_range = record {
-    source = source_is;
     some_requested = requested_is.0;
     most_requested = requested_is.1;
     some_interval = interval_is.0;
@@ -129,7 +98,6 @@ all_put (b ∷ more) i c fine is = put_in_range i (place_of history_control.entr
 
 blank_in_range : AreInRange blank_columns
 blank_in_range = record {
-  source = refl;
   some_requested = omega arith;
   most_requested = omega arith;
   some_interval = omega arith;

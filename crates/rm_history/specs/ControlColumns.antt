@@ -28,9 +28,8 @@ with_column columns n value = record {
   owner = if nat_eq 6 n then (texts 127).taken value else columns.owner;
 }
 
--- the numbers are among those that the columns take
+-- how many buckets are requested and the interval are among the numbers that the columns take
 pub record AreInRange (columns : ControlColumns) : Type 0 where
-  pub source : columns.source ≡ 1
   pub some_requested : 1 ≤ columns.requested
   pub most_requested : columns.requested ≤ 65535
   pub some_interval : 1 ≤ columns.interval

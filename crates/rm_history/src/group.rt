@@ -140,7 +140,7 @@ impl Readable for History {
         prove!(self.rows.len() <= 16);
     }
 
-    ghost recurring = { λ keep_short one other journal alike now name. refl };
+    ghost recurring = { λ settings one other journal alike now name. refl };
 }
 
 // Firings make no difference: the group stands for the longer journal as soon as an act begins.

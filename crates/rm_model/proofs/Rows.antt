@@ -88,13 +88,3 @@ module _ (table : ControlTable) where
         by_cause : (not (is_absent (state_of table beginning earlier index)) ≡ true) ⊎ (makes (act_ask table act index) ≡ true) → (not (is_absent (state_of table beginning earlier index)) ≡ true → Contains (indexes_of table first earlier) index) → Contains (indexes_of table first (act ∷ earlier)) index
         by_cause (inl was) listed = before act (listed was)
         by_cause (inr made) listed = now_made act made
-
--- the rows of the beginning, where that is one row, which is valid
-pub one_row_begins : (row index : List ℕ) → not (is_absent (cond (bytes_eq index row) Valid Absent)) ≡ true → Contains (row ∷ []) index
-one_row_begins row index is =
-    let same : index ≡ row = (bytes_eq-Decides index row).0 (of_state (bytes_eq index row) is) in
-    rw same (here row [])
-  where
-    of_state : (b : Bool) → not (is_absent (cond b Valid Absent)) ≡ true → b ≡ true
-    of_state true there_is = refl
-    of_state false no_way = absurd (cc)

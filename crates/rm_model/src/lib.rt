@@ -9,6 +9,7 @@
 #![tactic(auto)]
 
 mod instance;
+mod interface;
 mod place;
 mod reading;
 mod row;
@@ -16,6 +17,7 @@ mod sheet;
 mod verdict;
 
 pub use instance::Instance;
+pub use interface::INTERFACES;
 pub use place::Place;
 pub use reading::Reading;
 pub use row::{Ask, State, StatusKind};

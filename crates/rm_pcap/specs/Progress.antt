@@ -7,7 +7,7 @@ use Rattle.rm_pcap.specs.declared.frame.Frame.{Frame}
 use Rattle.rm_pcap.specs.declared.frame.Step.{Step}
 use Rattle.rm_pcap.specs.declared.frame.Step.TheVariants.{Next, End, Cut}
 use Rattle.rm_window.specs.Filling.{IsFront}
-use Rattle.rm_pcap.specs.Records.{Ended, CutAt, Broken, Found, Whole, Stops, found_at, beginning}
+use Rattle.rm_pcap.specs.Records.{Ended, CutAt, Broken, Found, Whole, Stops, captured_interface, found_at, beginning}
 
 -- A capture that is being read: how its octets are read, the moment of its first frame, how far its records were passed,
 -- what was found there, if it was looked at, and the octets that were read from there on.
@@ -47,7 +47,7 @@ moment_found (Stops stop) = None
 
 -- the frame that the code lends, as a journal holds it
 abbrev pub frame_of : Frame → Passed
-frame_of frame = record { interface = 1; moment = frame.moment; number = frame.number; octets = frame.bytes.now; original = frame.original }
+frame_of frame = record { interface = captured_interface; moment = frame.moment; number = frame.number; octets = frame.bytes.now; original = frame.original }
 
 -- the step shows what was found
 abbrev pub Shows : Step → Found → Type 0

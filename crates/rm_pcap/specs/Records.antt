@@ -36,10 +36,14 @@ beginning lead = record { first = None; last = lead; count = 0; at = 24 }
 abbrev pub moment_at : ℕ → Reach → ℕ → ℕ
 moment_at lead reach time = max reach.last (lead + (time - unwrap_or reach.first time) / 1000000)
 
+-- the interface whose frames a capture has
+abbrev pub captured_interface : ℕ
+captured_interface = 1
+
 -- the frame of the record whose octets come first
 abbrev pub frame_at : Form → ℕ → Reach → List ℕ → Frame
 frame_at form lead reach octets = record {
-  interface = 1;
+  interface = captured_interface;
   moment = moment_at lead reach (time_of form octets);
   number = reach.count + 1;
   octets = take (included_of form octets) (drop 16 octets);

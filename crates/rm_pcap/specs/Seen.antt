@@ -6,7 +6,7 @@ use Rattle.rm_pcap.specs.declared.reach.Reach.{Reach}
 use Rattle.rm_pcap.specs.declared.record.Record.{Record}
 use Rattle.rm_pcap.specs.declared.record.Seen.{Seen}
 use Rattle.rm_pcap.specs.declared.record.Seen.TheVariants.{Whole as SeenWhole, End as SeenEnd, Cut as SeenCut}
-use Rattle.rm_pcap.specs.Records.{Ended, CutAt, Found, Whole, Stops, included_of, original_of, reach_after}
+use Rattle.rm_pcap.specs.Records.{Ended, CutAt, Found, Whole, Stops, captured_interface, included_of, original_of, reach_after}
 
 -- the numbers of the record whose header comes first
 abbrev pub record_of : Form → ℕ → Reach → List ℕ → Record
@@ -16,7 +16,7 @@ record_of form lead reach octets =
 -- the frame of a record with these captured octets
 abbrev pub frame_seen : Record → List ℕ → Passed
 frame_seen seen captured = record {
-  interface = 1;
+  interface = captured_interface;
   moment = seen.after.last;
   number = seen.after.count;
   octets = captured;

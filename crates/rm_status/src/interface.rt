@@ -3,10 +3,8 @@ ghost use Rattle.std.specs.Prelude.{◌≡◌, ℕ, ◌≤◌, ◌↔◌, IsTrue
 ghost use Rattle.rm_val.specs.Val.{val_of};
 ghost use Rattle.rm_model.specs.Interfaces.{interface_name, is_interface};
 
+use rm_model::INTERFACES;
 use rm_val::{Oid, Value};
-
-/// How many interfaces the probe has. Their numbers are 1 to this one.
-pub const INTERFACES: u32 = 1;
 
 /// The name of ifIndex of an interface (RFC 1213), by which a data source names it.
 pub fn interface_name(number: u32) -> Oid

@@ -19,8 +19,9 @@ mod values;
 pub use change::Change;
 pub use columns::Columns;
 pub use controls::{Controls, MAX_ROWS};
-pub use interface::{INTERFACES, interface_name, source};
+pub use interface::{interface_name, source};
 pub use place::place_under;
+pub use rm_model::INTERFACES;
 pub use row::{Row, status_number};
 pub use values::{
     counter_32, interface_in, name_in, natural_in, number_in, put_text, same_text, short_in,

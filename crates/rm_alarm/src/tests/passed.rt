@@ -153,7 +153,7 @@ impl Readable for Passed {
 
     fn shows(&self, _now: u32) {}
 
-    ghost recurring = { λ keep_short one other journal alike now name. refl };
+    ghost recurring = { λ settings one other journal alike now name. refl };
 }
 
 impl Steps for Passed {

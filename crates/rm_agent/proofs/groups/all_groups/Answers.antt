@@ -4,14 +4,14 @@ use Rattle.rm_agent.specs.Watched.{watched_cells}
 use Rattle.rm_agent.proofs.groups.all_groups.Goals as goal
 
 pub returns-clause-stands : goal.returns-clause-stands
-returns-clause-stands c keep_short =
-    let settings = sampling watched_cells keep_short in (
+returns-clause-stands c given one =
+    let settings = sampling watched_cells given in (
       tt,
       (
         c.reserve.ensures.stands settings [] (c.new-events.ensures.stands settings),
         record {
-          readings = c.reads_cells.ensures keep_short;
-          watched = (c.new.ensures.stands settings, c.reserve-2.ensures.stands settings [] (c.new-history.ensures.stands settings));
+          readings = c.reads_cells.ensures given;
+          watched = (c.new.ensures.stands settings one, c.reserve-2.ensures.stands settings [] (c.new-history.ensures.stands settings));
           stand = c.new-2.ensures.stands settings;
           based = c.new-2.ensures.based settings;
         },

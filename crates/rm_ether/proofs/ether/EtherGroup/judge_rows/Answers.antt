@@ -10,5 +10,5 @@ use Rattle.rm_ether.proofs.ether.EtherGroup.judge_rows.Goals as goal
 pub returns-clause-verdict : goal.returns-clause-verdict
 returns-clause-verdict g c settings journal stands later askable =
     let bs = g.A.Assigns.bindings c.args.set.now in
-    let same = second_pass_alike ether_stats (rows_before set_to c.args.self.now.rows) (rows_after ether_stats ether_beginning journal) stands.rows.alike bs in
+    let same = second_pass_alike ether_stats (rows_before set_to c.args.self.now.rows) (rows_after ether_stats (ether_beginning settings) journal) stands.rows.alike bs in
     subst (λ (fault : ℕ → Option ErrorStatus). IsFirstFault (length bs) fault c.judge_rows.result) (λ d k. same k d) c.judge_rows.ensures.verdict
