@@ -14,3 +14,5 @@ mod ExampleLaws
 pub mod TurnedLaws
 pub mod RowsLaws
 pub mod SeenLaws
+pub mod DueLaws
+pub mod NextDueLaws

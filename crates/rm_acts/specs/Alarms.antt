@@ -1,6 +1,6 @@
 -- The alarms of a probe after a journal (RFC 1757, section 5): what their samples are, what crossings these make, and when
 -- the next one is due. An alarm is named by the number of its row.
-use Rattle.std.specs.Prelude.{◌≡◌, ◌⊎◌, ℕ, ◌+◌, ◌*◌, ◌<◌, ◌≤◌, ℤ, pos, negsuc, ◌-ℤ◌, int_le, nat_abs, List, [], ◌∷◌, length, Bool, true, false, nat_eq, if◌then◌else◌, Option, Some, None}
+use Rattle.std.specs.Prelude.{◌≡◌, ◌⊎◌, ℕ, ◌+◌, ◌*◌, ◌<◌, ◌≤◌, ℤ, pos, negsuc, ◌-ℤ◌, int_le, nat_abs, List, [], ◌∷◌, length, Bool, true, false, nat_eq, nat_lt, if◌then◌else◌, Option, Some, None}
 use Rattle.std.specs.Int.{int_rem_euclid, int_min, int_max}
 use Rattle.std.specs.Ordering.{int_eq}
 use Rattle.rm_val.specs.Val.{Val, int, name}
@@ -174,3 +174,9 @@ IsNextDue due None = (alarm : ℕ) → due alarm ≡ None
 IsNextDue due (Some next) =
     (due next.1 ≡ Some next.0)
     × ((other moment : ℕ) → due other ≡ Some moment → (next.0 < moment) ⊎ ((next.0 ≡ moment) × (next.1 ≤ other)))
+
+-- a sample, or the one of a higher alarm where that is earlier
+abbrev pub nearer : Option (ℕ × ℕ) → Option ℕ → ℕ → Option (ℕ × ℕ)
+nearer next None index = next
+nearer None (Some due) index = Some (due, index)
+nearer (Some next) (Some due) index = if nat_lt due next.0 then Some (due, index) else Some next

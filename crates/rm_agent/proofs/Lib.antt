@@ -4,7 +4,6 @@ mod Written
 mod Leaving
 mod ChannelLemmas
 mod NotificationExamples
-mod DueLemmas
 mod SampleLemmas
 mod NotificationLemmas
 mod CountLemmas

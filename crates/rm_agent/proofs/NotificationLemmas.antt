@@ -33,7 +33,7 @@ use Rattle.rm_agent.specs.declared.trap.AlarmTrap.{AlarmTrap}
 use Rattle.rm_agent.specs.Members.{Groups}
 use Rattle.rm_agent.specs.Notifications.{up_time_name, trap_name, rising_alarm, falling_alarm, trap_of, is_sent, is_trap, by_no_channel, community_text, trap_bindings, told_bindings, numbered_trap, sent_by, notification_numbered}
 use Rattle.rm_agent.specs.Told.{told_of, stated_bindings, stated_trap, IsTaken}
-use Rattle.rm_agent.proofs.DueLemmas.{valid_if_due}
+use Rattle.rm_acts.proofs.DueLaws.{valid_if_due}
 use Rattle.rm_agent.proofs.SampleLemmas.{valid_after, is_sending}
 
 -- A binding that has room comes behind the others of a draft.

@@ -1,9 +1,9 @@
 -- Lemmas on the samples of alarms, and on the events that they fire.
-use Rattle.std.proofs.Common.{◌≡◌, ℕ, [], ◌∷◌, true, cond, ◌&&◌, Option, Some, None, refl}
+use Rattle.std.proofs.Common.{◌≡◌, ℕ, ◌+◌, ◌%◌, ◌^◌, ◌≤◌, List, [], ◌∷◌, true, cond, ◌&&◌, Option, Some, None, refl, sym, subst, arith}
 use Rattle.std.specs.Prelude.{ℤ, is_some}
 use Rattle.rm_model.specs.Settings.{Settings as Counting}
-use Rattle.rm_model.specs.Journal.{Journal, samples}
-use Rattle.rm_acts.specs.Alarms.{alarm_state, sampled}
+use Rattle.rm_model.specs.Journal.{Act, Journal, samples}
+use Rattle.rm_acts.specs.Alarms.{alarm_state, sampled, due_of, IsNextDue}
 use Rattle.rm_model.specs.ControlRows.{is_valid}
 use Rattle.rm_model.specs.declared.row.State.{State}
 use Rattle.rm_model.specs.declared.row.State.TheVariants.{Absent, UnderCreation, Valid}
@@ -15,7 +15,14 @@ use Rattle.rm_event.specs.declared.fired.Fired.{Fired}
 use Rattle.rm_event.specs.declared.fired.Fired.TheVariants as became
 use Rattle.rm_acts.specs.Events.{event_asked}
 use Rattle.rm_event.specs.Standing.{fired_of}
-use Rattle.rm_agent.specs.Notifications.{trap_of, is_sent, is_trap}
+use Rattle.rm_alarm.specs.Watched.{number_read}
+use Rattle.rm_agent.specs.declared.settings.Settings.{Settings}
+use Rattle.rm_agent.specs.declared.agent.Agent.{Agent}
+use Rattle.rm_agent.specs.Known.{counting_by}
+use Rattle.rm_agent.specs.Groups.{GroupsStand}
+use Rattle.rm_agent.specs.Agent.{Stands, HasSampled, IsWritten, sample_of}
+use Rattle.rm_agent.specs.Notifications.{trap_of, is_sent, is_trap, count_notifications, notification_of}
+use Rattle.rm_agent.proofs.OrderlyLemmas.{orderly_samples}
 use Rattle.rm_agent.specs.Told.{firings_by}
 
 -- a trap is sent by an event whose type sends it and whose row is valid
@@ -63,3 +70,27 @@ none_asked journal alarm Rising none = absurd (none refl)
 none_asked journal alarm Falling none = absurd (none refl)
 none_asked journal alarm Quiet none = refl
 none_asked journal alarm Gone none = refl
+
+-- the agent after the sample that comes next
+pub has_sampled : (before after : Agent) (journal : Journal) (moment alarm : ℕ) (count : Option ℕ) (note : List ℕ) → Stands before journal → IsNextDue (due_of journal) (Some (moment, alarm))
+    → GroupsStand after.groups (counting_by before.settings) (sample_of before.settings journal moment alarm ∷ journal) → after.settings ≡ before.settings → moment ≤ after.last
+    → after.notifications ≡ count_notifications (counting_by before.settings) (sample_of before.settings journal moment alarm ∷ journal) % 2 ^ 31
+    → IsWritten (notification_of (counting_by before.settings) (sample_of before.settings journal moment alarm) journal) count note → HasSampled before.settings journal moment after count note
+has_sampled before after journal moment alarm count note stands next groups same last notifications written =
+    let act : Act = sample_of before.settings journal moment alarm in
+    record {
+      alarm = alarm;
+      next = next;
+      stands = record {
+        groups = subst (λ (settings : Settings). GroupsStand after.groups (counting_by settings) (act ∷ journal)) (sym same) groups;
+        last = last;
+        orderly = orderly_samples journal (moment, alarm) next stands.orderly (number_read (counting_by before.settings) journal moment alarm);
+        channels = stands.channels;
+        notifications = subst (λ (settings : Settings). after.notifications ≡ count_notifications (counting_by settings) (act ∷ journal) % 2 ^ 31) (sym same) notifications;
+      };
+      notification = written;
+    }
+
+-- the number of the next notification, where notifications are counted modulo 2 ^ 31
+pub next_number : (count n : ℕ) → n ≡ count % 2 ^ 31 → (count + 1) % 2 ^ 31 ≡ (n + 1) % 2 ^ 31
+next_number count n is = omega (arith, is)

@@ -6,11 +6,9 @@ use Rattle.rm_val.specs.Val.{Val, int, octets, null, name, ip, counter, gauge, t
 use Rattle.rm_model.specs.Settings.{Settings}
 use Rattle.rm_model.specs.Journal.{Act, Assignments, Journal, assigns, value_given}
 use Rattle.rm_model.specs.ControlTable.{default_of}
-use Rattle.rm_model.specs.ControlRows.{no_rows, cell_name, entry_status_ask, value_ask, set_ask, next_state, is_absent, is_valid, set_value, stays_valid, activated}
+use Rattle.rm_model.specs.ControlRows.{no_rows, cell_name, set_ask, next_state, is_absent, is_valid, set_value, stays_valid, activated}
 use Rattle.rm_model.specs.Judgement.{Bindings, first_pass, second_pass, is_always}
 use Rattle.rm_acts.specs.Alarms.{number_of, name_of, alarm_entry, alarm_table, alarm_state, alarm_column, interval_of, variable_of, is_delta, bounds_of, readings_in, readings_of, base_of, newest_or, values_of_readings, is_counted, base_number, sample_values, due_of}
-use Rattle.rm_model.specs.declared.row.StatusKind.TheVariants.{EntryStatus}
-use Rattle.rm_model.specs.declared.row.Ask.TheVariants.{Nothing, Create, Enable, Disable, Destroy}
 use Rattle.rm_model.specs.declared.row.State.{State}
 use Rattle.rm_model.specs.declared.row.State.TheVariants.{Absent, UnderCreation, Valid}
 use Rattle.rm_status.specs.declared.row.Row.{Row}
@@ -19,7 +17,8 @@ use Rattle.rm_status.specs.Change.{changed_row}
 use Rattle.rm_status.specs.Commit.{put_all, if_there, row_after}
 use Rattle.rm_status.specs.RowsAfter.{AreRowsAfter}
 use Rattle.rm_status.proofs.Puts.{all_fine, set_in_all}
-use Rattle.rm_status.proofs.RowsAfterLemmas.{rows_changed, rows_assigns, since_starts, all_leave, fixed_column}
+use Rattle.rm_status.proofs.RowsAfterLemmas.{rows_changed, rows_assigns, since_starts, all_leave}
+use Rattle.rm_status.proofs.Bound.{fixed_column, not_made_valid}
 use Rattle.rm_alarm.specs.declared.course.Course.{Course}
 use Rattle.rm_alarm.specs.declared.row.AlarmRow.{AlarmRow}
 use Rattle.rm_alarm.specs.Kept.{Keeps, bounds_in, starting, nothing_crossed}
@@ -28,7 +27,8 @@ use Rattle.rm_alarm.specs.RowLaws.{blank_alike, set_with}
 use Rattle.rm_alarm.specs.Standing.{IsRunning, IsKept, AreKept, IsBased}
 use Rattle.rm_status.proofs.RowFacts.{row_there}
 use Rattle.rm_alarm.proofs.RowFacts.{state_is, interval_is, variable_is, bounds_is}
-use Rattle.rm_alarm.proofs.Steps.{same_due, same_values, still_based, keeps_by}
+use Rattle.rm_acts.proofs.DueLaws.{same_due}
+use Rattle.rm_alarm.proofs.Steps.{same_values, still_based, keeps_by}
 use Rattle.rm_alarm.proofs.Samples.{Based, valid_one}
 
 in_some : {A : Type 0} (x y : A) → Some x ≡ Some y → x ≡ y
@@ -61,40 +61,6 @@ under_creation : (s : State) → is_absent s ≡ false → is_valid s ≡ false 
 under_creation Absent p q = absurd (cc)
 under_creation UnderCreation p q = refl
 under_creation Valid p q = absurd (cc)
-
--- no EntryStatus makes a row that is valid at once
-not_made_by : (n : ℕ) → next_state (entry_status_ask n) Absent ≡ Valid → ⊥
-not_made_by n e =
-    elim (nat_eq n 1) as (λ a. next_state (cond a Enable (cond (nat_eq n 2) Create (cond (nat_eq n 3) Disable (cond (nat_eq n 4) Destroy Nothing)))) Absent ≡ Valid → ⊥) [
-      | true ↦ λ h. cc
-      | false ↦ elim (nat_eq n 2) as (λ a. next_state (cond a Create (cond (nat_eq n 3) Disable (cond (nat_eq n 4) Destroy Nothing))) Absent ≡ Valid → ⊥) [
-        | true ↦ λ h. cc
-        | false ↦ elim (nat_eq n 3) as (λ a. next_state (cond a Disable (cond (nat_eq n 4) Destroy Nothing)) Absent ≡ Valid → ⊥) [
-          | true ↦ λ h. cc
-          | false ↦ elim (nat_eq n 4) as (λ a. next_state (cond a Destroy Nothing) Absent ≡ Valid → ⊥) [
-            | true ↦ λ h. cc
-            | false ↦ λ h. cc
-          ]
-        ]
-      ]
-    ] e
-
-pub not_made_valid : (o : Option Val) → next_state (value_ask EntryStatus o) Absent ≡ Valid → ⊥
-not_made_valid None e = cc
-not_made_valid (Some (int (pos n))) e = not_made_by n e
-not_made_valid (Some (int (negsuc n))) e = cc
-not_made_valid (Some (octets bytes)) e = cc
-not_made_valid (Some null) e = cc
-not_made_valid (Some (name numbers)) e = cc
-not_made_valid (Some (ip bytes)) e = cc
-not_made_valid (Some (counter n)) e = cc
-not_made_valid (Some (gauge n)) e = cc
-not_made_valid (Some (ticks n)) e = cc
-not_made_valid (Some (opaque_octets bytes)) e = cc
-not_made_valid (Some (big n)) e = cc
-not_made_valid (Some no_object) e = cc
-not_made_valid (Some no_instance) e = cc
-not_made_valid (Some end_of_view) e = cc
 
 -- a variable with what a Set gives to it
 with_given : (given : Option Val) (var x : Option (List ℕ)) → option_map name var ≡ option_or given (option_map name x) → unwrap_or var (0 ∷ 0 ∷ []) ≡ unwrap_or (option_or (option_map name_of given) x) (0 ∷ 0 ∷ [])
@@ -167,7 +133,7 @@ module _ (settings : Settings) (journal : Journal) (now : ℕ) (bs : Bindings) (
           fixed : (n : ℕ) → nat_eq n 12 ≡ false → is_always alarm_table n ≡ false → alarm_column (set ∷ journal) i n ≡ alarm_column journal i n
           fixed n other always =
               ap (λ g. unwrap_or (option_or g (cond (is_absent (alarm_state journal i)) None (set_value alarm_table no_rows journal (i ∷ []) n))) (default_of alarm_table n))
-              (gives (cell_name alarm_entry n (i ∷ [])) ∙ fixed_column alarm_table (rows_before set_to rows) bs together n i other always seen goes)
+              (gives (cell_name alarm_entry n (i ∷ [])) ∙ fixed_column alarm_table (rows_before set_to rows) bs together i n other always seen goes)
               ∙ ap (λ s. unwrap_or (cond (is_absent s) None (set_value alarm_table no_rows journal (i ∷ []) n)) (default_of alarm_table n)) state_before
 
           same_interval : interval_of (set ∷ journal) i ≡ interval_of journal i
@@ -186,13 +152,13 @@ module _ (settings : Settings) (journal : Journal) (now : ℕ) (bs : Bindings) (
 
           goes_on : (course : Course) → IsRunning settings journal i r.columns course → IsRunning settings (set ∷ journal) i (settled now Valid m.columns) course
           goes_on course k = record {
-            due = same_due settings journal set i stays same_interval same_delta (λ acts. refl) ∙ k.due;
+            due = same_due journal set i stays (λ acts. refl) same_interval ∙ k.due;
             keeps = keeps_by course.hysteresis r.columns.thresholds m.columns.thresholds (sample_values settings (set ∷ journal) i) same_thresholds
-                (subst (Keeps course.hysteresis r.columns.thresholds) (sym (same_values settings journal set i stays same_interval same_delta (λ acts. refl))) k.keeps);
+                (subst (Keeps course.hysteresis r.columns.thresholds) (sym (same_values settings journal set i stays (λ acts. refl) same_delta)) k.keeps);
           }
 
           based_on : (course : Course) → IsBased settings journal i course → IsBased settings (set ∷ journal) i course
-          based_on = still_based settings journal set i stays same_interval same_delta (λ acts. refl)
+          based_on = still_based settings journal set i stays (λ acts. refl)
 
         -- it wasn't
         module _ (idle : is_valid (alarm_state journal i) ≡ false) where
@@ -266,7 +232,7 @@ module _ (settings : Settings) (journal : Journal) (now : ℕ) (bs : Bindings) (
           → (unwrap_or (columns_seen o) blank_row).base ≡ settings.readings journal now (variable_with bs i (unwrap_or (columns_seen o) blank_row))
       remembered m here valid idle None was =
           absurd (not_made_valid (value_given bs (cell_name alarm_entry 12 (i ∷ [])))
-          (sym (ap (λ o. next_state (set_ask alarm_table bs (i ∷ [])) (state_seen o)) was) ∙ ap (λ (x : Row AlarmRow). x.state) (made m here) ∙ valid))
+          (sym (ap (λ o. is_valid (next_state (set_ask alarm_table bs (i ∷ [])) (state_seen o))) was) ∙ ap (λ (x : Row AlarmRow). is_valid x.state) (made m here) ∙ ap is_valid valid))
       remembered m here valid idle (Some r) was =
           read i r was (under_creation r.state (row_there rows i r held was) (ap is_valid (state_is rows journal is i r was) ∙ idle))
 

@@ -1,9 +1,7 @@
 -- The alarms after a change of what they remember.
-use Rattle.std.proofs.Common.{◌≡◌, ℕ, ◌<◌, suc, List, [], ◌∷◌, length, true, false, cond, Option, Some, None, refl, sym, ap, subst, ◌∙◌, nat_eq, option_map, find, arith}
+use Rattle.std.proofs.Common.{◌≡◌, ℕ, ◌<◌, List, [], ◌∷◌, length, Option, Some, None, refl, sym, ap, subst, ◌∙◌, option_map, arith}
 use Rattle.std.specs.Prelude.{unwrap_or}
 use Rattle.std.specs.Option.{option_or, option_and_then}
-use Rattle.std.specs.Str.{bytes_eq}
-use borrow.Author.Tests.{eqb-true}
 use Rattle.rm_val.specs.Val.{Val, name}
 use Rattle.rm_val.specs.Spellable.{IsSpellable, HasSpelling}
 use Rattle.rm_model.specs.Settings.{Settings}
@@ -18,6 +16,8 @@ use Rattle.rm_status.specs.Rows.{row_in, row_number, rows_before, state_seen, co
 use Rattle.rm_status.specs.Change.{changed_row}
 use Rattle.rm_status.specs.Commit.{put_all, row_after}
 use Rattle.rm_status.proofs.Puts.{all_fine, set_in_all}
+use Rattle.rm_status.proofs.RowsAfterLemmas.{state_kept, set_kept}
+use Rattle.rm_status.proofs.Bound.{bound_at}
 use Rattle.rm_alarm.specs.declared.course.Course.{Course}
 use Rattle.rm_alarm.specs.declared.thresholds.Thresholds.{Thresholds}
 use Rattle.rm_alarm.specs.declared.row.AlarmRow.{AlarmRow}
@@ -56,37 +56,16 @@ module _ (change : ℕ → State → AlarmRow → AlarmRow) (sets : (index : ℕ
       let got = was_there (changed_row change) (row_in rows i) row (sym (changed i) ∙ here) in
       based i got.0 course got.1 (sym (courses got.0.index got.0.state got.0.columns) ∙ ap (λ (r : Row AlarmRow). r.columns.course) got.2 ∙ has)
 
-  state_kept : (o : Option (Row AlarmRow)) → state_seen (option_map (changed_row change) o) ≡ state_seen o
-  state_kept None = refl
-  state_kept (Some row) = refl
-
-  set_kept : (o : Option (Row AlarmRow)) (n : ℕ) → option_and_then (λ c. set_to c n) (columns_seen (option_map (changed_row change) o)) ≡ option_and_then (λ c. set_to c n) (columns_seen o)
-  set_kept None n = refl
-  set_kept (Some row) n = sets row.index row.state row.columns n
-
   pub same_before : rows_before set_to new ≡ rows_before set_to rows
   same_before = λ d. record {
-    state = λ index. (ap state_seen (changed (row_number index)) ∙ state_kept (row_in rows (row_number index))) d;
-    set = λ index column. (ap (λ o. option_and_then (λ c. set_to c column) (columns_seen o)) (changed (row_number index)) ∙ set_kept (row_in rows (row_number index)) column) d;
+    state = λ index. (ap state_seen (changed (row_number index)) ∙ state_kept change (row_in rows (row_number index))) d;
+    set = λ index column. (ap (λ o. option_and_then (λ c. set_to c column) (columns_seen o)) (changed (row_number index)) ∙ set_kept set_to change sets (row_in rows (row_number index)) column) d;
   }
-
-pub named : (rows : List (Row AlarmRow)) (i : ℕ) (row : Row AlarmRow) → row_in rows i ≡ Some row → row.index ≡ i
-named [] i row e = absurd (cc)
-named (x ∷ rows) i row e =
-    elim (nat_eq x.index i) as (λ t. nat_eq x.index i ≡ t → cond t (Some x) (row_in rows i) ≡ Some row → row.index ≡ i) [
-      | true ↦ λ is k. ap (λ (r : Row AlarmRow). r.index) (sym (in_some x row k)) ∙ eqb-true x.index i is
-      | false ↦ λ _ k. named rows i row k
-    ] refl e
 
 -- A variable that a Set gives has a spelling.
 
 given_spelled : (bs : Bindings) (n : List ℕ) (v : Val) → AreSpelledValues bs → value_given bs n ≡ Some v → HasSpelling v
-given_spelled [] n v spelled e = absurd (cc)
-given_spelled (b ∷ more) n v spelled e =
-    elim (bytes_eq b.name n) as (λ t. option_map (λ a. a.value) (cond t (Some b) (find (λ a. bytes_eq a.name n) more)) ≡ Some v → HasSpelling v) [
-      | true ↦ λ k. subst HasSpelling (in_some b.value v k) (spelled 0 (omega arith))
-      | false ↦ λ k. given_spelled more n v (λ place within. spelled (suc place) (omega arith)) k
-    ] e
+given_spelled bs n v spelled e = let (k, at) = bound_at bs n v e in subst HasSpelling at.given (spelled k at.within)
 
 spelled_by : (given : Option Val) (var x : Option (List ℕ)) → option_map name var ≡ option_or given (option_map name x) → ((v : Val) → given ≡ Some v → HasSpelling v) → IsSpellable (unwrap_or x (0 ∷ 0 ∷ [])) → IsSpellable (unwrap_or var (0 ∷ 0 ∷ []))
 spelled_by None None None e spelled is = is

@@ -7,6 +7,8 @@ mod AfterSets
 mod Changes
 mod Judged
 mod Cells
+pub mod Intervals
+pub mod Sums
 mod Pace
 mod Watching
 pub mod Dues

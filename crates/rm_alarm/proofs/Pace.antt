@@ -1,22 +1,15 @@
 -- That alarms which are valid have an interval, after each act, and that each sample leaves fewer.
-use Rattle.std.proofs.Common.{◌≡◌, ℕ, ◌+◌, ◌-◌, ◌*◌, ◌<◌, ◌≤◌, zero, suc, List, [], ◌∷◌, length, Bool, true, false, cond, ◌&&◌, Option, Some, None, refl, sym, ap, subst, ◌∙◌, nat_eq, nat_le, option_map, find, arith}
-use Rattle.std.specs.Prelude.{ℤ, pos, negsuc, nat_abs, unwrap_or, is_some, ◌||◌}
+use Rattle.std.proofs.Common.{◌≡◌, ℕ, ◌+◌, ◌-◌, ◌*◌, ◌<◌, ◌≤◌, List, [], ◌∷◌, length, Bool, true, false, cond, ◌&&◌, Option, Some, None, refl, sym, ap, subst, ◌∙◌, nat_eq, nat_le, option_map, arith}
+use Rattle.std.specs.Prelude.{ℤ, pos, nat_abs, unwrap_or, is_some}
 use Rattle.std.specs.Option.{option_or, option_and_then}
-use Rattle.std.specs.Str.{bytes_eq}
-use Rattle.std.proofs.lemmas.Slice.Eq.{bytes_eq-Decides}
 use Rattle.std.proofs.lemmas.Bool.Decides.{nat_tests}
 use borrow.Author.Tests.{eqb-true}
 use Rattle.rm_val.specs.Val.{Val, int}
-use Rattle.rm_val.specs.declared.error.ErrorStatus.{ErrorStatus}
-use Rattle.rm_val.specs.declared.error.ErrorStatus.TheVariants.{InconsistentValue, WrongValue}
 use Rattle.rm_model.specs.Journal.{value_given}
-use Rattle.rm_model.specs.ControlRows.{cell_name, value_ask, set_ask, next_state, is_absent}
-use Rattle.rm_model.specs.Judgement.{Bindings, name_at, place_of, first_pass, second_pass, together_fault, alone_fault, value_fault, column_kind, is_in, is_ready_with, is_again, is_crowded, row_fault, unless}
-use Rattle.rm_acts.specs.Alarms.{alarm_entry, alarm_table, up_from}
-use Rattle.rm_model.specs.declared.row.StatusKind.TheVariants.{EntryStatus}
+use Rattle.rm_model.specs.ControlRows.{cell_name, set_ask, next_state, is_absent, is_valid}
+use Rattle.rm_model.specs.Judgement.{Bindings, first_pass, second_pass, is_ready_with}
+use Rattle.rm_acts.specs.Alarms.{alarm_entry, alarm_table, number_of}
 use Rattle.rm_model.specs.declared.row.Ask.{Ask}
-use Rattle.rm_model.specs.declared.row.Ask.TheVariants.{Nothing, Create, CreateValid, Enable, Disable, Destroy}
-use Rattle.rm_model.specs.declared.place.Place.TheVariants.{Cell}
 use Rattle.rm_model.specs.declared.row.State.{State}
 use Rattle.rm_model.specs.declared.row.State.TheVariants.{Absent, UnderCreation, Valid}
 use Rattle.rm_acts.specs.declared.sampled.Sampled.{Sampled}
@@ -24,7 +17,7 @@ use Rattle.rm_status.specs.declared.row.Row.{Row}
 use Rattle.rm_status.specs.Rows.{row_in, rows_before, state_seen, columns_seen, AreControlRows}
 use Rattle.rm_status.specs.Change.{changed_row}
 use Rattle.rm_status.specs.Commit.{put_all, row_after}
-use Rattle.rm_status.proofs.Puts.{AllFine, all_fine, set_in_all}
+use Rattle.rm_status.proofs.Puts.{all_fine, set_in_all}
 use Rattle.rm_alarm.specs.declared.course.Course.{Course}
 use Rattle.rm_alarm.specs.declared.row.AlarmRow.{AlarmRow}
 use Rattle.rm_alarm.specs.Due.{due_at}
@@ -33,7 +26,10 @@ use Rattle.rm_alarm.specs.Paced.{is_paced, ArePaced}
 use Rattle.rm_alarm.specs.Rows.{set_to, with_column, blank_row, settled, interval_kept}
 use Rattle.rm_alarm.specs.RowLaws.{set_with}
 use Rattle.rm_alarm.specs.Taking.{with_course, HasTaken}
-use Rattle.rm_alarm.proofs.AfterSets.{was_there, there_is, not_made_valid}
+use Rattle.rm_alarm.proofs.AfterSets.{was_there, there_is}
+use Rattle.rm_alarm.proofs.Intervals.{given_seconds}
+use Rattle.rm_alarm.proofs.Sums.{sum_less}
+use Rattle.rm_status.proofs.Bound.{ready_made, not_made_valid}
 use Rattle.rm_status.proofs.RowFacts.{row_fits}
 use Rattle.rm_alarm.proofs.Taken.{Due}
 
@@ -92,58 +88,15 @@ paced_gone rows new index lacks paced i r is_r = by_test (nat_eq index i) (sym (
 
 -- A Set with which nothing is wrong.
 
--- an interval that a Set gives is a second or more
-in_range : (z : ℤ) → is_in (up_from 1 2147483647) z ≡ true → nat_le 1 (nat_abs z) ≡ true
-in_range (pos n) is = left (nat_le 1 n) (nat_le n 2147483647) is
-  where
-    left : (a b : Bool) → ((a && b) || false) ≡ true → a ≡ true
-    left true b h = refl
-    left false b h = cc
-in_range (negsuc n) is = absurd (cc)
-
-passes : (b : Bool) (status : ErrorStatus) → unless b status ≡ None → b ≡ true
-passes true status h = refl
-passes false status h = absurd (cc)
-
-taken_interval : (z : ℤ) → value_fault (column_kind alarm_table 2) (int z) ≡ None → nat_le 1 (nat_abs z) ≡ true
-taken_interval z fine = in_range z (passes (is_in (up_from 1 2147483647) z) WrongValue fine)
-
-given_fine : (i : ℕ) (v : Val) (bs : Bindings) → AllFine alarm_table bs → value_given bs (cell_name alarm_entry 2 (i ∷ [])) ≡ Some v → value_fault (column_kind alarm_table 2) v ≡ None
-given_fine i v [] fine e = absurd (cc)
-given_fine i v (b ∷ more) fine e =
-    elim (bytes_eq b.name (cell_name alarm_entry 2 (i ∷ []))) as (λ t. bytes_eq b.name (cell_name alarm_entry 2 (i ∷ [])) ≡ t → option_map (λ a. a.value) (cond t (Some b) (find (λ a. bytes_eq a.name (cell_name alarm_entry 2 (i ∷ []))) more)) ≡ Some v → value_fault (column_kind alarm_table 2) v ≡ None) [
-      | true ↦ λ same k.
-          let name : b.name ≡ cell_name alarm_entry 2 (i ∷ []) = (bytes_eq-Decides b.name (cell_name alarm_entry 2 (i ∷ []))).0 same in
-          let fault : alone_fault alarm_table (Cell 2 i) b.value ≡ None = ap (λ n. alone_fault alarm_table (place_of alarm_entry n) b.value) (sym name) ∙ fine.0 in
-          ap (value_fault (column_kind alarm_table 2)) (sym (in_some b.value v k)) ∙ no_first _ _ fault
-      | false ↦ λ _ k. given_fine i v more fine.1 k
-    ] refl e
-
-interval_by : (given : Option Val) (new old : Option ℤ) → option_map int new ≡ option_or given (option_map int old) → ((v : Val) → given ≡ Some v → value_fault (column_kind alarm_table 2) v ≡ None)
+interval_by : (given : Option Val) (new old : Option ℤ) → option_map int new ≡ option_or given (option_map int old) → ((v : Val) → given ≡ Some v → 1 ≤ nat_abs (number_of v))
     → ((z : ℤ) → old ≡ Some z → nat_le 1 (nat_abs z) ≡ true) → (z : ℤ) → new ≡ Some z → nat_le 1 (nat_abs z) ≡ true
-interval_by None new None e fine was z is = absurd (let none : option_map int new ≡ None = e in let some : option_map int new ≡ Some (int z) = ap (option_map int) is in cc)
-interval_by None new (Some y) e fine was z is = was z (let some : option_map int new ≡ Some (int z) = ap (option_map int) is in let same : y ≡ z = cc in ap Some same)
-interval_by (Some v) new old e fine was z is =
+interval_by None new None e seconds was z is = absurd (let none : option_map int new ≡ None = e in let some : option_map int new ≡ Some (int z) = ap (option_map int) is in cc)
+interval_by None new (Some y) e seconds was z is = was z (let some : option_map int new ≡ Some (int z) = ap (option_map int) is in let same : y ≡ z = cc in ap Some same)
+interval_by (Some v) new old e seconds was z is =
     let some : option_map int new ≡ Some (int z) = ap (option_map int) is in
     let same : v ≡ int z = cc in
-    taken_interval z (ap (value_fault (column_kind alarm_table 2)) (sym same) ∙ fine v refl)
-
--- where a value that is given stands
-given_at : (bs : Bindings) (n : List ℕ) (v : Val) → value_given bs n ≡ Some v → (k : ℕ) × (k < length bs) × (name_at bs k ≡ n)
-given_at [] n v e = absurd (cc)
-given_at (b ∷ more) n v e =
-    elim (bytes_eq b.name n) as (λ t. bytes_eq b.name n ≡ t → option_map (λ a. a.value) (cond t (Some b) (find (λ a. bytes_eq a.name n) more)) ≡ Some v → (k : ℕ) × (k < suc (length more)) × (name_at (b ∷ more) k ≡ n)) [
-      | true ↦ λ same _. (0, omega arith, (bytes_eq-Decides b.name n).0 same)
-      | false ↦ λ _ k. let rest = given_at more n v k in (suc rest.0, (let within = rest.1 in omega arith), rest.2)
-    ] refl e
-
-enables : (ask : Ask) → next_state ask UnderCreation ≡ Valid → ask ≡ Enable
-enables Nothing e = absurd (cc)
-enables Create e = absurd (cc)
-enables CreateValid e = absurd (cc)
-enables Enable e = refl
-enables Disable e = absurd (cc)
-enables Destroy e = absurd (cc)
+    let one : 1 ≤ nat_abs z = subst (λ (v : Val). 1 ≤ nat_abs (number_of v)) same (seconds v refl) in
+    grind (arith, nat_tests)
 
 settled_paced : (now : ℕ) (s : State) (row : AlarmRow) → ((z : ℤ) → row.interval ≡ Some z → nat_le 1 (nat_abs z) ≡ true) → (s ≡ Valid → row.interval ≡ None → ⊥) → is_paced s (settled now s row).interval (settled now s row).course ≡ true
 settled_paced now s row range needed = by_interval s row.interval refl needed
@@ -168,41 +121,23 @@ module _ (now : ℕ) (bs : Bindings) (alone : (k : ℕ) → k < length bs → fi
     abbrev ask : Ask
     ask = set_ask alarm_table bs (i ∷ [])
 
-    abbrev is_ready_then : Bool
-    is_ready_then = is_ready_with alarm_table (rows_before set_to rows) bs (i ∷ [])
-
-    -- an alarm that becomes valid is ready
-    ready : state_seen (row_in rows i) ≡ UnderCreation → next_state ask UnderCreation ≡ Valid → is_ready_then ≡ true
-    ready under next = by_given (given 12) refl
-      where
-        by_given : (o : Option Val) → given 12 ≡ o → is_ready_then ≡ true
-        by_given None e = absurd (let no : UnderCreation ≡ Valid = ap (λ o. next_state (value_ask EntryStatus o) UnderCreation) (sym e) ∙ next in cc)
-        by_given (Some v) e =
-            let at = given_at bs (cell_name alarm_entry 12 (i ∷ [])) v e in
-            let crowded : Bool = is_crowded alarm_table (rows_before set_to rows) bs in
-            let again : Bool = is_again bs at.0 in
-            let fault : row_fault alarm_table (state_seen (row_in rows i)) ask is_ready_then crowded again 12 ≡ None = ap (λ n. together_fault alarm_table (rows_before set_to rows) bs at.0 (place_of alarm_entry n)) (sym at.2) ∙ together at.0 at.1 in
-            let under_creation : row_fault alarm_table UnderCreation ask is_ready_then crowded again 12 ≡ None = ap (λ s. row_fault alarm_table s ask is_ready_then crowded again 12) (sym under) ∙ fault in
-            let enabled : row_fault alarm_table UnderCreation Enable is_ready_then crowded again 12 ≡ None = ap (λ a. row_fault alarm_table UnderCreation a is_ready_then crowded again 12) (sym (enables ask next)) ∙ under_creation in
-            passes is_ready_then InconsistentValue (no_first _ _ enabled)
-
-    -- and so has an interval
-    is_set : state_seen (row_in rows i) ≡ UnderCreation → is_ready_then ≡ true → is_some (option_or (given 2) ((rows_before set_to rows).set (i ∷ []) 2)) ≡ true
+    -- an alarm that is ready has an interval
+    is_set : state_seen (row_in rows i) ≡ UnderCreation → is_ready_with alarm_table (rows_before set_to rows) bs (i ∷ []) ≡ true → is_some (option_or (given 2) ((rows_before set_to rows).set (i ∷ []) 2)) ≡ true
     is_set under is =
         ap (λ s. is_some (option_or (given 2) (cond (is_absent s) None ((rows_before set_to rows).set (i ∷ []) 2)))) (sym under)
         ∙ (both_true _ _ (both_true _ _ is).0).0
 
     needs_interval : (o : Option (Row AlarmRow)) → row_in rows i ≡ o → next_state ask (state_seen o) ≡ Valid → given 2 ≡ None → (unwrap_or (columns_seen o) blank_row).interval ≡ None → ⊥
-    needs_interval None e next none interval = not_made_valid (given 12) next
+    needs_interval None e next none interval = not_made_valid (given 12) (ap is_valid next)
     needs_interval (Some r) e next none interval = by_state r.state refl
       where
         by_state : (s : State) → r.state ≡ s → ⊥
-        by_state Absent is = not_made_valid (given 12) (ap (next_state ask) (sym is) ∙ next)
+        by_state Absent is = not_made_valid (given 12) (ap (λ s. is_valid (next_state ask s)) (sym is) ∙ ap is_valid next)
         by_state Valid is =
             let no : is_paced Valid None r.columns.course ≡ true = ap (λ s. is_paced s None r.columns.course) (sym is) ∙ ap (λ o. is_paced r.state o r.columns.course) (sym interval) ∙ paced i r e in
             cc
         by_state UnderCreation is =
-            let some = is_set (ap state_seen e ∙ is) (ready (ap state_seen e ∙ is) (ap (next_state ask) (sym is) ∙ next)) in
+            let some = is_set (ap state_seen e ∙ is) (ready_made alarm_table (rows_before set_to rows) bs together i (ap state_seen e ∙ is) (ap (λ s. is_valid (next_state ask s)) (sym is) ∙ ap is_valid next)) in
             let before : (rows_before set_to rows).set (i ∷ []) 2 ≡ None = ap (λ o. option_and_then (λ c. set_to c 2) (columns_seen o)) e ∙ ap (option_map int) interval in
             let unset : option_or (given 2) ((rows_before set_to rows).set (i ∷ []) 2) ≡ None = ap (λ g. option_or g ((rows_before set_to rows).set (i ∷ []) 2)) none ∙ before in
             let no : false ≡ true = sym (ap is_some unset) ∙ some in
@@ -222,7 +157,7 @@ module _ (now : ℕ) (bs : Bindings) (alone : (k : ℕ) → k < length bs → fi
     set = set_in_all alarm_table with_column blank_row set_to set_with bs i 2 old refl (all_fine alarm_table bs alone)
 
     put_in_range : (z : ℤ) → put.interval ≡ Some z → nat_le 1 (nat_abs z) ≡ true
-    put_in_range = interval_by (given 2) put.interval old.interval set (λ v e. given_fine i v bs (all_fine alarm_table bs alone) e) (was_in_range (row_in rows i) refl)
+    put_in_range = interval_by (given 2) put.interval old.interval set (given_seconds bs alone i) (was_in_range (row_in rows i) refl)
 
     put_needed : next_state ask (state_seen (row_in rows i)) ≡ Valid → put.interval ≡ None → ⊥
     put_needed next none =
@@ -245,32 +180,6 @@ module _ (now : ℕ) (bs : Bindings) (alone : (k : ℕ) → k < length bs → fi
       (settled_paced now next (put i) (put_in_range i) (put_needed i)))
 
 -- Each sample up to a moment leaves fewer.
-
-sum_same : (f g : ℕ → ℕ) (n : ℕ) → ((i : ℕ) → i < n → f i ≡ g i) → sum_below f n ≡ sum_below g n
-unfolding sum_below
-sum_same f g zero same = refl
-sum_same f g (suc n) same = let here = same n (omega arith) in let rest = sum_same f g n (λ i low. same i (omega arith)) in omega arith
-
-apart : (i j : ℕ) → i < j → nat_eq j i ≡ false
-apart i j low = grind (arith, nat_tests)
-
-lower : (j n : ℕ) → j < suc n → nat_eq j n ≡ false → j < n
-lower j n within other = grind (arith, nat_tests)
-
-sum_less : (f g : ℕ → ℕ) (j n : ℕ) → j < n → ((i : ℕ) → nat_eq j i ≡ false → f i ≡ g i) → f j < g j → sum_below f n < sum_below g n
-unfolding sum_below
-sum_less f g j zero within others less = absurd (omega arith)
-sum_less f g j (suc n) within others less =
-    elim (nat_eq j n) as (λ t. nat_eq j n ≡ t → f n + sum_below f n < g n + sum_below g n) [
-      | true ↦ λ e.
-          let here : f n < g n = subst (λ k. f k < g k) (eqb-true j n e) less in
-          let rest = sum_same f g n (λ i low. others i (subst (λ k. nat_eq k i ≡ false) (sym (eqb-true j n e)) (apart i n low))) in
-          omega arith
-      | false ↦ λ e.
-          let here = others n e in
-          let rest = sum_less f g j n (lower j n within e) others less in
-          omega arith
-    ] refl
 
 module _ (rows new : List (Row AlarmRow)) (index moment latest : ℕ) (within : moment ≤ latest) (held : AreControlRows rows) (paced : ArePaced rows) (due : Due rows index moment) where
   abbrev left : List (Row AlarmRow) → ℕ → ℕ

@@ -23,7 +23,8 @@ use Rattle.rm_alarm.specs.Taking.{Took, with_course, HasTaken}
 use Rattle.rm_alarm.specs.Standing.{IsRunning, IsKept, AreKept, IsBased}
 use Rattle.rm_status.proofs.RowFacts.{row_there}
 use Rattle.rm_alarm.proofs.RowFacts.{state_is, interval_is, delta_is, bounds_is}
-use Rattle.rm_alarm.proofs.Steps.{same_due, same_values, still_based, runs_on, based_on, comes_to}
+use Rattle.rm_acts.proofs.DueLaws.{same_due}
+use Rattle.rm_alarm.proofs.Steps.{same_values, still_based, runs_on, based_on, comes_to}
 
 -- rows that were set to the same are those after the same journals
 pub rows_same : (rows new : List (Row AlarmRow)) (journal : Journal) → ((i : ℕ) → state_in new i ≡ state_in rows i) → ((i n : ℕ) → option_and_then (λ c. set_to c n) (columns_in new i) ≡ option_and_then (λ c. set_to c n) (columns_in rows i))
@@ -53,15 +54,15 @@ module _ (settings : Settings) (journal : Journal) (act : Act) (i : ℕ) (same :
 
   pub kept_other : (s : State) (row : AlarmRow) (o : Option Course) → s ≡ alarm_state journal i → IsKept settings journal i s row o → IsKept settings (act ∷ journal) i s row o
   kept_other Valid row (Some course) is k = record {
-    due = same_due settings journal act i (stays (sym is)) interval delta other ∙ k.due;
-    keeps = subst (Keeps course.hysteresis row.thresholds) (sym (same_values settings journal act i (stays (sym is)) interval delta other)) k.keeps;
+    due = same_due journal act i (stays (sym is)) other interval ∙ k.due;
+    keeps = subst (Keeps course.hysteresis row.thresholds) (sym (same_values settings journal act i (stays (sym is)) other delta)) k.keeps;
   }
   kept_other Valid row None is k = k
   kept_other UnderCreation row o is k = k
   kept_other Absent row o is k = k
 
   pub based_other : (course : Course) → alarm_state journal i ≡ Valid → IsBased settings journal i course → IsBased settings (act ∷ journal) i course
-  based_other course valid = still_based settings journal act i (stays valid) interval delta other course
+  based_other course valid = still_based settings journal act i (stays valid) other course
 
 -- a row that keeps something of its samples is valid
 pub valid_one : (settings : Settings) (journal : Journal) (i : ℕ) (s : State) (row : AlarmRow) (o : Option Course) (course : Course) → o ≡ Some course → IsKept settings journal i s row o → (s ≡ Valid) × IsRunning settings journal i row course

@@ -1,5 +1,5 @@
 -- The rows of which one took a sample, and those of which one is gone.
-use Rattle.std.proofs.Common.{◌≡◌, ℕ, List, [], ◌∷◌, Bool, true, false, cond, ◌&&◌, Option, Some, None, refl, sym, ap, subst, ◌∙◌, nat_eq, option_map, rules}
+use Rattle.std.proofs.Common.{◌≡◌, ℕ, List, [], ◌∷◌, Bool, true, false, cond, Option, Some, None, refl, sym, ap, subst, ◌∙◌, nat_eq, option_map, rules}
 use Rattle.std.specs.Prelude.{ℤ}
 use Rattle.std.specs.Option.{option_and_then}
 use Rattle.std.specs.Str.{bytes_eq}
@@ -16,7 +16,7 @@ use Rattle.rm_acts.specs.declared.sampled.Sampled.{Sampled}
 use Rattle.rm_status.specs.declared.row.Row.{Row}
 use Rattle.rm_status.specs.Rows.{row_in, state_seen, columns_seen, state_in, columns_in, with_columns}
 use Rattle.rm_status.specs.RowsAfter.{AreRowsAfter}
-use Rattle.rm_status.proofs.PlaceLemmas.{same_either_way}
+use Rattle.rm_acts.proofs.DueLaws.{same_number, state_of_others}
 use Rattle.rm_alarm.specs.declared.course.Course.{Course}
 use Rattle.rm_alarm.specs.declared.row.AlarmRow.{AlarmRow}
 use Rattle.rm_alarm.specs.Rows.{set_to, variable_kept}
@@ -95,19 +95,8 @@ module _ (rows new : List (Row AlarmRow)) (index : ℕ) (lacks : (i : ℕ) → r
     abbrev gone : Act
     gone = samples moment index None
 
-    and_true : (b : Bool) → (b && true) ≡ b
-    and_true true = refl
-    and_true false = refl
-
-    and_false : (b : Bool) → (b && false) ≡ false
-    and_false true = refl
-    and_false false = refl
-
-    asked : (i : ℕ) → bytes_eq (i ∷ []) (index ∷ []) ≡ nat_eq index i
-    asked i = and_true (nat_eq i index) ∙ same_either_way i index
-
     new_state : (i : ℕ) → alarm_state (gone ∷ journal) i ≡ next_state (cond (nat_eq index i) Destroy Nothing) (alarm_state journal i)
-    new_state i = ap (λ b. next_state (cond b Destroy Nothing) (alarm_state journal i)) (asked i)
+    new_state i = ap (λ b. next_state (cond b Destroy Nothing) (alarm_state journal i)) (same_number i index)
 
     states : (i : ℕ) → state_in new i ≡ alarm_state (gone ∷ journal) i
     states i =
@@ -131,9 +120,6 @@ module _ (rows new : List (Row AlarmRow)) (index : ℕ) (lacks : (i : ℕ) → r
     absent_stays true = refl
     absent_stays false = refl
 
-    others_gone : (i : ℕ) → nat_eq index i ≡ false → alarm_state (gone ∷ journal) i ≡ alarm_state journal i
-    others_gone i other = new_state i ∙ ap (λ b. next_state (cond b Destroy Nothing) (alarm_state journal i)) other
-
     pub rows_gone : AreRowsAfter alarm_table no_rows set_to new (gone ∷ journal)
     rows_gone = record {
       alike = record {
@@ -146,10 +132,10 @@ module _ (rows new : List (Row AlarmRow)) (index : ℕ) (lacks : (i : ℕ) → r
     pub kept_gone : AreKept rows settings journal → AreKept new settings (gone ∷ journal)
     kept_gone kept i r is_r =
         let was = was_there i r is_r in
-        kept_other settings journal gone i (others_gone i was.0) refl refl (λ acts. refl) r.state r.columns r.columns.course (state_is rows journal is i r was.1) (kept i r was.1)
+        kept_other settings journal gone i (state_of_others journal moment index i was.0 None) refl refl (λ acts. refl) r.state r.columns r.columns.course (state_is rows journal is i r was.1) (kept i r was.1)
 
     pub based_gone : AreKept rows settings journal → Based rows settings journal → Based new settings (gone ∷ journal)
     based_gone kept based i r course is_r has =
         let was = was_there i r is_r in
         let one = valid_one settings journal i r.state r.columns r.columns.course course has (kept i r was.1) in
-        based_other settings journal gone i (others_gone i was.0) refl refl (λ acts. refl) course (sym (state_is rows journal is i r was.1) ∙ one.0) (based i r course was.1 has)
+        based_other settings journal gone i (state_of_others journal moment index i was.0 None) refl refl (λ acts. refl) course (sym (state_is rows journal is i r was.1) ∙ one.0) (based i r course was.1 has)

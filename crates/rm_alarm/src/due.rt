@@ -1,7 +1,7 @@
 // Which sample is due next.
 ghost use Rattle.std.specs.Prelude.{◌≡◌};
-ghost use Rattle.rm_acts.specs.Alarms.{IsNextDue};
-ghost use Rattle.rm_alarm.specs.Due.{nearer, due_at};
+ghost use Rattle.rm_acts.specs.Alarms.{IsNextDue, nearer};
+ghost use Rattle.rm_alarm.specs.Due.{due_at};
 
 use crate::alarms::Alarms;
 use crate::row::AlarmRow;

@@ -22,9 +22,10 @@ use Rattle.rm_status.specs.Change.{changed_row}
 use Rattle.rm_status.specs.Commit.{put_all, row_after}
 use Rattle.rm_status.specs.RowsAfter.{AreRowsAfter}
 use Rattle.rm_status.proofs.Puts.{AllFine}
-use Rattle.rm_status.proofs.RowsAfterLemmas.{rows_passes, rows_changed, rows_assigns, since_idle, since_starts, frames_kept, all_leave, fixed_column}
+use Rattle.rm_status.proofs.RowsAfterLemmas.{rows_passes, rows_changed, rows_assigns, since_idle, since_starts, frames_kept, all_leave, is_after}
+use Rattle.rm_status.proofs.Bound.{fixed_column}
 use Rattle.rm_ether.specs.declared.counter.Counter.{Counter}
-use Rattle.rm_ether.specs.declared.counter.Counter.TheVariants.{DropEvents, Octets, Pkts, BroadcastPkts, MulticastPkts, CRCAlignErrors, UndersizePkts, OversizePkts, Fragments, Jabbers, Collisions, Pkts64Octets, Pkts65to127Octets, Pkts128to255Octets, Pkts256to511Octets, Pkts512to1023Octets, Pkts1024to1518Octets}
+use Rattle.rm_ether.specs.declared.counter.Counter.TheVariants.{DropEvents}
 use Rattle.rm_ether.specs.declared.statistics.Statistics.{Statistics}
 use Rattle.rm_ether.specs.declared.row.StatisticsRow.{StatisticsRow}
 use Rattle.rm_ether.specs.Counted.{counted}
@@ -36,41 +37,11 @@ use Rattle.rm_ether.proofs.Sources.{sum_more, is_source}
 
 pub no_sum : (each : Counter) → counter_of no_sums each ≡ 0
 no_sum DropEvents = refl
-no_sum Octets = refl
-no_sum Pkts = refl
-no_sum BroadcastPkts = refl
-no_sum MulticastPkts = refl
-no_sum CRCAlignErrors = refl
-no_sum UndersizePkts = refl
-no_sum OversizePkts = refl
-no_sum Fragments = refl
-no_sum Jabbers = refl
-no_sum Collisions = refl
-no_sum Pkts64Octets = refl
-no_sum Pkts65to127Octets = refl
-no_sum Pkts128to255Octets = refl
-no_sum Pkts256to511Octets = refl
-no_sum Pkts512to1023Octets = refl
-no_sum Pkts1024to1518Octets = refl
+no_sum each = refl
 
 pub one_more_sum : (facts : Facts) (statistics : Statistics) (each : Counter) → counter_of (with_frame facts statistics) each ≡ (counter_of statistics each + counted each facts) % 2 ^ 64
 one_more_sum facts statistics DropEvents = refl
-one_more_sum facts statistics Octets = refl
-one_more_sum facts statistics Pkts = refl
-one_more_sum facts statistics BroadcastPkts = refl
-one_more_sum facts statistics MulticastPkts = refl
-one_more_sum facts statistics CRCAlignErrors = refl
-one_more_sum facts statistics UndersizePkts = refl
-one_more_sum facts statistics OversizePkts = refl
-one_more_sum facts statistics Fragments = refl
-one_more_sum facts statistics Jabbers = refl
-one_more_sum facts statistics Collisions = refl
-one_more_sum facts statistics Pkts64Octets = refl
-one_more_sum facts statistics Pkts65to127Octets = refl
-one_more_sum facts statistics Pkts128to255Octets = refl
-one_more_sum facts statistics Pkts256to511Octets = refl
-one_more_sum facts statistics Pkts512to1023Octets = refl
-one_more_sum facts statistics Pkts1024to1518Octets = refl
+one_more_sum facts statistics each = refl
 
 -- a row that is changed was there
 was_there : (f : Row StatisticsRow → Row StatisticsRow) (o : Option (Row StatisticsRow)) (row : Row StatisticsRow) → option_map f o ≡ Some row → (old : Row StatisticsRow) × (o ≡ Some old) × (f old ≡ row)
@@ -174,27 +145,9 @@ module _ (settings : Settings) (journal : Journal) (frame : Frame) (facts : Fact
 
 -- A Set with which nothing is wrong.
 
-in_some : {A : Type 0} (x y : A) → Some x ≡ Some y → x ≡ y
-in_some x y e = cc
-
--- a row that is there after a Set has its next state and the bindings in its columns
-is_after : (bs : Bindings) (i : ℕ) (o : Option (Row StatisticsRow)) (row : Row StatisticsRow) → row_after ether_stats with_column blank_row bs i o ≡ Some row
-    → (row.state ≡ next_state (set_ask ether_stats bs (i ∷ [])) (state_seen o)) × (row.columns ≡ put_all ether_stats with_column blank_row bs i (unwrap_or (columns_seen o) blank_row))
-is_after bs i o row is =
-    let next : State = next_state (set_ask ether_stats bs (i ∷ [])) (state_seen o) in
-    let columns : StatisticsRow = put_all ether_stats with_column blank_row bs i (unwrap_or (columns_seen o) blank_row) in
-    let made : Row StatisticsRow = record { index = i; state = next; columns = columns } in
-    let same : made ≡ row = there made (is_absent next) is in
-    (ap (λ r. r.state) (sym same), ap (λ r. r.columns) (sym same))
-  where
-    there : (made : Row StatisticsRow) (b : Bool) → cond b None (Some made) ≡ Some row → made ≡ row
-    there made true e = absurd (cc)
-    there made false e = in_some made row e
-
 valid_is : (s : State) → is_valid s ≡ true → s ≡ Valid
-valid_is Absent h = cc
-valid_is UnderCreation h = cc
 valid_is Valid h = refl
+valid_is s h = cc
 
 not_first : (a b : Bool) → b ≡ true → (a && b) ≡ false → a ≡ false
 not_first true b is h = absurd (cc)
@@ -228,7 +181,7 @@ module _ (settings : Settings) (journal : Journal) (moment : ℕ) (bs : Bindings
     was = row_in rows i
 
     next : (mid.state ≡ next_state (set_ask ether_stats bs place) (state_seen was)) × (mid.columns ≡ put_all ether_stats with_column blank_row bs i (unwrap_or (columns_seen was) blank_row))
-    next = is_after bs i was mid (sym (after i) ∙ here)
+    next = is_after ether_stats with_column blank_row bs i was mid (sym (after i) ∙ here)
 
     new_state : mid.state ≡ ether_state settings with_set place
     new_state = state_is settings middle with_set middle_rows i mid here
@@ -254,7 +207,7 @@ module _ (settings : Settings) (journal : Journal) (moment : ℕ) (bs : Bindings
     same_source old valid =
         let was_valid : state_seen was ≡ Valid = is.alike.states i ∙ valid_is (ether_state settings journal place) old in
         let stays : is_valid (next_state (set_ask ether_stats bs place) Valid) ≡ true = ap (λ s. is_valid (next_state (set_ask ether_stats bs place) s)) (sym was_valid) ∙ sym (ap is_valid next.0) ∙ valid in
-        let unbound : value_given values (cell_name ether_stats.entry 2 place) ≡ None = gives (cell_name ether_stats.entry 2 place) ∙ fixed_column ether_stats (rows_before set_to rows) bs together 2 i refl refl was_valid stays in
+        let unbound : value_given values (cell_name ether_stats.entry 2 place) ≡ None = gives (cell_name ether_stats.entry 2 place) ∙ fixed_column ether_stats (rows_before set_to rows) bs together i 2 refl refl was_valid stays in
         ap (λ o. unwrap_or (option_or o (cond (is_absent (ether_state settings journal place)) None (set_value ether_stats (ether_beginning settings) journal place 2))) (default_of ether_stats 2)) unbound
         ∙ ap (λ b. unwrap_or (cond b None (set_value ether_stats (ether_beginning settings) journal place 2)) (default_of ether_stats 2)) (there_is (ether_state settings journal place) old)
 

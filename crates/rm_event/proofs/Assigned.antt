@@ -16,7 +16,8 @@ use Rattle.rm_status.specs.Commit.{row_after}
 use Rattle.rm_status.specs.RowsAfter.{AreRowsAfter}
 use Rattle.rm_status.proofs.Bares.{state_then}
 use Rattle.rm_status.proofs.Puts.{all_fine}
-use Rattle.rm_status.proofs.RowsAfterLemmas.{rows_assigns, fixed_column}
+use Rattle.rm_status.proofs.RowsAfterLemmas.{rows_assigns}
+use Rattle.rm_status.proofs.Bound.{fixed_column}
 use Rattle.rm_event.specs.declared.log.Log.{Log}
 use Rattle.rm_pool.specs.declared.slot.Slot.{Slot}
 use Rattle.rm_event.specs.EventType.{type_in}
@@ -85,7 +86,7 @@ module _ (settings : Settings) (journal : Journal) (moment : ℕ) (bs : Bindings
         let asked : set_ask event_table values place ≡ set_ask event_table bs place = ap (value_ask event_table.status_kind) (gives (cell_name event_table.entry event_table.status place)) in
         let remains : is_valid (next_state (set_ask event_table bs place) Valid) ≡ true =
         ap (λ s. is_valid (next_state (set_ask event_table bs place) s)) (sym (valid_is (event_state journal place) old)) ∙ ap (λ a. is_valid (next_state a (event_state journal place))) (sym asked) ∙ valid in
-        let unbound : value_given values (cell_name event_table.entry 3 place) ≡ None = gives (cell_name event_table.entry 3 place) ∙ fixed_column event_table (rows_before set_to rows) bs together 3 event refl refl was_valid remains in
+        let unbound : value_given values (cell_name event_table.entry 3 place) ≡ None = gives (cell_name event_table.entry 3 place) ∙ fixed_column event_table (rows_before set_to rows) bs together event 3 refl refl was_valid remains in
         ap (λ o. type_in (unwrap_or (option_or o (cond (is_absent (event_state journal place)) None (set_value event_table no_rows journal place 3))) (default_of event_table 3))) unbound
         ∙ ap (λ b. type_in (unwrap_or (cond b None (set_value event_table no_rows journal place 3)) (default_of event_table 3))) (valid_there (event_state journal place) old)
 

@@ -19,7 +19,8 @@ use Rattle.rm_status.specs.Commit.{row_after}
 use Rattle.rm_status.specs.RowsAfter.{AreRowsAfter}
 use Rattle.rm_status.proofs.Bares.{state_then}
 use Rattle.rm_status.proofs.Puts.{AllFine}
-use Rattle.rm_status.proofs.RowsAfterLemmas.{rows_assigns, since_starts, frames_kept, fixed_column}
+use Rattle.rm_status.proofs.RowsAfterLemmas.{rows_assigns, since_starts, frames_kept, is_after}
+use Rattle.rm_status.proofs.Bound.{fixed_column}
 use Rattle.rm_history.specs.declared.control_columns.ControlColumns.{ControlColumns}
 use Rattle.rm_history.specs.declared.plan.Plan.{Plan}
 use Rattle.rm_history.specs.declared.run.Run.{Run}
@@ -35,7 +36,6 @@ use Rattle.rm_pool.specs.Pools.{valid_in, IsOfValid, IsThere, Allowed}
 use Rattle.rm_history.specs.Runs.{Fits, AllFit, IsBegun}
 use Rattle.rm_history.specs.Standing.{IsRun, IsHistory, AreHistories}
 use Rattle.rm_history.specs.Begun.{plan_from, if_valid, valid_columns, Begins}
-use Rattle.rm_history.proofs.InRange.{is_after}
 
 valid_is : (s : State) → is_valid s ≡ true → s ≡ Valid
 valid_is Absent h = cc
@@ -100,14 +100,14 @@ module _ (settings : Settings) (journal : Journal) (now : ℕ) (bs : Bindings) (
       next_is : (o p : Option (Row ControlColumns)) → row_in rows i ≡ o → row_in new i ≡ p → is_valid (next_state (set_ask history_control bs place) Valid) ≡ true
       next_is o None e k = let no : is_valid Absent ≡ true = ap (λ x. is_valid (state_seen x)) (sym k) ∙ valid in absurd (cc)
       next_is o (Some row) e k =
-          let next = is_after bs i (row_in rows i) row (sym (after i) ∙ k) in
+          let next = is_after history_control with_column blank_columns bs i (row_in rows i) row (sym (after i) ∙ k) in
           ap (λ s. is_valid (next_state (set_ask history_control bs place) s)) (sym was_valid) ∙ sym (ap is_valid next.0) ∙ ap (λ x. is_valid (state_seen x)) (sym k) ∙ valid
 
       -- its columns are as they were, but for the owner
       same_column : (n : ℕ) → nat_eq n 7 ≡ false → is_always history_control n ≡ false → control_set with_set place n ≡ control_set journal place n
       same_column n column fixed =
           let unbound : value_given values (cell_name history_control.entry n place) ≡ None = gives (cell_name history_control.entry n place)
-          ∙ fixed_column history_control (rows_before set_to rows) bs together n i column fixed was_valid (next_is (row_in rows i) (row_in new i) refl refl) in
+          ∙ fixed_column history_control (rows_before set_to rows) bs together i n column fixed was_valid (next_is (row_in rows i) (row_in new i) refl refl) in
           ap (λ o. unwrap_or (option_or o (cond (is_absent (control_state journal place)) None (set_value history_control no_rows journal place n))) (default_of history_control n)) unbound
           ∙ ap (λ b. unwrap_or (cond b None (set_value history_control no_rows journal place n)) (default_of history_control n)) (there_is (control_state journal place) old)
 

@@ -1,5 +1,5 @@
 -- What the history of a row shows, by the definitions.
-use Rattle.std.proofs.Common.{◌≡◌, ℕ, [], ◌∷◌, ◌++◌, refl, Option, Some, None}
+use Rattle.std.proofs.Common.{◌≡◌, ℕ, List, [], ◌∷◌, ◌++◌, map, refl, Option, Some, None}
 use Rattle.std.specs.Prelude.{pos}
 use Rattle.rm_val.specs.Val.{Val, int, counter, ticks}
 use Rattle.rm_model.specs.Journal.{Act, Assignment, passes, assigns, Journal}
@@ -26,99 +26,66 @@ before = assigns 2000 (set 7 1 ∷ []) ∷ assigns 1500 (set 3 2 ∷ set 5 10 �
 abbrev journal : Journal
 journal = frame 12000 ∷ frame 11999 ∷ before
 
--- what a bucket of row 1 shows in a column at a moment
-abbrev shown : Journal → ℕ → ℕ → ℕ → Option Val
+-- what a bucket of row 1 shows in some columns at a moment, and how many packets its buckets 1 to 3 do
+abbrev shown : Journal → (now column bucket : ℕ) → Option Val
 shown j now column bucket = cells_of (sample_table plain j now) (sample_entry ++ column ∷ 1 ∷ bucket ∷ [])
 
--- what row 1 of the control table shows
-abbrev control : Journal → ℕ → Option Val
-control j column = cells_of (control_table j) (control_entry ++ column ∷ 1 ∷ [])
+abbrev bucket_shown : Journal → (now bucket : ℕ) → List ℕ → List (Option Val)
+bucket_shown j now bucket columns = map (λ column. shown j now column bucket) columns
 
-start : shown journal 12000 3 1 ≡ Some (ticks 200)
+abbrev packets : Journal → (now : ℕ) → List (Option Val)
+packets j now = map (λ bucket. shown j now 6 bucket) (1 ∷ 2 ∷ 3 ∷ [])
+
+-- what row 1 of the control table shows in some columns
+abbrev control : Journal → List ℕ → List (Option Val)
+control j columns = map (λ column. cells_of (control_table j) (control_entry ++ column ∷ 1 ∷ [])) columns
+
+-- start, octets, packets and utilization of the first bucket
+first_bucket : bucket_shown journal 12000 1 (3 ∷ 5 ∷ 6 ∷ 15 ∷ []) ≡ Some (ticks 200) ∷ Some (counter 64) ∷ Some (counter 1) ∷ Some (int (pos 0)) ∷ []
 unfolding sample_column
-start = refl
+first_bucket = refl
 
-octets : shown journal 12000 5 1 ≡ Some (counter 64)
-unfolding sample_column
-octets = refl
-
-packets : shown journal 12000 6 1 ≡ Some (counter 1)
-unfolding sample_column
-packets = refl
-
-utilized : shown journal 12000 15 1 ≡ Some (int (pos 0))
-unfolding sample_column
-utilized = refl
-
-second_not_complete : shown journal 12000 6 2 ≡ None
-second_not_complete = refl
-
-none_complete : shown journal 11999 6 1 ≡ None
+-- the first bucket is complete at 12000
+none_complete : packets journal 11999 ≡ None ∷ None ∷ None ∷ []
 none_complete = refl
 
+first_complete : packets journal 12000 ≡ Some (counter 1) ∷ None ∷ None ∷ []
+unfolding sample_column
+first_complete = refl
+
 -- at 31999 the first two are shown, and a millisecond later the second and the third
-first_still : shown journal 31999 6 1 ≡ Some (counter 1)
+two_complete : packets journal 31999 ≡ Some (counter 1) ∷ Some (counter 1) ∷ None ∷ []
 unfolding sample_column
-first_still = refl
+two_complete = refl
 
-second : shown journal 31999 6 2 ≡ Some (counter 1)
+first_gone : packets journal 32000 ≡ None ∷ Some (counter 1) ∷ Some (counter 0) ∷ []
 unfolding sample_column
-second = refl
-
-third_not_yet : shown journal 31999 6 3 ≡ None
-third_not_yet = refl
-
-first_gone : shown journal 32000 6 1 ≡ None
 first_gone = refl
 
-second_still : shown journal 32000 6 2 ≡ Some (counter 1)
-unfolding sample_column
-second_still = refl
-
-third : shown journal 32000 6 3 ≡ Some (counter 0)
-unfolding sample_column
-third = refl
-
--- the control row
-granted_two : control journal 4 ≡ Some (int (pos 2))
+-- the control row: two buckets are granted, and it is valid
+granted_two : control journal (4 ∷ 7 ∷ []) ≡ Some (int (pos 2)) ∷ Some (int (pos 1)) ∷ []
 unfolding control_column
 granted_two = refl
 
-valid : control journal 7 ≡ Some (int (pos 1))
-unfolding control_column
-valid = refl
-
--- a new row shows the defaults, and nothing is granted to it
+-- a new row shows the defaults, nothing is granted to it, and it is under creation
 abbrev made : Journal
 made = assigns 1100 (set 7 2 ∷ []) ∷ []
 
-requested_50 : control made 3 ≡ Some (int (pos 50))
+just_made : control made (3 ∷ 4 ∷ 5 ∷ 7 ∷ []) ≡ Some (int (pos 50)) ∷ Some (int (pos 0)) ∷ Some (int (pos 1800)) ∷ Some (int (pos 3)) ∷ []
 unfolding control_column
-requested_50 = refl
-
-granted_none : control made 4 ≡ Some (int (pos 0))
-unfolding control_column
-granted_none = refl
-
-interval_1800 : control made 5 ≡ Some (int (pos 1800))
-unfolding control_column
-interval_1800 = refl
-
-under_creation : control made 7 ≡ Some (int (pos 3))
-unfolding control_column
-under_creation = refl
+just_made = refl
 
 -- 65535 buckets are more than are granted
-granted_most : control (assigns 1200 (set 7 1 ∷ []) ∷ assigns 1150 (set 3 65535 ∷ []) ∷ made) 4 ≡ Some (int (pos 1024))
+granted_most : control (assigns 1200 (set 7 1 ∷ []) ∷ assigns 1150 (set 3 65535 ∷ []) ∷ made) (4 ∷ []) ≡ Some (int (pos 1024)) ∷ []
 unfolding control_column
 granted_most = refl
 
 -- a row that is valid again, and not anew, keeps its history; under creation it has none
-kept_on : shown (assigns 12500 (set 7 1 ∷ []) ∷ journal) 13000 6 1 ≡ Some (counter 1)
+kept_on : packets (assigns 12500 (set 7 1 ∷ []) ∷ journal) 13000 ≡ Some (counter 1) ∷ None ∷ None ∷ []
 unfolding sample_column
 kept_on = refl
 
-ended : shown (assigns 12500 (set 7 3 ∷ []) ∷ journal) 13000 6 1 ≡ None
+ended : packets (assigns 12500 (set 7 3 ∷ []) ∷ journal) 13000 ≡ None ∷ None ∷ None ∷ []
 ended = refl
 
 -- the utilization is at most 100 percent, and rounded down

@@ -1,20 +1,19 @@
 -- The columns of rows stay in range.
-use Rattle.std.proofs.Common.{◌≡◌, ℕ, ◌≤◌, List, [], ◌∷◌, Bool, true, false, cond, ◌||◌, ◌&&◌, Option, Some, None, refl, sym, ◌∙◌, ap, subst, nat_eq, nat_le, arith}
-use Rattle.std.specs.Prelude.{pos, negsuc, unwrap_or}
+use Rattle.std.proofs.Common.{◌≡◌, ℕ, ◌≤◌, List, [], ◌∷◌, Bool, true, false, cond, ◌||◌, ◌&&◌, Option, Some, None, refl, sym, ◌∙◌, subst, nat_eq, nat_le, arith}
+use Rattle.std.specs.Prelude.{pos, unwrap_or}
 use Rattle.std.specs.Option.{option_or}
-use Rattle.rm_val.specs.Val.{Val, int, octets, null, name, ip, counter, gauge, ticks, opaque_octets, big, no_object, no_instance, end_of_view}
+use Rattle.rm_val.specs.Val.{Val, int, name}
 use Rattle.rm_val.specs.declared.error.ErrorStatus.{ErrorStatus}
 use Rattle.rm_val.specs.declared.error.ErrorStatus.TheVariants.{WrongValue}
 use Rattle.rm_model.specs.ControlTable.{number}
-use Rattle.rm_model.specs.ControlRows.{is_absent, next_state, set_ask}
 use Rattle.rm_model.specs.Judgement.{Bindings, column_kind, value_fault, alone_fault, writable_kind, place_of, unless}
 use Rattle.rm_model.specs.declared.place.Place.{Place}
 use Rattle.rm_model.specs.declared.place.Place.TheVariants.{Outside, Entry, Column, Cell}
-use Rattle.rm_model.specs.declared.row.State.{State}
 use Rattle.rm_status.specs.declared.row.Row.{Row}
-use Rattle.rm_status.specs.Rows.{row_in, state_seen, columns_seen}
+use Rattle.rm_status.specs.Rows.{row_in, columns_seen}
 use Rattle.rm_status.specs.Commit.{put_at, put_all, row_after}
 use Rattle.rm_status.specs.Values.{natural_in}
+use Rattle.rm_status.proofs.RowsAfterLemmas.{is_after}
 use Rattle.rm_status.proofs.Puts.{AllFine}
 use Rattle.rm_history.specs.declared.control_columns.ControlColumns.{ControlColumns}
 use Rattle.rm_history.specs.HistoryControl.{history_control}
@@ -33,19 +32,7 @@ between a b c fine =
 
 bounded : (least greatest : ℕ) (value : Val) → value_fault (Some (number (record { least = pos least; greatest = pos greatest } ∷ []))) value ≡ None → (least ≤ natural_in value) × (natural_in value ≤ greatest)
 bounded least greatest (int (pos n)) fine = between least n greatest fine
-bounded least greatest (int (negsuc n)) fine = absurd (cc)
-bounded least greatest (octets bytes) fine = absurd (cc)
-bounded least greatest null fine = absurd (cc)
-bounded least greatest (name numbers) fine = absurd (cc)
-bounded least greatest (ip bytes) fine = absurd (cc)
-bounded least greatest (counter n) fine = absurd (cc)
-bounded least greatest (gauge n) fine = absurd (cc)
-bounded least greatest (ticks n) fine = absurd (cc)
-bounded least greatest (opaque_octets bytes) fine = absurd (cc)
-bounded least greatest (big n) fine = absurd (cc)
-bounded least greatest no_object fine = absurd (cc)
-bounded least greatest no_instance fine = absurd (cc)
-bounded least greatest end_of_view fine = absurd (cc)
+bounded least greatest other fine = absurd (cc)
 
 -- columns with one of them set to a value that it takes
 module _ (columns : ControlColumns) (n : ℕ) (value : Val) (fine : value_fault (column_kind history_control n) value ≡ None) (is : AreInRange columns) where
@@ -104,27 +91,10 @@ blank_in_range = record {
   most_interval = omega arith;
 }
 
--- a row that is there after a Set has its next state and the bindings in its columns
-pub is_after : (bs : Bindings) (i : ℕ) (o : Option (Row ControlColumns)) (row : Row ControlColumns) → row_after history_control with_column blank_columns bs i o ≡ Some row
-    → (row.state ≡ next_state (set_ask history_control bs (i ∷ [])) (state_seen o)) × (row.columns ≡ put_all history_control with_column blank_columns bs i (unwrap_or (columns_seen o) blank_columns))
-is_after bs i o row is =
-    let next : State = next_state (set_ask history_control bs (i ∷ [])) (state_seen o) in
-    let columns : ControlColumns = put_all history_control with_column blank_columns bs i (unwrap_or (columns_seen o) blank_columns) in
-    let made : Row ControlColumns = record { index = i; state = next; columns = columns } in
-    let same : made ≡ row = there made (is_absent next) is in
-    (ap (λ r. r.state) (sym same), ap (λ r. r.columns) (sym same))
-  where
-    in_some : (x y : Row ControlColumns) → Some x ≡ Some y → x ≡ y
-    in_some x y e = cc
-
-    there : (made : Row ControlColumns) (b : Bool) → cond b None (Some made) ≡ Some row → made ≡ row
-    there made true e = absurd (cc)
-    there made false e = in_some made row e
-
 -- so are the rows after a Set
 pub rows_in_range : (bs : Bindings) (rows new : List (Row ControlColumns)) → AllFine history_control bs → ((i : ℕ) → row_in new i ≡ row_after history_control with_column blank_columns bs i (row_in rows i)) → AreAllInRange rows → AreAllInRange new
 rows_in_range bs rows new fine after are i row here =
-    let next = is_after bs i (row_in rows i) row (sym (after i) ∙ here) in
+    let next = is_after history_control with_column blank_columns bs i (row_in rows i) row (sym (after i) ∙ here) in
     subst AreInRange (sym next.1) (all_put bs i (unwrap_or (columns_seen (row_in rows i)) blank_columns) fine (was (row_in rows i) refl))
   where
     was : (o : Option (Row ControlColumns)) → row_in rows i ≡ o → AreInRange (unwrap_or (columns_seen o) blank_columns)

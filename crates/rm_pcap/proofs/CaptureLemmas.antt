@@ -3,7 +3,7 @@ use Rattle.std.proofs.Common.{◌≡◌, ℕ, ◌+◌, ◌≤◌, List, length, 
 use Rattle.std.proofs.lemmas.List.{length-take, drop-drop}
 use Rattle.rm_edge.specs.Outside.{Held, File}
 use Rattle.rm_pcap.specs.declared.fault.PcapFault.{PcapFault}
-use Rattle.rm_pcap.specs.declared.fault.PcapFault.TheVariants.{Magic, Version, LinkType, Included, Original, Late, TooMany, Read, NoMemory}
+use Rattle.rm_pcap.specs.declared.fault.PcapFault.TheVariants.{Read, NoMemory}
 use Rattle.rm_pcap.specs.declared.reach.Reach.{Reach}
 use Rattle.rm_pcap.specs.declared.record.Record.{Record}
 use Rattle.rm_pcap.specs.declared.record.Seen.{Seen}
@@ -19,15 +19,9 @@ use Rattle.rm_window.proofs.WindowLemmas.{front_behind}
 
 -- a capture that doesn't begin by a fault of its header
 pub begins_not : (bytes : List ℕ) (fault : PcapFault) → IsHeaderFault fault → header_of bytes ≡ Err fault → BeginsAs bytes (Err fault)
-begins_not bytes Magic is e = e
-begins_not bytes Version is e = e
-begins_not bytes LinkType is e = e
-begins_not bytes (Included at) is e = e
-begins_not bytes (Original at) is e = e
-begins_not bytes (Late at) is e = e
-begins_not bytes TooMany is e = e
 begins_not bytes Read is e = absurd is
 begins_not bytes NoMemory is e = absurd is
+begins_not bytes fault is e = e
 
 -- the header that was read is judged as the file's
 pub header_read : (bytes header : List ℕ) (count : ℕ) → length header ≡ 24 → Fills bytes 0 count header → header_of (take count header) ≡ header_of bytes

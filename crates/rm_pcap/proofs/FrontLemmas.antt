@@ -1,5 +1,5 @@
 -- The numbers of a header stand in its octets alone.
-use Rattle.std.proofs.Common.{◌≡◌, ℕ, zero, suc, ◌+◌, ◌-◌, ◌≤◌, ◌<◌, nat_le, List, length, take, drop, Option, Some, None, refl, ap, ◌∙◌, arith}
+use Rattle.std.proofs.Common.{◌≡◌, ℕ, zero, suc, ◌+◌, ◌-◌, ◌*◌, ◌^◌, ◌≤◌, ◌<◌, nat_le, List, length, take, drop, Option, Some, None, refl, sym, ap, ◌∙◌, arith}
 use Rattle.std.specs.Prelude.{slice_index}
 use Rattle.std.proofs.lemmas.List.{get_or-take, length-take}
 use Rattle.std.proofs.lemmas.Bool.Decides.{nat_tests}
@@ -16,19 +16,19 @@ use Rattle.rm_pcap.specs.Seen.{record_of}
 index_front : (k i : ℕ) (xs : List ℕ) → i < k → slice_index (take k xs) i ≡ slice_index xs i
 index_front k i xs below = get_or-take k xs i 0 below
 
+-- a number that is made up octet by octet
+from_front : (from : ℕ → ℕ → List ℕ → ℕ) (step : ℕ → ℕ → ℕ → ℕ) → ((i : ℕ) (xs ys : List ℕ) → from i 0 xs ≡ from i 0 ys) → ((i n : ℕ) (xs : List ℕ) → from i (suc n) xs ≡ step n (slice_index xs i) (from (suc i) n xs))
+    → (i n k : ℕ) (xs : List ℕ) → i + n ≤ k → from i n (take k xs) ≡ from i n xs
+from_front from step ends goes_on i zero k xs fits = ends i (take k xs) xs
+from_front from step ends goes_on i (suc n) k xs fits =
+    goes_on i n (take k xs) ∙ ap (λ digit. step n digit (from (suc i) n (take k xs))) (index_front k i xs (omega (arith, fits)))
+    ∙ ap (step n (slice_index xs i)) (from_front from step ends goes_on (suc i) n k xs (omega (arith, fits))) ∙ sym (goes_on i n xs)
+
 big_front : (i n k : ℕ) (xs : List ℕ) → i + n ≤ k → big_from i n (take k xs) ≡ big_from i n xs
-big_front i zero k xs fits = refl
-big_front i (suc n) k xs fits =
-    let here : slice_index (take k xs) i ≡ slice_index xs i = index_front k i xs (omega (arith, fits)) in
-    let more : big_from (suc i) n (take k xs) ≡ big_from (suc i) n xs = big_front (suc i) n k xs (omega (arith, fits)) in
-    rw (here, more) refl
+big_front = from_front big_from (λ n digit more. digit * 256 ^ n + more) (λ i xs ys. refl) (λ i n xs. refl)
 
 little_front : (i n k : ℕ) (xs : List ℕ) → i + n ≤ k → little_from i n (take k xs) ≡ little_from i n xs
-little_front i zero k xs fits = refl
-little_front i (suc n) k xs fits =
-    let here : slice_index (take k xs) i ≡ slice_index xs i = index_front k i xs (omega (arith, fits)) in
-    let more : little_from (suc i) n (take k xs) ≡ little_from (suc i) n xs = little_front (suc i) n k xs (omega (arith, fits)) in
-    rw (here, more) refl
+little_front = from_front little_from (λ n digit more. digit + 256 * more) (λ i xs ys. refl) (λ i n xs. refl)
 
 -- a number that stands within the front of some octets
 pub number_front : (order : Order) (n at m : ℕ) (xs : List ℕ) → at + n ≤ m → number_at order n at (take m xs) ≡ number_at order n at xs

@@ -9,7 +9,7 @@ use Rattle.rm_model.specs.declared.row.StatusKind.{StatusKind}
 use Rattle.rm_model.specs.declared.row.State.{State}
 use Rattle.rm_model.specs.declared.row.State.TheVariants.{Absent}
 use Rattle.rm_model.specs.declared.row.Ask.{Ask}
-use Rattle.rm_model.specs.declared.row.Ask.TheVariants.{Nothing, Create, CreateValid, Enable, Disable, Destroy}
+use Rattle.rm_model.specs.declared.row.Ask.TheVariants.{Nothing, Create, CreateValid}
 use Rattle.rm_model.specs.Journal.{Assignment}
 use Rattle.rm_model.specs.ControlTable.{ControlTable}
 use Rattle.rm_model.specs.ControlRows.{value_ask, set_ask, next_state, is_absent}
@@ -41,27 +41,17 @@ joined None m false b = refl
 -- a row that was just made stays as it was made
 settles : (a : Ask) → next_state a (next_state a Absent) ≡ next_state a Absent
 settles Nothing = refl
-settles Create = refl
-settles CreateValid = refl
-settles Enable = refl
-settles Disable = refl
-settles Destroy = refl
+settles ask = refl
 
 stays_absent : (a : Ask) → is_made Absent a ≡ false → is_absent (next_state a Absent) ≡ true
-stays_absent Nothing h = refl
 stays_absent Create h = cc
 stays_absent CreateValid h = cc
-stays_absent Enable h = refl
-stays_absent Disable h = refl
-stays_absent Destroy h = refl
+stays_absent ask h = refl
 
 pub made_there : (a : Ask) → is_made Absent a ≡ true → is_absent (next_state a Absent) ≡ false
-made_there Nothing h = cc
 made_there Create h = refl
 made_there CreateValid h = refl
-made_there Enable h = cc
-made_there Disable h = cc
-made_there Destroy h = cc
+made_there ask h = cc
 
 -- a Set that makes a row has a binding of its status
 asked_of : (kind : StatusKind) (o : Option Assignment) → is_made Absent (value_ask kind (option_map (λ a. a.value) o)) ≡ true → (a : Assignment) × (o ≡ Some a)

@@ -18,6 +18,7 @@ pub mod ColumnLaws
 pub mod IndexLemmas
 pub mod Named
 pub mod RowsAfterLemmas
+pub mod Bound
 pub mod Valid
 pub mod Bares
 pub mod KeptCellsLaws

@@ -1,22 +1,21 @@
 -- The rows of a control table after each act.
-use Rattle.std.proofs.Common.{◌≡◌, ℕ, ◌<◌, suc, List, [], ◌∷◌, length, Bool, true, false, cond, not, ◌&&◌, Option, Some, None, refl, sym, ap, subst, ◌∙◌, nat_eq, find, option_map, arith}
-use Rattle.std.specs.Prelude.{ℤ}
+use Rattle.std.proofs.Common.{◌≡◌, ℕ, List, [], ◌∷◌, Bool, true, false, cond, not, ◌&&◌, Option, Some, None, refl, sym, ap, subst, ◌∙◌, nat_eq, find, option_map}
+use Rattle.std.specs.Prelude.{ℤ, unwrap_or}
 use Rattle.std.specs.Option.{option_or, option_and_then}
 use Rattle.std.specs.Str.{bytes_eq}
+use Rattle.std.proofs.lemmas.Option.{none-some, same_Some}
 use Rattle.std.proofs.lemmas.Slice.Eq.{bytes_eq-Decides}
 use Rattle.rm_val.specs.Val.{Val}
 use Rattle.rm_val.specs.declared.error.ErrorStatus.{ErrorStatus}
-use Rattle.rm_val.specs.declared.error.ErrorStatus.TheVariants.{InconsistentValue, NoCreation}
+use Rattle.rm_val.specs.declared.error.ErrorStatus.TheVariants.{NoCreation}
 use Rattle.rm_model.specs.declared.row.State.{State}
-use Rattle.rm_model.specs.declared.row.State.TheVariants.{Absent, UnderCreation, Valid}
-use Rattle.rm_model.specs.declared.row.Ask.{Ask}
-use Rattle.rm_model.specs.declared.row.Ask.TheVariants.{Nothing, Create, CreateValid, Enable, Disable, Destroy}
+use Rattle.rm_model.specs.declared.row.Ask.TheVariants.{Nothing, Destroy}
 use Rattle.rm_model.specs.declared.place.Place.{Place}
 use Rattle.rm_model.specs.declared.place.Place.TheVariants.{Outside, Entry, Column, Cell}
 use Rattle.rm_model.specs.Journal.{Act, Frame, Assignments, passes, assigns, samples, Journal, frames_in, value_given}
 use Rattle.rm_model.specs.ControlTable.{ControlTable}
 use Rattle.rm_model.specs.ControlRows.{Beginning, cell_name, value_ask, set_ask, act_ask, next_state, is_absent, is_valid, state_of, set_value, stays_valid, since}
-use Rattle.rm_model.specs.Judgement.{Bindings, name_at, place_of, place_behind, value_fault, writable_kind, alone_fault, second_pass, together_fault, row_fault, column_fault, is_always, is_made, is_again, is_crowded, is_ready_with, column_kind, is_sound, unless}
+use Rattle.rm_model.specs.Judgement.{Bindings, place_of, place_behind, value_fault, writable_kind, alone_fault, column_kind, is_sound}
 use Rattle.rm_model.specs.Alike.{HasSameColumns}
 use Rattle.rm_model.proofs.Tables.{behind_front}
 use Rattle.rm_status.specs.declared.row.Row.{Row}
@@ -63,6 +62,16 @@ module _ (t : ControlTable) (beginning : Beginning) (unsampled : t.is_sampled �
   pub state_sampled : state_of t beginning (samples moment alarm reading ∷ journal) index ≡ state_of t beginning journal index
   state_sampled = ap (λ ask. next_state ask (state_of t beginning journal index)) (asks_nothing reading)
 
+-- a change of the rows' other data
+pub state_kept : {C : Type 0} (change : ℕ → State → C → C) (o : Option (Row C)) → state_seen (option_map (changed_row change) o) ≡ state_seen o
+state_kept change None = refl
+state_kept change (Some row) = refl
+
+pub set_kept : {C : Type 0} (set_to : C → ℕ → Option Val) (change : ℕ → State → C → C) → ((index : ℕ) (state : State) (columns : C) (n : ℕ) → set_to (change index state columns) n ≡ set_to columns n)
+    → (o : Option (Row C)) (n : ℕ) → option_and_then (λ c. set_to c n) (columns_seen (option_map (changed_row change) o)) ≡ option_and_then (λ c. set_to c n) (columns_seen o)
+set_kept set_to change keeps None n = refl
+set_kept set_to change keeps (Some row) n = keeps row.index row.state row.columns n
+
 module _ {C : Type 0} (t : ControlTable) (beginning : Beginning) (set_to : C → ℕ → Option Val) where
   -- a frame changes no row
   pub rows_passes : (rows : List (Row C)) (journal : Journal) (frame : Frame) → AreRowsAfter t beginning set_to rows journal → AreRowsAfter t beginning set_to rows (passes frame ∷ journal)
@@ -77,21 +86,13 @@ module _ {C : Type 0} (t : ControlTable) (beginning : Beginning) (set_to : C →
 
   -- a change of the rows' other data leaves what their columns were set to
   module _ (change : ℕ → State → C → C) (keeps : (index : ℕ) (state : State) (columns : C) (n : ℕ) → set_to (change index state columns) n ≡ set_to columns n) (rows new : List (Row C)) (changed : (i : ℕ) → row_in new i ≡ option_map (changed_row change) (row_in rows i)) where
-    state_kept : (o : Option (Row C)) → state_seen (option_map (changed_row change) o) ≡ state_seen o
-    state_kept None = refl
-    state_kept (Some row) = refl
-
-    set_kept : (o : Option (Row C)) (n : ℕ) → option_and_then (λ c. set_to c n) (columns_seen (option_map (changed_row change) o)) ≡ option_and_then (λ c. set_to c n) (columns_seen o)
-    set_kept None n = refl
-    set_kept (Some row) n = keeps row.index row.state row.columns n
-
     pub rows_changed : (journal : Journal) → AreRowsAfter t beginning set_to rows journal → AreRowsAfter t beginning set_to new journal
     rows_changed journal is = record {
       alike = record {
-        states = λ i. ap state_seen (changed i) ∙ state_kept (row_in rows i) ∙ is.alike.states i;
+        states = λ i. ap state_seen (changed i) ∙ state_kept change (row_in rows i) ∙ is.alike.states i;
         columns = λ i there.
-            let was : is_absent (state_in rows i) ≡ false = ap is_absent (sym (ap state_seen (changed i) ∙ state_kept (row_in rows i))) ∙ there in
-            let same : (n : ℕ) → option_and_then (λ c. set_to c n) (columns_in new i) ≡ option_and_then (λ c. set_to c n) (columns_in rows i) = λ n. ap (λ o. option_and_then (λ c. set_to c n) (columns_seen o)) (changed i) ∙ set_kept (row_in rows i) n in
+            let was : is_absent (state_in rows i) ≡ false = ap is_absent (sym (ap state_seen (changed i) ∙ state_kept change (row_in rows i))) ∙ there in
+            let same : (n : ℕ) → option_and_then (λ c. set_to c n) (columns_in new i) ≡ option_and_then (λ c. set_to c n) (columns_in rows i) = λ n. ap (λ o. option_and_then (λ c. set_to c n) (columns_seen o)) (changed i) ∙ set_kept set_to change keeps (row_in rows i) n in
             subst (λ (f : ℕ → Option Val). HasSameColumns t f (set_value t beginning journal (i ∷ []))) (sym (λ d n. same n d)) (is.alike.columns i was);
       };
       others = is.others;
@@ -167,55 +168,15 @@ module _ {C D : Type 0} (t : ControlTable) (with_column : C → ℕ → Val → 
   all_leave [] i c = refl
   all_leave (b ∷ more) i c = put_leaves i (place_of t.entry b.name) b.value (put_all t with_column blank more i c) ∙ all_leave more i c
 
--- A Set gives nothing to a column that is fixed while its row is valid, where the row was valid and stays so.
-
-no_second : (a b : Option ErrorStatus) → option_or a b ≡ None → a ≡ None
-no_second None b e = refl
-no_second (Some x) b e = cc
-
-fixed_fault : (ask : Ask) → column_fault Valid ask false ≡ None → is_valid (next_state ask Valid) ≡ true → ⊥
-fixed_fault Nothing fine stays = cc
-fixed_fault Create fine stays = cc
-fixed_fault CreateValid fine stays = cc
-fixed_fault Enable fine stays = cc
-fixed_fault Disable fine stays = cc
-fixed_fault Destroy fine stays = cc
-
-not_made : (ask : Ask) → is_made Valid ask ≡ false
-not_made Nothing = refl
-not_made Create = refl
-not_made CreateValid = refl
-not_made Enable = refl
-not_made Disable = refl
-not_made Destroy = refl
-
-valid_is : (s : State) → is_valid s ≡ true → s ≡ Valid
-valid_is Absent h = cc
-valid_is UnderCreation h = cc
-valid_is Valid h = refl
-
-module _ (t : ControlTable) (before : Beginning) (bs : Bindings) (fine : (k : ℕ) → k < length bs → second_pass t before bs k ≡ None) (n i : ℕ) (column : nat_eq n t.status ≡ false) (fixed : is_always t n ≡ false)
-    (was : before.state (i ∷ []) ≡ Valid) (stays : is_valid (next_state (set_ask t bs (i ∷ [])) Valid) ≡ true) where
-  abbrev its_name : List ℕ
-  its_name = cell_name t.entry n (i ∷ [])
-
-  not_bound : (k : ℕ) → k < length bs → name_at bs k ≡ its_name → ⊥
-  not_bound k within same =
-      let ask : Ask = set_ask t bs (i ∷ []) in
-      let place : place_of t.entry (name_at bs k) ≡ Cell n i = ap (place_of t.entry) same ∙ ap place_behind (behind_front t.entry (n ∷ i ∷ [])) in
-      let together : together_fault t before bs k (Cell n i) ≡ None = ap (together_fault t before bs k) (sym place) ∙ fine k within in
-      let at_valid : row_fault t Valid ask (is_ready_with t before bs (i ∷ [])) (is_crowded t before bs) (is_again bs k) n ≡ None = ap (λ s. row_fault t s ask (is_ready_with t before bs (i ∷ [])) (is_crowded t before bs) (is_again bs k) n) (sym was) ∙ together in
-      let fault : option_or (column_fault Valid ask false) (unless (not (is_again bs k)) InconsistentValue) ≡ None =
-      rw (not_made ask, column, fixed) at at_valid in
-      fixed_fault ask (no_second _ _ fault) stays
-
-  unbound : (some : Bindings) → ((k : ℕ) → k < length some → name_at some k ≡ its_name → ⊥) → value_given some its_name ≡ None
-  unbound [] none = refl
-  unbound (b ∷ more) none =
-      elim (bytes_eq b.name its_name) as (λ s. bytes_eq b.name its_name ≡ s → option_map (λ a. a.value) (cond s (Some b) (find (λ a. bytes_eq a.name its_name) more)) ≡ None) [
-        | true ↦ λ e. absurd (none 0 (omega arith) ((bytes_eq-Decides b.name its_name).0 e))
-        | false ↦ λ _. unbound more (λ k within. none (suc k) (omega arith))
-      ] refl
-
-  pub fixed_column : value_given bs its_name ≡ None
-  fixed_column = unbound bs not_bound
+-- a row that is there after a Set has its next state and the bindings in its columns
+pub is_after : {C : Type 0} (t : ControlTable) (with_column : C → ℕ → Val → C) (blank : C) (bs : Bindings) (i : ℕ) (o : Option (Row C)) (row : Row C) → row_after t with_column blank bs i o ≡ Some row
+    → (row.state ≡ next_state (set_ask t bs (i ∷ [])) (state_seen o)) × (row.columns ≡ put_all t with_column blank bs i (unwrap_or (columns_seen o) blank))
+is_after {C} t with_column blank bs i o row is =
+    let next : State = next_state (set_ask t bs (i ∷ [])) (state_seen o) in
+    let made : Row C = record { index = i; state = next; columns = put_all t with_column blank bs i (unwrap_or (columns_seen o) blank) } in
+    let same : made ≡ row = there made (is_absent next) is in
+    (ap (λ r. r.state) (sym same), ap (λ r. r.columns) (sym same))
+  where
+    there : (made : Row C) (b : Bool) → cond b None (Some made) ≡ Some row → made ≡ row
+    there made true e = absurd (none-some row e)
+    there made false e = same_Some made row e

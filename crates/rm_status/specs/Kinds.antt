@@ -6,7 +6,7 @@ use Rattle.std.specs.Option.{option_map}
 use borrow.Author.Tests.{eqb-true}
 use Rattle.std.proofs.lemmas.Bool.Decides.{nat_tests}
 use Rattle.std.proofs.lemmas.Slice.Eq.{bytes_eq-Decides}
-use Rattle.rm_val.specs.Val.{Val, int, octets, null, name, ip, counter, gauge, ticks, opaque_octets, big, no_object, no_instance, end_of_view}
+use Rattle.rm_val.specs.Val.{Val, int, octets, name}
 use Rattle.rm_val.specs.declared.error.ErrorStatus.{ErrorStatus}
 use Rattle.rm_val.specs.declared.error.ErrorStatus.TheVariants.{WrongValue, WrongLength}
 use Rattle.rm_model.specs.ControlTable.{Range, Kind, number, text, any_name, data_source}
@@ -19,23 +19,17 @@ use Rattle.arrayvec.specs.ArrayVec.{ArrayVec}
 -- texts of at most so many octets
 abbrev pub holds_texts : ℕ → Kind → Bool
 holds_texts most (text longest) = nat_le longest most
-holds_texts most (number ranges) = false
-holds_texts most any_name = false
-holds_texts most data_source = false
+holds_texts most kind = false
 
 -- every number
 abbrev pub holds_numbers : Kind → Bool
 holds_numbers (number ranges) = true
-holds_numbers (text longest) = false
-holds_numbers any_name = false
-holds_numbers data_source = false
+holds_numbers kind = false
 
 -- the numbers from a least one to a greatest one
 abbrev pub holds_within : ℤ → ℤ → Kind → Bool
 holds_within least greatest (number ranges) = list_all (λ range. int_le least range.least && int_le range.greatest greatest) ranges
-holds_within least greatest (text longest) = false
-holds_within least greatest any_name = false
-holds_within least greatest data_source = false
+holds_within least greatest kind = false
 
 passed : (b : Bool) (status : ErrorStatus) → unless b status ≡ None → b ≡ true
 passed true status fine = refl
@@ -44,47 +38,21 @@ passed false status fine = absurd (cc)
 -- what a column of texts takes, and what one of numbers takes
 pub text_is : (longest : ℕ) (value : Val) → value_fault (Some (text longest)) value ≡ None → (bytes : List ℕ) × (value ≡ octets bytes) × (nat_le (length bytes) longest ≡ true)
 text_is longest (octets bytes) fine = (bytes, refl, passed (nat_le (length bytes) longest) WrongLength fine)
-text_is longest (int n) fine = absurd (cc)
-text_is longest null fine = absurd (cc)
-text_is longest (name numbers) fine = absurd (cc)
-text_is longest (ip bytes) fine = absurd (cc)
-text_is longest (counter n) fine = absurd (cc)
-text_is longest (gauge n) fine = absurd (cc)
-text_is longest (ticks n) fine = absurd (cc)
-text_is longest (opaque_octets bytes) fine = absurd (cc)
-text_is longest (big n) fine = absurd (cc)
-text_is longest no_object fine = absurd (cc)
-text_is longest no_instance fine = absurd (cc)
-text_is longest end_of_view fine = absurd (cc)
+text_is longest other fine = absurd (cc)
 
 pub number_is : (ranges : List Range) (value : Val) → value_fault (Some (number ranges)) value ≡ None → (n : ℤ) × (value ≡ int n) × (is_in ranges n ≡ true)
 number_is ranges (int n) fine = (n, refl, passed (is_in ranges n) WrongValue fine)
-number_is ranges (octets bytes) fine = absurd (cc)
-number_is ranges null fine = absurd (cc)
-number_is ranges (name numbers) fine = absurd (cc)
-number_is ranges (ip bytes) fine = absurd (cc)
-number_is ranges (counter n) fine = absurd (cc)
-number_is ranges (gauge n) fine = absurd (cc)
-number_is ranges (ticks n) fine = absurd (cc)
-number_is ranges (opaque_octets bytes) fine = absurd (cc)
-number_is ranges (big n) fine = absurd (cc)
-number_is ranges no_object fine = absurd (cc)
-number_is ranges no_instance fine = absurd (cc)
-number_is ranges end_of_view fine = absurd (cc)
+number_is ranges other fine = absurd (cc)
 
 -- a text has what it was set to, and room for it
 pub text_shows : (most : ℕ) (kind : Kind) (value : Val) → holds_texts most kind ≡ true → value_fault (Some kind) value ≡ None → Some (octets (octets_in value)) ≡ Some value
 text_shows most (text longest) value holds fine = let it = text_is longest value fine in subst (λ v. Some (octets (octets_in v)) ≡ Some v) (sym it.1) refl
-text_shows most (number ranges) value holds fine = absurd (cc)
-text_shows most any_name value holds fine = absurd (cc)
-text_shows most data_source value holds fine = absurd (cc)
+text_shows most kind value holds fine = absurd (cc)
 
 -- a number is what it was set to
 pub number_shows : (kind : Kind) (value : Val) → holds_numbers kind ≡ true → value_fault (Some kind) value ≡ None → Some (int (number_of value)) ≡ Some value
 number_shows (number ranges) value holds fine = let it = number_is ranges value fine in subst (λ v. Some (int (number_of v)) ≡ Some v) (sym it.1) refl
-number_shows (text longest) value holds fine = absurd (cc)
-number_shows any_name value holds fine = absurd (cc)
-number_shows data_source value holds fine = absurd (cc)
+number_shows kind value holds fine = absurd (cc)
 
 -- What holds of each number from a least one to a greatest one holds of each value that a column within these takes. So a type
 -- of so many variants has a law for these numbers alone.
@@ -109,43 +77,24 @@ module _ (P : Val → Type 0) (least greatest : ℤ) (each : (n : ℤ) → int_l
 
   pub of_within : (kind : Kind) (value : Val) → holds_within least greatest kind ≡ true → value_fault (Some kind) value ≡ None → P value
   of_within (number ranges) value holds fine = let it = number_is ranges value fine in let inside = in_one ranges it.0 holds it.2 in subst P (sym it.1) (each it.0 inside.0 inside.1)
-  of_within (text longest) value holds fine = absurd (cc)
-  of_within any_name value holds fine = absurd (cc)
-  of_within data_source value holds fine = absurd (cc)
+  of_within kind value holds fine = absurd (cc)
 
 -- every name, and the names of the interfaces
 abbrev pub holds_names : Kind → Bool
 holds_names any_name = true
-holds_names (number ranges) = false
-holds_names (text longest) = false
-holds_names data_source = false
+holds_names kind = false
 
 abbrev pub holds_sources : Kind → Bool
 holds_sources data_source = true
-holds_sources (number ranges) = false
-holds_sources (text longest) = false
-holds_sources any_name = false
+holds_sources kind = false
 
 pub name_is : (value : Val) → value_fault (Some any_name) value ≡ None → (numbers : List ℕ) × (value ≡ name numbers)
 name_is (name numbers) fine = (numbers, refl)
-name_is (int n) fine = absurd (cc)
-name_is (octets bytes) fine = absurd (cc)
-name_is null fine = absurd (cc)
-name_is (ip bytes) fine = absurd (cc)
-name_is (counter n) fine = absurd (cc)
-name_is (gauge n) fine = absurd (cc)
-name_is (ticks n) fine = absurd (cc)
-name_is (opaque_octets bytes) fine = absurd (cc)
-name_is (big n) fine = absurd (cc)
-name_is no_object fine = absurd (cc)
-name_is no_instance fine = absurd (cc)
-name_is end_of_view fine = absurd (cc)
+name_is other fine = absurd (cc)
 
 pub name_shows : (kind : Kind) (value : Val) → holds_names kind ≡ true → value_fault (Some kind) value ≡ None → Some (name (name_of value)) ≡ Some value
 name_shows any_name value holds fine = let it = name_is value fine in subst (λ v. Some (name (name_of v)) ≡ Some v) (sym it.1) refl
-name_shows (number ranges) value holds fine = absurd (cc)
-name_shows (text longest) value holds fine = absurd (cc)
-name_shows data_source value holds fine = absurd (cc)
+name_shows kind value holds fine = absurd (cc)
 
 found_passes : (p : ℕ → Bool) (xs : List ℕ) → list_any p xs ≡ true → p (unwrap_or (find p xs) 0) ≡ true
 found_passes p [] is = absurd (cc)
@@ -161,24 +110,11 @@ source_is (name numbers) fine =
     let is : is_interface (name numbers) (interface_in (name numbers)) ≡ true =
     found_passes (λ k. is_interface (name numbers) k) interfaces (passed (is_source (name numbers)) WrongValue fine) in
     ap (λ n. Some (name n)) (sym ((bytes_eq-Decides numbers (interface_name (interface_in (name numbers)))).0 is))
-source_is (int n) fine = absurd (cc)
-source_is (octets bytes) fine = absurd (cc)
-source_is null fine = absurd (cc)
-source_is (ip bytes) fine = absurd (cc)
-source_is (counter n) fine = absurd (cc)
-source_is (gauge n) fine = absurd (cc)
-source_is (ticks n) fine = absurd (cc)
-source_is (opaque_octets bytes) fine = absurd (cc)
-source_is (big n) fine = absurd (cc)
-source_is no_object fine = absurd (cc)
-source_is no_instance fine = absurd (cc)
-source_is end_of_view fine = absurd (cc)
+source_is other fine = absurd (cc)
 
 pub source_shows : (kind : Kind) (value : Val) → holds_sources kind ≡ true → value_fault (Some kind) value ≡ None → Some (name (interface_name (interface_in value))) ≡ Some value
 source_shows data_source value holds fine = source_is value fine
-source_shows (number ranges) value holds fine = absurd (cc)
-source_shows (text longest) value holds fine = absurd (cc)
-source_shows any_name value holds fine = absurd (cc)
+source_shows kind value holds fine = absurd (cc)
 
 -- a text of at most so many octets
 abbrev pub texts : ℕ → FieldOf (ArrayVec ℕ)

@@ -13,7 +13,7 @@ use Rattle.rm_event.specs.declared.events.Events.{Events}
 use Rattle.rm_event.specs.EventTable.{event_state, type_of}
 use Rattle.rm_agent.specs.Notifications.{trap_of}
 use Rattle.rm_agent.specs.Told.{firings_by}
-use Rattle.rm_agent.proofs.DueLemmas.{valid_if_due}
+use Rattle.rm_acts.proofs.DueLaws.{valid_if_due}
 use Rattle.rm_agent.proofs.SampleLemmas.{valid_after, same_event, fires_so}
 use Rattle.rm_agent.proofs.sampling.take.Goals as goal
 

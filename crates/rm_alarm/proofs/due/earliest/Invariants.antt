@@ -1,6 +1,6 @@
 use Rattle.std.proofs.Common.{◌-◌}
 use Rattle.rm_alarm.specs.Due.{due_at}
-use Rattle.rm_alarm.proofs.NextDue.{IsNextTo}
+use Rattle.rm_acts.proofs.NextDueLaws.{IsNextTo}
 use Rattle.rm_alarm.proofs.due.earliest.Given as goal
 
 -- it is the next sample of the alarms so far

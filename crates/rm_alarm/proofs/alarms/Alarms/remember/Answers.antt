@@ -7,11 +7,12 @@ use Rattle.rm_model.specs.declared.verdict.Verdict.TheVariants.{Fine}
 use Rattle.rm_status.specs.declared.row.Row.{Row}
 use Rattle.rm_status.specs.Rows.{row_in}
 use Rattle.rm_status.specs.Change.{changed_row}
+use Rattle.rm_status.proofs.Commits.{index_in}
 use Rattle.rm_status.proofs.RowsAfterLemmas.{rows_changed}
 use Rattle.rm_alarm.specs.declared.row.AlarmRow.{AlarmRow}
 use Rattle.rm_alarm.specs.Rows.{set_to, reading_base, variable_with}
 use Rattle.rm_alarm.proofs.AfterSets.{was_there}
-use Rattle.rm_alarm.proofs.Changes.{kept_changed, based_changed, same_before, named}
+use Rattle.rm_alarm.proofs.Changes.{kept_changed, based_changed, same_before}
 use Rattle.rm_alarm.proofs.NextDue.{next_kept}
 use Rattle.rm_alarm.proofs.Pace.{paced_changed}
 use Rattle.rm_alarm.proofs.alarms.Alarms.remember.Goals as goal
@@ -59,7 +60,7 @@ returns-clause-read g c settings journal agree alarm row here state =
     let readings = g.L.Look.readings c.args.look.now c.args.now in
     let change : ℕ → State → AlarmRow → AlarmRow = λ index state row. reading_base readings bs index row in
     let got = was_there (changed_row change) (row_in c.args.self.now.rows alarm) row (sym (c.change_each.ensures alarm) ∙ here) in
-    let index : got.0.index ≡ alarm = named c.args.self.now.rows alarm got.0 got.1 in
+    let index : got.0.index ≡ alarm = index_in c.args.self.now.rows alarm got.0 got.1 in
     ap (λ (r : Row AlarmRow). r.columns.base) (sym got.2)
     ∙ ap (λ n. readings (variable_with bs n got.0.columns)) index
     ∙ agree (variable_with bs alarm got.0.columns)

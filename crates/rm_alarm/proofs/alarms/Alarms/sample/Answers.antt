@@ -42,36 +42,32 @@ invariant_of-self g c =
       nearest = c.earliest-self.ensures;
     }
 
-pub returns-in-Some-clause-stands : goal.returns-in-Some-clause-stands
-returns-in-Some-clause-stands g c settings journal st based =
-    let fits : SFits w64 c.in-Some.reading.value = search rules in
-    let taken : HasTaken c.args.self.now.rows c.take-sampled.new.rows c.args.index c.args.moment c.in-Some.reading.value c.take-sampled.result = simp (to_z-of_z, fits) at c.take-sampled.ensures in
-    let due = due_row c.args.self.now.rows c.args.index c.args.moment c.requires in
-    let read = reads c.args.self.now.rows c.len.ensures.rows journal st.rows c.args.index c.args.moment due (g.L.Look.readings c.args.look.now c.args.moment) c.read.result _ c.read.ensures c.in-Some.is in
+pub returns-in-Some : goal.returns-in-Some
+returns-in-Some g c =
+    let rows = c.args.self.now.rows in
+    let new = c.take-sampled.new.rows in
+    let index = c.args.index in
+    let moment = c.args.moment in
+    let number = c.in-Some.reading.value in
+    let result = c.take-sampled.result in
+    let held = c.len.ensures.rows in
+    let fits : SFits w64 number = search rules in
+    let taken : HasTaken rows new index moment number result = simp (to_z-of_z, fits) at c.take-sampled.ensures in
+    let due = due_row rows index moment c.requires in
+    let read = λ (journal : Journal) (is : AreRowsAfter alarm_table no_rows set_to rows journal). reads rows held journal is index moment due (g.L.Look.readings c.args.look.now moment) c.read.result _ c.read.ensures c.in-Some.is in
     record {
-      rows = subst (λ (o : Option ℤ). AreRowsAfter alarm_table no_rows set_to c.take-sampled.new.rows (samples c.args.moment c.args.index o ∷ journal)) read
-          (rows_samples settings journal c.args.index c.args.moment c.args.self.now.rows c.take-sampled.new.rows c.len.ensures.rows st.rows st.kept based due.row due.here due.course due.has due.now c.in-Some.reading.value c.take-sampled.result taken);
-      kept = subst (λ (o : Option ℤ). AreKept c.take-sampled.new.rows settings (samples c.args.moment c.args.index o ∷ journal)) read
-          (kept_samples settings journal c.args.index c.args.moment c.args.self.now.rows c.take-sampled.new.rows c.len.ensures.rows st.rows st.kept based due.row due.here due.course due.has due.now c.in-Some.reading.value c.take-sampled.result taken);
+      stands = λ settings journal st based. record {
+        rows = subst (λ (o : Option ℤ). AreRowsAfter alarm_table no_rows set_to new (samples moment index o ∷ journal)) (read journal st.rows)
+            (rows_samples settings journal index moment rows new held st.rows st.kept based due.row due.here due.course due.has due.now number result taken);
+        kept = subst (λ (o : Option ℤ). AreKept new settings (samples moment index o ∷ journal)) (read journal st.rows)
+            (kept_samples settings journal index moment rows new held st.rows st.kept based due.row due.here due.course due.has due.now number result taken);
+      };
+      based = λ settings journal st based. subst (λ (o : Option ℤ). Based new settings (samples moment index o ∷ journal)) (read journal st.rows)
+          (based_samples settings journal index moment rows new held st.rows st.kept based due.row due.here due.course due.has due.now number result taken);
+      result = λ settings journal st based. sample_comes_to settings journal index moment rows new held st.rows st.kept based due.row due.here due.course due.has due.now number result taken
+          ∙ ap (sampled settings journal moment index) (read journal st.rows);
+      fewer = λ latest within. fewer_taken rows new index moment latest within held c.args.self.now.paced due number result taken;
     }
-
-pub returns-in-Some-clause-based : goal.returns-in-Some-clause-based
-returns-in-Some-clause-based g c settings journal st based =
-    let fits : SFits w64 c.in-Some.reading.value = search rules in
-    let taken : HasTaken c.args.self.now.rows c.take-sampled.new.rows c.args.index c.args.moment c.in-Some.reading.value c.take-sampled.result = simp (to_z-of_z, fits) at c.take-sampled.ensures in
-    let due = due_row c.args.self.now.rows c.args.index c.args.moment c.requires in
-    let read = reads c.args.self.now.rows c.len.ensures.rows journal st.rows c.args.index c.args.moment due (g.L.Look.readings c.args.look.now c.args.moment) c.read.result _ c.read.ensures c.in-Some.is in
-    subst (λ (o : Option ℤ). Based c.take-sampled.new.rows settings (samples c.args.moment c.args.index o ∷ journal)) read
-    (based_samples settings journal c.args.index c.args.moment c.args.self.now.rows c.take-sampled.new.rows c.len.ensures.rows st.rows st.kept based due.row due.here due.course due.has due.now c.in-Some.reading.value c.take-sampled.result taken)
-
-pub returns-in-Some-clause-result : goal.returns-in-Some-clause-result
-returns-in-Some-clause-result g c settings journal st based =
-    let fits : SFits w64 c.in-Some.reading.value = search rules in
-    let taken : HasTaken c.args.self.now.rows c.take-sampled.new.rows c.args.index c.args.moment c.in-Some.reading.value c.take-sampled.result = simp (to_z-of_z, fits) at c.take-sampled.ensures in
-    let due = due_row c.args.self.now.rows c.args.index c.args.moment c.requires in
-    let read = reads c.args.self.now.rows c.len.ensures.rows journal st.rows c.args.index c.args.moment due (g.L.Look.readings c.args.look.now c.args.moment) c.read.result _ c.read.ensures c.in-Some.is in
-    sample_comes_to settings journal c.args.index c.args.moment c.args.self.now.rows c.take-sampled.new.rows c.len.ensures.rows st.rows st.kept based due.row due.here due.course due.has due.now c.in-Some.reading.value c.take-sampled.result taken
-    ∙ ap (sampled settings journal c.args.moment c.args.index) read
 
 pub invariant_of-self-in-None : goal.invariant_of-self-in-None
 invariant_of-self-in-None g c =
@@ -81,38 +77,21 @@ invariant_of-self-in-None g c =
       nearest = c.earliest-self-in-None.ensures;
     }
 
-pub returns-in-Some-clause-fewer : goal.returns-in-Some-clause-fewer
-returns-in-Some-clause-fewer g c latest within =
-    let fits : SFits w64 c.in-Some.reading.value = search rules in
-    let taken : HasTaken c.args.self.now.rows c.take-sampled.new.rows c.args.index c.args.moment c.in-Some.reading.value c.take-sampled.result = simp (to_z-of_z, fits) at c.take-sampled.ensures in
-    let due = due_row c.args.self.now.rows c.args.index c.args.moment c.requires in
-    fewer_taken c.args.self.now.rows c.take-sampled.new.rows c.args.index c.args.moment latest within c.len.ensures.rows c.args.self.now.paced due c.in-Some.reading.value c.take-sampled.result taken
-
-pub returns-in-None-clause-fewer : goal.returns-in-None-clause-fewer
-returns-in-None-clause-fewer g c latest within =
-    let due = due_row c.args.self.now.rows c.args.index c.args.moment c.requires in
-    fewer_gone c.args.self.now.rows c.remove.new.self c.args.index c.args.moment latest within c.len.ensures.rows c.args.self.now.paced due c.remove.ensures
-
-pub returns-in-None-clause-stands : goal.returns-in-None-clause-stands
-returns-in-None-clause-stands g c settings journal st based =
-    let due = due_row c.args.self.now.rows c.args.index c.args.moment c.requires in
-    let read = reads c.args.self.now.rows c.len.ensures.rows journal st.rows c.args.index c.args.moment due (g.L.Look.readings c.args.look.now c.args.moment) c.read.result _ c.read.ensures c.in-None.is in
+pub returns-in-None : goal.returns-in-None
+returns-in-None g c =
+    let rows = c.args.self.now.rows in
+    let new = c.remove.new.self in
+    let index = c.args.index in
+    let moment = c.args.moment in
+    let held = c.len.ensures.rows in
+    let due = due_row rows index moment c.requires in
+    let read = λ (journal : Journal) (is : AreRowsAfter alarm_table no_rows set_to rows journal). reads rows held journal is index moment due (g.L.Look.readings c.args.look.now moment) c.read.result _ c.read.ensures c.in-None.is in
     record {
-      rows = subst (λ (o : Option ℤ). AreRowsAfter alarm_table no_rows set_to c.remove.new.self (samples c.args.moment c.args.index o ∷ journal)) read
-          (rows_gone c.args.self.now.rows c.remove.new.self c.args.index c.remove.ensures settings journal c.args.moment st.rows);
-      kept = subst (λ (o : Option ℤ). AreKept c.remove.new.self settings (samples c.args.moment c.args.index o ∷ journal)) read
-          (kept_gone c.args.self.now.rows c.remove.new.self c.args.index c.remove.ensures settings journal c.args.moment st.rows st.kept);
+      stands = λ settings journal st based. record {
+        rows = subst (λ (o : Option ℤ). AreRowsAfter alarm_table no_rows set_to new (samples moment index o ∷ journal)) (read journal st.rows) (rows_gone rows new index c.remove.ensures settings journal moment st.rows);
+        kept = subst (λ (o : Option ℤ). AreKept new settings (samples moment index o ∷ journal)) (read journal st.rows) (kept_gone rows new index c.remove.ensures settings journal moment st.rows st.kept);
+      };
+      based = λ settings journal st based. subst (λ (o : Option ℤ). Based new settings (samples moment index o ∷ journal)) (read journal st.rows) (based_gone rows new index c.remove.ensures settings journal moment st.rows st.kept based);
+      result = λ settings journal st based. ap (sampled settings journal moment index) (read journal st.rows);
+      fewer = λ latest within. fewer_gone rows new index moment latest within held c.args.self.now.paced due c.remove.ensures;
     }
-
-pub returns-in-None-clause-based : goal.returns-in-None-clause-based
-returns-in-None-clause-based g c settings journal st based =
-    let due = due_row c.args.self.now.rows c.args.index c.args.moment c.requires in
-    let read = reads c.args.self.now.rows c.len.ensures.rows journal st.rows c.args.index c.args.moment due (g.L.Look.readings c.args.look.now c.args.moment) c.read.result _ c.read.ensures c.in-None.is in
-    subst (λ (o : Option ℤ). Based c.remove.new.self settings (samples c.args.moment c.args.index o ∷ journal)) read
-    (based_gone c.args.self.now.rows c.remove.new.self c.args.index c.remove.ensures settings journal c.args.moment st.rows st.kept based)
-
-pub returns-in-None-clause-result : goal.returns-in-None-clause-result
-returns-in-None-clause-result g c settings journal st based =
-    let due = due_row c.args.self.now.rows c.args.index c.args.moment c.requires in
-    let read = reads c.args.self.now.rows c.len.ensures.rows journal st.rows c.args.index c.args.moment due (g.L.Look.readings c.args.look.now c.args.moment) c.read.result _ c.read.ensures c.in-None.is in
-    ap (sampled settings journal c.args.moment c.args.index) read

@@ -3,19 +3,16 @@ use Rattle.std.proofs.Common.{◌≡◌, ℕ, ◌+◌, ◌*◌, [], ◌∷◌, l
 use Rattle.std.specs.Prelude.{ℤ}
 use Rattle.std.specs.Str.{bytes_eq}
 use Rattle.std.proofs.Math.Nat.{mul-suc}
+use Rattle.std.proofs.lemmas.Bool.Decides.{nat_tests}
+use Rattle.std.proofs.lemmas.Option.{same_Some}
 use Rattle.rm_model.specs.Journal.{Act, Assignments, assigns, Journal, samples}
 use Rattle.rm_model.specs.ControlRows.{no_rows, is_valid, next_state, stays_valid, since, activated}
 use Rattle.rm_acts.specs.Alarms.{alarm_table, alarm_state, interval_of, readings_in, readings_of, due_of}
 use Rattle.rm_model.specs.declared.row.Ask.TheVariants.{Nothing, Destroy}
-use Rattle.rm_status.proofs.PlaceLemmas.{same_either_way}
-use Rattle.rm_status.proofs.RowsAfterLemmas.{since_starts}
 
 both_true : (a b : Bool) → (a && b) ≡ true → (a ≡ true) × (b ≡ true)
 both_true true b h = (refl, h)
 both_true false b h = absurd (cc)
-
-in_some : (x y : ℕ) → ◌≡◌ {A = Option ℕ} (Some x) (Some y) → x ≡ y
-in_some x y e = cc
 
 -- when a sample is due, by whether the alarm is valid, since when, with how many seconds between two, after how many
 abbrev due_by : Bool → ℕ → ℕ → ℕ → Option ℕ
@@ -34,51 +31,64 @@ valid_if_due journal i moment is =
       | false ↦ λ e. absurd (let no : None ≡ Some moment = sym (not_due journal i e) ∙ is in cc)
     ] refl
 
--- an act by which an alarm stays valid, with the interval that it had
-module _ (journal : Journal) (act : Act) (i : ℕ) (stays : stays_valid alarm_table no_rows act journal (i ∷ []) ≡ true) (interval : interval_of (act ∷ journal) i ≡ interval_of journal i) where
+-- an act by which an alarm stays valid
+module _ (journal : Journal) (act : Act) (i : ℕ) (stays : stays_valid alarm_table no_rows act journal (i ∷ []) ≡ true) where
   was_valid : is_valid (alarm_state journal i) ≡ true
   was_valid = (both_true (is_valid (alarm_state journal i)) (is_valid (alarm_state (act ∷ journal) i)) stays).0
 
   valid_now : is_valid (alarm_state (act ∷ journal) i) ≡ true
   valid_now = (both_true (is_valid (alarm_state journal i)) (is_valid (alarm_state (act ∷ journal) i)) stays).1
 
-  more_since : since alarm_table no_rows (act ∷ journal) (i ∷ []) ≡ act ∷ since alarm_table no_rows journal (i ∷ [])
+  pub more_since : since alarm_table no_rows (act ∷ journal) (i ∷ []) ≡ act ∷ since alarm_table no_rows journal (i ∷ [])
   more_since = ap (λ b. cond b (act ∷ since alarm_table no_rows journal (i ∷ [])) []) stays
 
   same_start : activated alarm_table no_rows (act ∷ journal) (i ∷ []) ≡ activated alarm_table no_rows journal (i ∷ [])
   same_start = rw stays refl
 
-  due_after : (taken : ℕ) → length (readings_of (act ∷ journal) i) ≡ taken → due_of (act ∷ journal) i ≡ due_by true (activated alarm_table no_rows journal (i ∷ [])) (interval_of journal i) taken
-  due_after taken count =
-      ap (λ v. due_by v (activated alarm_table no_rows (act ∷ journal) (i ∷ [])) (interval_of (act ∷ journal) i) (length (readings_of (act ∷ journal) i))) valid_now
-      ∙ ap (λ a. due_by true a (interval_of (act ∷ journal) i) (length (readings_of (act ∷ journal) i))) same_start
-      ∙ ap (λ n. due_by true (activated alarm_table no_rows journal (i ∷ [])) n (length (readings_of (act ∷ journal) i))) interval
-      ∙ ap (λ k. due_by true (activated alarm_table no_rows journal (i ∷ [])) (interval_of journal i) k) count
-
   due_before : due_of journal i ≡ due_by true (activated alarm_table no_rows journal (i ∷ [])) (interval_of journal i) (length (readings_of journal i))
   due_before = ap (λ v. due_by v (activated alarm_table no_rows journal (i ∷ [])) (interval_of journal i) (length (readings_of journal i))) was_valid
 
+  -- with the interval that it had
+  module _ (interval : interval_of (act ∷ journal) i ≡ interval_of journal i) where
+    due_after : (taken : ℕ) → length (readings_of (act ∷ journal) i) ≡ taken → due_of (act ∷ journal) i ≡ due_by true (activated alarm_table no_rows journal (i ∷ [])) (interval_of journal i) taken
+    due_after taken count =
+        ap (λ v. due_by v (activated alarm_table no_rows (act ∷ journal) (i ∷ [])) (interval_of (act ∷ journal) i) (length (readings_of (act ∷ journal) i))) valid_now
+        ∙ ap (λ a. due_by true a (interval_of (act ∷ journal) i) (length (readings_of (act ∷ journal) i))) same_start
+        ∙ ap (λ n. due_by true (activated alarm_table no_rows journal (i ∷ [])) n (length (readings_of (act ∷ journal) i))) interval
+        ∙ ap (λ k. due_by true (activated alarm_table no_rows journal (i ∷ [])) (interval_of journal i) k) count
+
   -- one that is no sample of its own
-  pub same_due : ((acts : Journal) → readings_in i (act ∷ acts) ≡ readings_in i acts) → due_of (act ∷ journal) i ≡ due_of journal i
-  same_due other = due_after (length (readings_of journal i)) (ap length (ap (readings_in i) more_since ∙ other (since alarm_table no_rows journal (i ∷ [])))) ∙ sym due_before
+  module _ (other : (acts : Journal) → readings_in i (act ∷ acts) ≡ readings_in i acts) where
+    pub same_readings : readings_of (act ∷ journal) i ≡ readings_of journal i
+    same_readings = ap (readings_in i) more_since ∙ other (since alarm_table no_rows journal (i ∷ []))
+
+    pub same_due : interval_of (act ∷ journal) i ≡ interval_of journal i → due_of (act ∷ journal) i ≡ due_of journal i
+    same_due interval = due_after interval (length (readings_of journal i)) (ap length same_readings) ∙ sym due_before
 
 -- an act that leaves the state of an alarm
 pub due_left : (journal : Journal) (act : Act) (i : ℕ) → alarm_state (act ∷ journal) i ≡ alarm_state journal i → interval_of (act ∷ journal) i ≡ interval_of journal i
     → ((acts : Journal) → readings_in i (act ∷ acts) ≡ readings_in i acts) → due_of (act ∷ journal) i ≡ due_of journal i
 due_left journal act i state interval other =
     elim (is_valid (alarm_state journal i)) as (λ v. is_valid (alarm_state journal i) ≡ v → due_of (act ∷ journal) i ≡ due_of journal i) [
-      | true ↦ λ e. same_due journal act i (ap (λ s. is_valid (alarm_state journal i) && is_valid s) state ∙ ap (λ b. b && b) e) interval other
+      | true ↦ λ e. same_due journal act i (ap (λ s. is_valid (alarm_state journal i) && is_valid s) state ∙ ap (λ b. b && b) e) other interval
       | false ↦ λ e. not_due (act ∷ journal) i (ap is_valid state ∙ e) ∙ sym (not_due journal i e)
     ] refl
+
+-- whether the index of an alarm is that of a sample's
+pub same_number : (i alarm : ℕ) → bytes_eq (i ∷ []) (alarm ∷ []) ≡ nat_eq alarm i
+same_number i alarm = and_true (nat_eq i alarm) ∙ either_way
+  where
+    and_true : (b : Bool) → (b && true) ≡ b
+    and_true true = refl
+    and_true false = refl
+
+    either_way : nat_eq i alarm ≡ nat_eq alarm i
+    either_way = grind (arith, nat_tests)
 
 -- a sample of another alarm
 module _ (journal : Journal) (moment alarm i : ℕ) (other : nat_eq alarm i ≡ false) where
   not_its_own : bytes_eq (i ∷ []) (alarm ∷ []) ≡ false
-  not_its_own = (and_true (nat_eq i alarm) ∙ same_either_way i alarm) ∙ other
-    where
-      and_true : (b : Bool) → (b && true) ≡ b
-      and_true true = refl
-      and_true false = refl
+  not_its_own = same_number i alarm ∙ other
 
   pub state_of_others : (reading : Option ℤ) → alarm_state (samples moment alarm reading ∷ journal) i ≡ alarm_state journal i
   state_of_others None = ap (λ b. next_state (cond b Destroy Nothing) (alarm_state journal i)) not_its_own
@@ -89,6 +99,16 @@ module _ (journal : Journal) (moment alarm i : ℕ) (other : nat_eq alarm i ≡ 
   due_of_others (Some number) = due_left journal (samples moment alarm (Some number)) i refl refl
       (λ acts. ap (λ b. cond b (number ∷ readings_in i acts) (readings_in i acts)) other)
 
+-- its own sample, that reads a number
+pub more_readings : (journal : Journal) (moment alarm : ℕ) (number : ℤ) → stays_valid alarm_table no_rows (samples moment alarm (Some number)) journal (alarm ∷ []) ≡ true
+    → readings_of (samples moment alarm (Some number) ∷ journal) alarm ≡ number ∷ readings_of journal alarm
+more_readings journal moment alarm number stays =
+    ap (readings_in alarm) (more_since journal (samples moment alarm (Some number)) alarm stays)
+    ∙ ap (λ b. cond b (number ∷ readings_of journal alarm) (readings_of journal alarm)) itself
+  where
+    itself : nat_eq alarm alarm ≡ true
+    itself = search rules
+
 -- its own sample
 module _ (journal : Journal) (moment alarm : ℕ) (due : due_of journal alarm ≡ Some moment) where
   itself : nat_eq alarm alarm ≡ true
@@ -98,19 +118,21 @@ module _ (journal : Journal) (moment alarm : ℕ) (due : due_of journal alarm �
   due_gone = not_due (samples moment alarm None ∷ journal) alarm
       (ap (λ b. is_valid (next_state (cond (b && true) Destroy Nothing) (alarm_state journal alarm))) itself)
 
-  pub due_next : (number : ℤ) → due_of (samples moment alarm (Some number) ∷ journal) alarm ≡ Some (moment + 1000 * interval_of journal alarm)
-  due_next number =
-      let own : Act = samples moment alarm (Some number) in
-      let valid = valid_if_due journal alarm moment due in
-      let stays : stays_valid alarm_table no_rows own journal (alarm ∷ []) ≡ true = ap (λ b. b && b) valid in
-      let more : readings_of (own ∷ journal) alarm ≡ number ∷ readings_of journal alarm =
-      ap (readings_in alarm) (more_since journal own alarm stays refl) ∙ ap (λ b. cond b (number ∷ readings_of journal alarm) (readings_of journal alarm)) itself in
-      let start : ℕ = activated alarm_table no_rows journal (alarm ∷ []) in
-      let each : ℕ = 1000 * interval_of journal alarm in
-      let taken : ℕ = length (readings_of journal alarm) in
-      let is : start + each * (taken + 1) ≡ moment = in_some _ _ (sym (due_before journal own alarm stays refl) ∙ due) in
-      let product : each * (taken + 1 + 1) ≡ each * (taken + 1) + each = one_more each taken in
-      due_after journal own alarm stays refl (taken + 1) (ap length more ∙ omega arith) ∙ ap Some (omega arith)
+  module _ (number : ℤ) where
+    abbrev own : Act
+    own = samples moment alarm (Some number)
+
+    stays : stays_valid alarm_table no_rows own journal (alarm ∷ []) ≡ true
+    stays = ap (λ b. b && b) (valid_if_due journal alarm moment due)
+
+    pub due_next : due_of (own ∷ journal) alarm ≡ Some (moment + 1000 * interval_of journal alarm)
+    due_next =
+        let start : ℕ = activated alarm_table no_rows journal (alarm ∷ []) in
+        let each : ℕ = 1000 * interval_of journal alarm in
+        let taken : ℕ = length (readings_of journal alarm) in
+        let is : start + each * (taken + 1) ≡ moment = same_Some _ _ (sym (due_before journal own alarm stays) ∙ due) in
+        let product : each * (taken + 1 + 1) ≡ each * (taken + 1) + each = one_more each taken in
+        due_after journal own alarm stays refl (taken + 1) (ap length (more_readings journal moment alarm number stays) ∙ omega arith) ∙ ap Some (omega arith)
 
 -- a Set by which an alarm becomes valid
 module _ (journal : Journal) (now : ℕ) (values : Assignments) (i : ℕ) (starts : stays_valid alarm_table no_rows (assigns now values) journal (i ∷ []) ≡ false)
@@ -118,7 +140,7 @@ module _ (journal : Journal) (now : ℕ) (values : Assignments) (i : ℕ) (start
   pub due_begun : due_of (assigns now values ∷ journal) i ≡ Some (now + 1000 * interval_of (assigns now values ∷ journal) i * (0 + 1))
   due_begun =
       let act : Act = assigns now values in
-      let none : readings_of (act ∷ journal) i ≡ [] = ap (readings_in i) (since_starts alarm_table no_rows act journal (i ∷ []) starts) in
+      let none : readings_of (act ∷ journal) i ≡ [] = ap (λ b. readings_in i (cond b (act ∷ since alarm_table no_rows journal (i ∷ [])) [])) starts in
       let start : activated alarm_table no_rows (act ∷ journal) (i ∷ []) ≡ now =
       ap (λ b. cond b (activated alarm_table no_rows journal (i ∷ [])) (cond (is_valid (alarm_state (act ∷ journal) i)) now 0)) starts ∙ ap (λ b. cond b now 0) valid in
       ap (λ v. due_by v (activated alarm_table no_rows (act ∷ journal) (i ∷ [])) (interval_of (act ∷ journal) i) (length (readings_of (act ∷ journal) i))) valid
