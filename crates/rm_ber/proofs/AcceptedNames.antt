@@ -1,7 +1,7 @@
 -- Names that are accepted have a spelling.
 use Rattle.std.proofs.Common.{◌^◌, ◌≤◌, ◌<◌, ℕ, List, [], ◌∷◌, length, sym, subst, inl, inr, arith}
 use Rattle.std.proofs.lemmas.Bool.{cases_lt, lt-ltb, le-ltb}
-use Rattle.rm_val.specs.Val.{Val, int, octets, null, name, ip, counter, gauge, ticks, opaque_octets, big, no_object, no_instance, end_of_view}
+use Rattle.rm_val.specs.Val.{Val, name}
 use Rattle.rm_val.specs.Spellable.{IsSpellable, HasSpelling}
 use Rattle.rm_ber.specs.Grammar.{AreGroups, ValueFirst, numbers_of}
 
@@ -22,15 +22,4 @@ pub accepted_spelling : (v : Val) (rest bytes : List ℕ) → ValueFirst v rest 
 accepted_spelling (name numbers) rest bytes first =
     let is = first.is_value.1 in
     subst IsSpellable (sym is.is) (groups_spellable first.content is.groups is.are_groups is.some)
-accepted_spelling (int z) rest bytes first = tt
-accepted_spelling (octets text) rest bytes first = tt
-accepted_spelling null rest bytes first = tt
-accepted_spelling (ip text) rest bytes first = tt
-accepted_spelling (counter n) rest bytes first = tt
-accepted_spelling (gauge n) rest bytes first = tt
-accepted_spelling (ticks n) rest bytes first = tt
-accepted_spelling (opaque_octets text) rest bytes first = tt
-accepted_spelling (big n) rest bytes first = tt
-accepted_spelling no_object rest bytes first = tt
-accepted_spelling no_instance rest bytes first = tt
-accepted_spelling end_of_view rest bytes first = tt
+accepted_spelling other rest bytes first = tt

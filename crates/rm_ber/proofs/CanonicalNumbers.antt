@@ -21,31 +21,7 @@ pub record IsWide (n k : ℕ) : Type 0 where
   pub below : n < 128 * 256 ^ k
 
 wide : (n : ℕ) → n < 2 ^ 64 → (k : ℕ) × IsWide n k
-wide n fits = elim (cases_lt n (2 ^ 7)) [
-  | inl b ↦ (0, record { size = grind (arith, nat_tests); most = omega arith; below = b })
-  | inr a ↦ elim (cases_lt n (2 ^ 15)) [
-    | inl b ↦ (1, record { size = grind (arith, nat_tests); most = omega arith; below = b })
-    | inr a ↦ elim (cases_lt n (2 ^ 23)) [
-      | inl b ↦ (2, record { size = grind (arith, nat_tests); most = omega arith; below = b })
-      | inr a ↦ elim (cases_lt n (2 ^ 31)) [
-        | inl b ↦ (3, record { size = grind (arith, nat_tests); most = omega arith; below = b })
-        | inr a ↦ elim (cases_lt n (2 ^ 39)) [
-          | inl b ↦ (4, record { size = grind (arith, nat_tests); most = omega arith; below = b })
-          | inr a ↦ elim (cases_lt n (2 ^ 47)) [
-            | inl b ↦ (5, record { size = grind (arith, nat_tests); most = omega arith; below = b })
-            | inr a ↦ elim (cases_lt n (2 ^ 55)) [
-              | inl b ↦ (6, record { size = grind (arith, nat_tests); most = omega arith; below = b })
-              | inr a ↦ elim (cases_lt n (2 ^ 63)) [
-                | inl b ↦ (7, record { size = grind (arith, nat_tests); most = omega arith; below = b })
-                | inr a ↦ (8, record { size = grind (arith, nat_tests); most = omega arith; below = omega arith })
-              ]
-            ]
-          ]
-        ]
-      ]
-    ]
-  ]
-]
+wide n fits = (number_size n - 1, record { size = grind (arith, nat_tests); most = grind (arith, nat_tests); below = grind (arith, nat_tests) })
 
 number_size-narrow : (n : ℕ) → n < 2 ^ 32 → number_size n ≤ 5
 number_size-narrow n fits = grind (arith, nat_tests)

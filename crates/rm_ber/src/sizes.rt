@@ -35,8 +35,8 @@ pub(crate) fn element_size(content: usize) -> usize
     1 + length_size(content) + content
 }
 
-// How many octets the length of so many octets of content takes.
-pub(crate) fn length_size(content: usize) -> usize
+/// How many octets the length of so many octets of content takes (X.690, 8.1.3).
+pub fn length_size(content: usize) -> usize
     ensures value { result ≡ length (length_octets content) }
     ensures most { result ≤ 5 }
 {

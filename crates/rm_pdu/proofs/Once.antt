@@ -1,5 +1,6 @@
 -- Octets spell one message, and are one thing.
-use Rattle.std.proofs.Common.{◌≡◌, ℕ, ℤ, pos, Bool, true, false, List, [], ◌∷◌, ◌++◌, nat_eq, if◌then◌else◌, refl, sym, ap, subst, ◌∙◌, inl, inr, arith}
+use Rattle.std.proofs.Common.{◌≡◌, ℕ, ℤ, pos, Bool, true, false, List, [], ◌∷◌, ◌++◌, nat_eq, find, refl, sym, ap, subst, ◌∙◌, inl, inr, arith}
+use Rattle.std.specs.Prelude.{unwrap_or}
 use Rattle.rm_val.specs.Val.{Val, int, octets, name}
 use Rattle.rm_ber.specs.Grammar.{StandsFirst, ValueFirst}
 use Rattle.rm_pdu.specs.declared.kind.Kind.{Kind}
@@ -24,26 +25,12 @@ numbers_in v = []
 
 -- the kind of PDU that a tag names
 kind_of : ℕ → Kind
-kind_of tag =
-    if nat_eq tag 0xa0 then Get
-    else if nat_eq tag 0xa1 then Next
-    else if nat_eq tag 0xa2 then Response
-    else if nat_eq tag 0xa3 then Set
-    else if nat_eq tag 0xa5 then Bulk
-    else if nat_eq tag 0xa6 then Inform
-    else if nat_eq tag 0xa7 then Trap
-    else Report
+kind_of tag = unwrap_or (find (λ kind. nat_eq (kind_tag kind) tag) (Get ∷ Next ∷ Response ∷ Set ∷ Bulk ∷ Inform ∷ Trap ∷ [])) Report
 
 kind_back : (kind : Kind) → kind_of (kind_tag kind) ≡ kind
 unfolding kind_of
 kind_back Get = refl
-kind_back Next = refl
-kind_back Response = refl
-kind_back Set = refl
-kind_back Bulk = refl
-kind_back Inform = refl
-kind_back Trap = refl
-kind_back Report = refl
+kind_back kind = refl
 
 one_kind : (kind other : Kind) → kind_tag kind ≡ kind_tag other → kind ≡ other
 one_kind kind other e = sym (kind_back kind) ∙ ap kind_of e ∙ kind_back other

@@ -11,7 +11,7 @@ ghost use Rattle.rm_pdu.specs.DraftParts.{header, header_size, element_size, pdu
 use crate::kind::Kind;
 use crate::layout::{SEQUENCE, VERSION};
 use arrayvec::ArrayVec;
-use rm_ber::{Room, Writer, elements_read_back, size, values_read_back};
+use rm_ber::{Room, Writer, elements_read_back, length_size, size, values_read_back};
 use rm_val::{Oid, Value};
 use std::marker::Model;
 
@@ -191,13 +191,7 @@ fn header_size(content: usize) -> usize
     ensures value { result ≡ header_size content }
     ensures short { result ≤ 6 }
 {
-    match content {
-        0..=0x7f => 2,
-        0x80..=0xff => 3,
-        0x100..=0xffff => 4,
-        0x1_0000..=0xff_ffff => 5,
-        _ => 6,
-    }
+    1 + length_size(content)
 }
 
 // The octets of a binding. Room where there are more than 1472.

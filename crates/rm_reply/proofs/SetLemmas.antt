@@ -1,5 +1,5 @@
 -- How the bindings of a SetRequest are read and returned.
-use Rattle.std.proofs.Common.{◌≡◌, ◌+◌, ◌≤◌, ◌<◌, ℕ, suc, pos, Bool, true, false, List, [], ◌∷◌, ◌++◌, length, take, drop, Option, refl, ⊎_elim, sym, ap, ◌∙◌, lit≤, arith}
+use Rattle.std.proofs.Common.{◌≡◌, ◌+◌, ◌≤◌, ◌<◌, ℕ, suc, pos, Bool, true, false, List, [], ◌∷◌, ◌++◌, length, take, drop, Option, refl, ⊎_elim, sym, ap, subst, ◌∙◌, lit≤, arith}
 use Rattle.std.specs.Prelude.{slice_get, IfSome, IsTrue, ◌↔◌, ◌||◌, ◌&&◌, not, nat_lt}
 use Rattle.std.proofs.lemmas.Bool.Decides.{nat_tests, leb_tells}
 use Rattle.std.proofs.lemmas.List.{take-append-drop, map-append, take_all, length-map}
@@ -27,6 +27,10 @@ pub record IsAt (bindings : List Binding) (place : ℕ) (name : List ℕ) (value
   pub within : place < length bindings
   pub name_is : IfSome (slice_get bindings place) (λ (b : Binding). name ≡ b.name)
   pub value_is : IfSome (slice_get bindings place) (λ (b : Binding). value ≡ b.value)
+
+pub is_at : (bindings : List Binding) (place : ℕ) (name : List ℕ) (value : Val) → place < length bindings
+    → IfSome (slice_get bindings place) (λ (b : Binding). name ≡ b.name) → IfSome (slice_get bindings place) (λ (b : Binding). value ≡ b.value) → IsAt bindings place name value
+is_at bindings place name value within name_is value_is = record { within = within; name_is = name_is; value_is = value_is }
 
 next_binding : (bindings : List Binding) (place : ℕ) (name : List ℕ) (value : Val) → IsAt bindings place name value → take (place + 1) bindings ≡ take place bindings ++ (record { name = name; value = value }) ∷ []
 next_binding bindings place name value at =
@@ -148,6 +152,13 @@ module _ (alone : List ℕ → Val → Option ErrorStatus) (together : Bindings 
 pub barred_is : (may_write : Bool) (m : Message) (given : Bindings) → given ≡ given_by m.bindings → (not may_write && nat_lt 0 (length given)) ≡ is_barred may_write m
 barred_is may_write m given is =
     ap (λ (l : Bindings). not may_write && nat_lt 0 (length l)) is ∙ ap (λ n. not may_write && nat_lt 0 n) (length-map m.bindings given_by_one)
+
+-- what the judgement of the Set that a request gives comes to, where its community may write
+pub told_given : (alone : List ℕ → Val → Option ErrorStatus) (together : Bindings → ℕ → Option ErrorStatus) (reserves : Bindings → ℕ → Type 0) (may_write : Bool) (moment : ℕ) (journal : Journal) (m : Message) (given : Bindings)
+    → given ≡ given_by m.bindings → is_too_much m ≡ false → (not may_write && nat_lt 0 (length given)) ≡ false → (verdict : Verdict) (after : Journal) → Judges alone together reserves moment journal given verdict after
+    → IsSetReply alone together reserves may_write moment journal m (telling m verdict) after
+told_given alone together reserves may_write moment journal m given is fits may verdict after judges =
+    told alone together reserves may_write moment journal m fits verdict after (sym (barred_is may_write m given is) ∙ may) (subst (λ (bs : Bindings). Judges alone together reserves moment journal bs verdict after) is judges)
 
 -- a request that doesn't read is a SetRequest
 pub set_kind : (kind : Kind) → is_request kind ≡ true → is_built kind ≡ false → kind ≡ Set

@@ -22,8 +22,7 @@ returns-in_err-count-clause-part c = λ requests bytes outer at.
 
 pub returns-in_err-finish-clause-part : goal.returns-in_err-finish-clause-part
 returns-in_err-finish-clause-part c = λ requests bytes outer at.
-    let numbers = c.in_ok-numbers.ensures.part requests bytes outer at in
-    let opened = opens requests bytes bindings binding outer c.read_numbers.new.pdu c.enter.new.self c.in_ok-list.list numbers.0
+    let opened = opens requests bytes bindings binding outer c.read_numbers.new.pdu c.enter.new.self c.in_ok-list.list (c.in_ok-numbers.ensures.part requests bytes outer at).0
     (c.in_ok-list.list.left, c.enter.new.self.left, c.in_ok-list.ensures.found, refl) c.in_ok-list.ensures.ends c.in_ok-list.ensures.end in
     let part = c.in_ok-count.ensures.part requests bytes (c.enter.new.self.left ∷ outer) opened in
     let closed = closes requests bytes binding pdu_end outer c.read_bindings.new.list c.enter.new.self part.0 (inl (c.enter.new.self.left, outer, part.1, refl, refl)) part.1

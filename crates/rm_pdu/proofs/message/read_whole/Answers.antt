@@ -9,76 +9,65 @@ use Rattle.rm_pdu.proofs.message.read_whole.Goals as goal
 
 pub returns-in_err-content : goal.returns-in_err-content
 returns-in_err-content c =
-    let requests = c.args.requests in
     let bytes = c.args.bytes.now in
-    let at = begin_at requests bytes c.new-datagram.result c.new-datagram.ensures.begins c.new-datagram.ensures.whole in
-    errs c.from_residual.result (Malformed c.in_err-content.field-0.0.at) _ (Fails requests bytes) c.from_residual.ensures.1
-    (rw c.in_err-content.ensures.place (no_header requests bytes whole [] c.new-datagram.result (inl refl) at
+    let at = begin_at c.args.requests bytes c.new-datagram.result c.new-datagram.ensures.begins c.new-datagram.ensures.whole in
+    errs c.from_residual.result (Malformed c.in_err-content.field-0.0.at) _ (Fails c.args.requests bytes) c.from_residual.ensures.1
+    (rw c.in_err-content.ensures.place (no_header c.args.requests bytes whole [] c.new-datagram.result (inl refl) at
     (λ content rest first. not_ok c.enter.result c.in_err-content.field-0.0 (λ inner. inner.left ≡ content) c.in_err-content.was (c.enter.ensures.exact content rest first).0)))
 
 pub returns-in_err-community : goal.returns-in_err-community
 returns-in_err-community c =
-    let requests = c.args.requests in
     let bytes = c.args.bytes.now in
-    let opened = in_message requests bytes c.new-datagram.result c.enter.new.self c.in_ok-content.content c.new-datagram.ensures.begins c.new-datagram.ensures.whole c.in_ok-content.ensures.found c.in_ok-content.ensures.ends c.in_ok-content.ensures.end in
-    errs c.from_residual-in_err-community.result c.in_err-community.field-0.0 _ (Fails requests bytes) c.from_residual-in_err-community.ensures.1 (c.in_err-community.ensures.part requests bytes (c.enter.new.self.left ∷ []) opened)
+    let opened = in_message c.args.requests bytes c.new-datagram.result c.enter.new.self c.in_ok-content.content c.new-datagram.ensures.begins c.new-datagram.ensures.whole c.in_ok-content.ensures.found c.in_ok-content.ensures.ends c.in_ok-content.ensures.end in
+    errs c.from_residual-in_err-community.result c.in_err-community.field-0.0 _ (Fails c.args.requests bytes) c.from_residual-in_err-community.ensures.1 (c.in_err-community.ensures.part c.args.requests bytes (c.enter.new.self.left ∷ []) opened)
 
 pub returns-in_err-kind : goal.returns-in_err-kind
 returns-in_err-kind c =
-    let requests = c.args.requests in
     let bytes = c.args.bytes.now in
-    let opened = in_message requests bytes c.new-datagram.result c.enter.new.self c.in_ok-content.content c.new-datagram.ensures.begins c.new-datagram.ensures.whole c.in_ok-content.ensures.found c.in_ok-content.ensures.ends c.in_ok-content.ensures.end in
-    let envelope = c.in_ok-community.ensures.part requests bytes (c.enter.new.self.left ∷ []) opened in
-    errs c.from_residual-in_err-kind.result c.in_err-kind.field-0.0 _ (Fails requests bytes) c.from_residual-in_err-kind.ensures.1 (c.in_err-kind.ensures.part bytes (c.enter.new.self.left ∷ []) envelope.0)
+    let opened = in_message c.args.requests bytes c.new-datagram.result c.enter.new.self c.in_ok-content.content c.new-datagram.ensures.begins c.new-datagram.ensures.whole c.in_ok-content.ensures.found c.in_ok-content.ensures.ends c.in_ok-content.ensures.end in
+    let envelope = c.in_ok-community.ensures.part c.args.requests bytes (c.enter.new.self.left ∷ []) opened in
+    errs c.from_residual-in_err-kind.result c.in_err-kind.field-0.0 _ (Fails c.args.requests bytes) c.from_residual-in_err-kind.ensures.1 (c.in_err-kind.ensures.part bytes (c.enter.new.self.left ∷ []) envelope.0)
 
 pub returns-in_err-read : goal.returns-in_err-read
 returns-in_err-read c =
-    let requests = c.args.requests in
     let bytes = c.args.bytes.now in
-    let opened = in_message requests bytes c.new-datagram.result c.enter.new.self c.in_ok-content.content c.new-datagram.ensures.begins c.new-datagram.ensures.whole c.in_ok-content.ensures.found c.in_ok-content.ensures.ends c.in_ok-content.ensures.end in
-    let envelope = c.in_ok-community.ensures.part requests bytes (c.enter.new.self.left ∷ []) opened in
+    let opened = in_message c.args.requests bytes c.new-datagram.result c.enter.new.self c.in_ok-content.content c.new-datagram.ensures.begins c.new-datagram.ensures.whole c.in_ok-content.ensures.found c.in_ok-content.ensures.ends c.in_ok-content.ensures.end in
+    let envelope = c.in_ok-community.ensures.part c.args.requests bytes (c.enter.new.self.left ∷ []) opened in
     let in_pdu = c.in_ok-kind.ensures.part bytes (c.enter.new.self.left ∷ []) envelope.0 in
-    errs c.from_residual-in_err-read.result c.in_err-read.field-0.0 _ (Fails requests bytes) c.from_residual-in_err-read.ensures.1 (c.in_err-read.ensures.part requests bytes (c.open_pdu.new.content.left ∷ c.enter.new.self.left ∷ []) in_pdu.0)
+    errs c.from_residual-in_err-read.result c.in_err-read.field-0.0 _ (Fails c.args.requests bytes) c.from_residual-in_err-read.ensures.1 (c.in_err-read.ensures.part c.args.requests bytes (c.open_pdu.new.content.left ∷ c.enter.new.self.left ∷ []) in_pdu.0)
 
 pub returns-in_err-finish : goal.returns-in_err-finish
 returns-in_err-finish c =
-    let requests = c.args.requests in
     let bytes = c.args.bytes.now in
-    let opened = in_message requests bytes c.new-datagram.result c.enter.new.self c.in_ok-content.content c.new-datagram.ensures.begins c.new-datagram.ensures.whole c.in_ok-content.ensures.found c.in_ok-content.ensures.ends c.in_ok-content.ensures.end in
-    let envelope = c.in_ok-community.ensures.part requests bytes (c.enter.new.self.left ∷ []) opened in
-    let in_pdu = c.in_ok-kind.ensures.part bytes (c.enter.new.self.left ∷ []) envelope.0 in
-    let pdu = c.in_ok-read.ensures.part requests bytes (c.open_pdu.new.content.left ∷ c.enter.new.self.left ∷ []) in_pdu.0 in
-    let after_pdu = closes requests bytes pdu_end message_end (c.enter.new.self.left ∷ []) c.read_pdu.new.pdu c.open_pdu.new.content pdu.0
+    let opened = in_message c.args.requests bytes c.new-datagram.result c.enter.new.self c.in_ok-content.content c.new-datagram.ensures.begins c.new-datagram.ensures.whole c.in_ok-content.ensures.found c.in_ok-content.ensures.ends c.in_ok-content.ensures.end in
+    let pdu = c.in_ok-read.ensures.part c.args.requests bytes _ (c.in_ok-kind.ensures.part bytes _ (c.in_ok-community.ensures.part c.args.requests bytes _ opened).0).0 in
+    let after_pdu = closes c.args.requests bytes pdu_end message_end (c.enter.new.self.left ∷ []) c.read_pdu.new.pdu c.open_pdu.new.content pdu.0
     (c.open_pdu.new.content.left, c.enter.new.self.left ∷ [], pdu.1, refl, refl) pdu.1 (c.in_ok-read.ensures.end ∙ c.in_ok-kind.ensures.inside) in
-    errs c.from_residual-in_err-finish.result (Malformed c.in_err-finish.field-0.0.at) _ (Fails requests bytes) c.from_residual-in_err-finish.ensures.1
-    (rw c.in_err-finish.ensures.place (not_ended requests bytes message_end (c.enter.new.self.left ∷ []) c.open_pdu.new.content (inr (inr refl)) after_pdu
+    errs c.from_residual-in_err-finish.result (Malformed c.in_err-finish.field-0.0.at) _ (Fails c.args.requests bytes) c.from_residual-in_err-finish.ensures.1
+    (rw c.in_err-finish.ensures.place (not_ended c.args.requests bytes message_end (c.enter.new.self.left ∷ []) c.open_pdu.new.content (inr (inr refl)) after_pdu
     (λ none. let no = c.in_err-finish.ensures.done.1 none in absurd cc)))
 
 pub returns-in_err-finish-2 : goal.returns-in_err-finish-2
 returns-in_err-finish-2 c =
-    let requests = c.args.requests in
     let bytes = c.args.bytes.now in
-    let opened = in_message requests bytes c.new-datagram.result c.enter.new.self c.in_ok-content.content c.new-datagram.ensures.begins c.new-datagram.ensures.whole c.in_ok-content.ensures.found c.in_ok-content.ensures.ends c.in_ok-content.ensures.end in
-    let envelope = c.in_ok-community.ensures.part requests bytes (c.enter.new.self.left ∷ []) opened in
-    let in_pdu = c.in_ok-kind.ensures.part bytes (c.enter.new.self.left ∷ []) envelope.0 in
-    let pdu = c.in_ok-read.ensures.part requests bytes (c.open_pdu.new.content.left ∷ c.enter.new.self.left ∷ []) in_pdu.0 in
-    let after_pdu = closes requests bytes pdu_end message_end (c.enter.new.self.left ∷ []) c.read_pdu.new.pdu c.open_pdu.new.content pdu.0
+    let opened = in_message c.args.requests bytes c.new-datagram.result c.enter.new.self c.in_ok-content.content c.new-datagram.ensures.begins c.new-datagram.ensures.whole c.in_ok-content.ensures.found c.in_ok-content.ensures.ends c.in_ok-content.ensures.end in
+    let pdu = c.in_ok-read.ensures.part c.args.requests bytes _ (c.in_ok-kind.ensures.part bytes _ (c.in_ok-community.ensures.part c.args.requests bytes _ opened).0).0 in
+    let after_pdu = closes c.args.requests bytes pdu_end message_end (c.enter.new.self.left ∷ []) c.read_pdu.new.pdu c.open_pdu.new.content pdu.0
     (c.open_pdu.new.content.left, c.enter.new.self.left ∷ [], pdu.1, refl, refl) pdu.1 (c.in_ok-read.ensures.end ∙ c.in_ok-kind.ensures.inside) in
     let none : c.open_pdu.new.content.left ≡ [] = c.in_ok-finish.ensures.done.0 refl in
-    let after_message = closes requests bytes message_end datagram_end [] c.open_pdu.new.content c.enter.new.self after_pdu
+    let after_message = closes c.args.requests bytes message_end datagram_end [] c.open_pdu.new.content c.enter.new.self after_pdu
     (c.enter.new.self.left, [], none, refl, refl) none (c.in_ok-kind.ensures.end ∙ c.in_ok-community.ensures.end ∙ c.in_ok-content.ensures.ends) in
-    errs c.from_residual-in_err-finish-2.result (Malformed c.in_err-finish-2.field-0.0.at) _ (Fails requests bytes) c.from_residual-in_err-finish-2.ensures.1
-    (rw c.in_err-finish-2.ensures.place (not_all requests bytes c.enter.new.self after_message
+    errs c.from_residual-in_err-finish-2.result (Malformed c.in_err-finish-2.field-0.0.at) _ (Fails c.args.requests bytes) c.from_residual-in_err-finish-2.ensures.1
+    (rw c.in_err-finish-2.ensures.place (not_all c.args.requests bytes c.enter.new.self after_message
     (λ empty. let no = c.in_err-finish-2.ensures.done.1 empty in absurd cc)))
 
 pub returns : goal.returns
 returns c =
-    let requests = c.args.requests in
     let bytes = c.args.bytes.now in
-    let opened = in_message requests bytes c.new-datagram.result c.enter.new.self c.in_ok-content.content c.new-datagram.ensures.begins c.new-datagram.ensures.whole c.in_ok-content.ensures.found c.in_ok-content.ensures.ends c.in_ok-content.ensures.end in
-    let envelope = c.in_ok-community.ensures.part requests bytes (c.enter.new.self.left ∷ []) opened in
+    let opened = in_message c.args.requests bytes c.new-datagram.result c.enter.new.self c.in_ok-content.content c.new-datagram.ensures.begins c.new-datagram.ensures.whole c.in_ok-content.ensures.found c.in_ok-content.ensures.ends c.in_ok-content.ensures.end in
+    let envelope = c.in_ok-community.ensures.part c.args.requests bytes (c.enter.new.self.left ∷ []) opened in
     let in_pdu = c.in_ok-kind.ensures.part bytes (c.enter.new.self.left ∷ []) envelope.0 in
-    let pdu = c.in_ok-read.ensures.part requests bytes (c.open_pdu.new.content.left ∷ c.enter.new.self.left ∷ []) in_pdu.0 in
+    let pdu = c.in_ok-read.ensures.part c.args.requests bytes (c.open_pdu.new.content.left ∷ c.enter.new.self.left ∷ []) in_pdu.0 in
     let none : c.open_pdu.new.content.left ≡ [] = c.in_ok-finish.ensures.done.0 refl in
     let end : c.enter.new.self.left ≡ [] = c.in_ok-finish-2.ensures.done.0 refl in
     let numbers = c.in_ok-read.read.numbers in

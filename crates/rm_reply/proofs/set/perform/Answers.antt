@@ -15,15 +15,13 @@ returns-in-Wrong-clause-judged g c settings journal stands later askable =
 
 pub returns-in-Wrong-judge_rows-clause-judged : goal.returns-in-Wrong-judge_rows-clause-judged
 returns-in-Wrong-judge_rows-clause-judged g c settings journal stands later askable =
-    let alone = alone_among g.G.Objects.objects g.G.Group.alone in
-    let fine : AreFineAlone alone (g.A.Assigns.bindings c.args.set.now) = if_not_wrong _ _ c.judge_alone.result c.in_default.not-Wrong c.judge_alone.ensures.alone in
+    let fine : AreFineAlone (alone_among g.G.Objects.objects g.G.Group.alone) (g.A.Assigns.bindings c.args.set.now) = if_not_wrong _ _ c.judge_alone.result c.in_default.not-Wrong c.judge_alone.ensures.alone in
     (journal, stands, wrong_together fine c.in-Wrong-judge_rows.status c.in-Wrong-judge_rows.index (c.in-Wrong-judge_rows.ensures.verdict settings journal stands later askable))
 
 pub returns-in-Ok-clause-judged : goal.returns-in-Ok-clause-judged
 returns-in-Ok-clause-judged g c settings journal stands later askable =
     let bindings = g.A.Assigns.bindings c.args.set.now in
-    let alone = alone_among g.G.Objects.objects g.G.Group.alone in
-    let fine : AreFineAlone alone bindings = if_not_wrong _ _ c.judge_alone.result c.in_default.not-Wrong c.judge_alone.ensures.alone in
+    let fine : AreFineAlone (alone_among g.G.Objects.objects g.G.Group.alone) bindings = if_not_wrong _ _ c.judge_alone.result c.in_default.not-Wrong c.judge_alone.ensures.alone in
     let beside : IsFirstFault (length bindings) (g.G.Group.together settings journal c.args.now nothing_read bindings) Fine =
     if_not_wrong _ _ c.judge_rows.result c.in_default-judge_rows.not-Wrong (c.judge_rows.ensures.verdict settings journal stands later askable) in (
       assigns c.args.now (assignments_of bindings) ∷ journal,
@@ -34,8 +32,7 @@ returns-in-Ok-clause-judged g c settings journal stands later askable =
 pub returns-in-Err-clause-judged : goal.returns-in-Err-clause-judged
 returns-in-Err-clause-judged g c settings journal stands later askable =
     let bindings = g.A.Assigns.bindings c.args.set.now in
-    let alone = alone_among g.G.Objects.objects g.G.Group.alone in
-    let fine : AreFineAlone alone bindings = if_not_wrong _ _ c.judge_alone.result c.in_default.not-Wrong c.judge_alone.ensures.alone in
+    let fine : AreFineAlone (alone_among g.G.Objects.objects g.G.Group.alone) bindings = if_not_wrong _ _ c.judge_alone.result c.in_default.not-Wrong c.judge_alone.ensures.alone in
     let beside : IsFirstFault (length bindings) (g.G.Group.together settings journal c.args.now nothing_read bindings) Fine =
     if_not_wrong _ _ c.judge_rows.result c.in_default-judge_rows.not-Wrong (c.judge_rows.ensures.verdict settings journal stands later askable) in
     (journal, c.prepare.ensures.stands settings journal stands, lacking fine beside c.in-Err.denied.index (c.in-Err.ensures.denied settings journal stands))

@@ -1,11 +1,10 @@
-use Rattle.std.proofs.Common.{◌≡◌, false, true, sym, ◌∙◌, subst}
+use Rattle.std.proofs.Common.{◌≡◌, false, true, sym, ◌∙◌}
 use Rattle.rm_model.specs.declared.verdict.Verdict.{Verdict}
 use Rattle.rm_model.specs.declared.verdict.Verdict.TheVariants.{Fine, Wrong}
-use Rattle.rm_model.specs.Judgement.{Bindings}
 use Rattle.rm_val.specs.declared.error.ErrorStatus.TheVariants.{NoAccess}
-use Rattle.rm_reply.specs.Sets.{alone_among, is_too_much, is_barred, returning, telling, Judges}
+use Rattle.rm_reply.specs.Sets.{alone_among, is_too_much, is_barred, returning, telling}
 use Rattle.rm_model.specs.Readings.{nothing_read}
-use Rattle.rm_reply.proofs.SetLemmas.{barred_is, no_access, told}
+use Rattle.rm_reply.proofs.SetLemmas.{barred_is, no_access, told_given}
 use Rattle.rm_reply.proofs.set.set.Goals as goal
 
 pub returns-then-is_barred-clause-reply : goal.returns-then-is_barred-clause-reply
@@ -24,25 +23,23 @@ returns-then-is_barred-clause-reply g c settings journal m stands later askable 
 
 pub returns-in-Fine-clause-reply : goal.returns-in-Fine-clause-reply
 returns-in-Fine-clause-reply g c settings journal m stands later askable asked =
-    let alone = alone_among g.G.Objects.objects g.G.Group.alone in
-    let together = g.G.Group.together settings journal c.args.now nothing_read in
-    let reserves = g.G.Group.reserves settings journal in
     let fits : is_too_much m ≡ false = sym (c.is_too_much.ensures m asked) ∙ c.if-is_too_much.false in
-    let may : is_barred c.args.may_write m ≡ false =
-    sym (barred_is c.args.may_write m c.given-given.result (c.given-given.ensures m asked)) ∙ sym c.is_barred.ensures ∙ c.if-is_barred.false in
-    let (after, stood, judges) = c.in-Fine.ensures.judged settings journal stands later askable in
-    let judged = subst (λ (bs : Bindings). Judges alone together reserves c.args.now journal bs Fine after) (c.given-given.ensures m asked) judges in
-    (after, stood, (telling m Fine, told alone together reserves c.args.may_write c.args.now journal m fits Fine after may judged, c.telling-in-Fine.ensures m asked))
+    let (after, stood, judges) = c.in-Fine.ensures.judged settings journal stands later askable in (
+      after,
+      stood,
+      (
+        telling m Fine,
+        told_given (alone_among g.G.Objects.objects g.G.Group.alone) (g.G.Group.together settings journal c.args.now nothing_read) (g.G.Group.reserves settings journal) c.args.may_write c.args.now journal m c.given-given.result
+            (c.given-given.ensures m asked) fits (sym c.is_barred.ensures ∙ c.if-is_barred.false) Fine after judges,
+        c.telling-in-Fine.ensures m asked,
+      ),
+    )
 
 pub returns-in-Wrong-clause-reply : goal.returns-in-Wrong-clause-reply
 returns-in-Wrong-clause-reply g c settings journal m stands later askable asked =
-    let alone = alone_among g.G.Objects.objects g.G.Group.alone in
-    let together = g.G.Group.together settings journal c.args.now nothing_read in
-    let reserves = g.G.Group.reserves settings journal in
     let verdict : Verdict = Wrong c.in-Wrong.status c.in-Wrong.index in
     let fits : is_too_much m ≡ false = sym (c.is_too_much.ensures m asked) ∙ c.if-is_too_much.false in
-    let may : is_barred c.args.may_write m ≡ false =
-    sym (barred_is c.args.may_write m c.given-given.result (c.given-given.ensures m asked)) ∙ sym c.is_barred.ensures ∙ c.if-is_barred.false in
     let (after, stood, judges) = c.in-Wrong.ensures.judged settings journal stands later askable in
-    let judged = subst (λ (bs : Bindings). Judges alone together reserves c.args.now journal bs verdict after) (c.given-given.ensures m asked) judges in
-    (after, stood, (telling m verdict, told alone together reserves c.args.may_write c.args.now journal m fits verdict after may judged, c.telling-in-Wrong.ensures m asked))
+    let set_reply = told_given (alone_among g.G.Objects.objects g.G.Group.alone) (g.G.Group.together settings journal c.args.now nothing_read) (g.G.Group.reserves settings journal) c.args.may_write c.args.now journal m c.given-given.result
+    (c.given-given.ensures m asked) fits (sym c.is_barred.ensures ∙ c.if-is_barred.false) verdict after judges in
+    (after, stood, (telling m verdict, set_reply, c.telling-in-Wrong.ensures m asked))
