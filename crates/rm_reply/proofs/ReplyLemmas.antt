@@ -69,3 +69,10 @@ bulk_repeats IsOne names repeated most m draft new first others times puts repea
           repeats.longest more (front_back IsOne names Follows puts.answers (repeats.added ++ more) puts.are.all (subst (λ (bs : List Binding). IsFront IsOne names Follows bs) whole front))
           (subst (λ (bs : List Binding). size_with m bs ≤ 1472) whole fits);
     }) repeats.is_drafted.is
+
+-- the repetitions for these names of a request, as many as it asks for
+pub put_these : (IsOne : List ℕ → Binding → Type 0) (names : List (List ℕ)) (most : ℕ) (m : Message) (list : List Binding) (new : Drafted) (from : ℕ) → names ≡ drop from (names_of m.bindings) → most ≡ counting m.second
+    → PutsLongest (AreRepetitions IsOne most names) m list new → PutsLongest (AreRepetitions IsOne (counting m.second) (drop from (names_of m.bindings))) m list new
+put_these IsOne names most m list new from these times put =
+    subst (λ (ns : List (List ℕ)). PutsLongest (AreRepetitions IsOne (counting m.second) ns) m list new) these
+    (subst (λ (n : ℕ). PutsLongest (AreRepetitions IsOne n names) m list new) times put)

@@ -3,7 +3,6 @@ ghost use Rattle.std.specs.Prelude.{◌≡◌, ◌<◌, [], ◌∷◌, ◌++◌,
 ghost use Rattle.rm_val.specs.Val.{val_of};
 ghost use Rattle.rm_val.specs.Spellable.{IsSpellable, HasSpelling};
 
-use crate::names::MOST_NAMES;
 use arrayvec::ArrayVec;
 use rm_group::Assigns;
 use rm_val::{Oid, Value};
@@ -25,13 +24,14 @@ impl Default for Assigned<'_> {
     }
 }
 
-/// The bindings of a SetRequest, at most 128, kept inline. Their values are lent from the datagram.
+/// The bindings of a SetRequest, at most so many and at most 128, kept inline. Their values are lent from the datagram.
 #[derive(Drop)]
-pub(crate) struct Given<'a> {
-    items: ArrayVec<Assigned<'a>, MOST_NAMES>,
+pub(crate) struct Given<'a, const MOST: usize> {
+    items: ArrayVec<Assigned<'a>, MOST>,
 }
 
-impl<'a> Model for Given<'a> {
+impl<'a, const MOST: usize> Model for Given<'a, MOST> {
+    ghost use Rattle.std.specs.Prelude.{◌≤◌, length};
     ghost use Rattle.rm_model.specs.Judgement.{Bindings};
     ghost use Rattle.rm_reply.specs.Given.{given_in, AreSpelled};
 
@@ -39,14 +39,14 @@ impl<'a> Model for Given<'a> {
 
     ghost view = { λ g. given_in g.items.items };
 
-    ghost invariant = { λ g. AreSpelled g.items.items };
+    ghost invariant = { λ g. AreSpelled g.items.items × (length g.items.items ≤ 128) };
 }
 
-impl<'a> Given<'a> {
+impl<'a, const MOST: usize> Given<'a, MOST> {
     ghost use Rattle.rm_reply.specs.Given.{giving};
 
     /// No bindings.
-    pub fn new() -> Given<'a>
+    pub fn new() -> Given<'a, MOST>
         ensures { result ≡ [] }
     {
         Given {
@@ -56,7 +56,8 @@ impl<'a> Given<'a> {
 
     /// Appends a binding.
     pub fn push(&mut self, name: Oid, value: Value<'a>)
-        requires room { length self.old < 128 }
+        requires room { length self.old < MOST }
+        requires few { length self.old < 128 }
         requires name { IsSpellable name }
         requires value { HasSpelling (val_of value) }
         ensures { self.new ≡ self.old ++ giving name (val_of value.entry) ∷ [] }
@@ -65,7 +66,7 @@ impl<'a> Given<'a> {
     }
 }
 
-impl Assigns for Given<'_> {
+impl<const MOST: usize> Assigns for Given<'_, MOST> {
     ghost bindings = { λ g. g };
 
     fn count(&self) -> usize {

@@ -5,9 +5,6 @@ use arrayvec::ArrayVec;
 use rm_val::Oid;
 use std::marker::Model;
 
-/// The most names of a list.
-pub(crate) const MOST_NAMES: usize = 128;
-
 /// A place in a list of names. By default it has the empty name.
 #[derive(Drop)]
 struct Asked {
@@ -20,13 +17,13 @@ impl Default for Asked {
     }
 }
 
-/// A list of at most 128 names, kept inline.
+/// A list of at most so many names, kept inline.
 #[derive(Drop)]
-pub(crate) struct Names {
-    items: ArrayVec<Asked, MOST_NAMES>,
+pub(crate) struct Names<const MOST: usize> {
+    items: ArrayVec<Asked, MOST>,
 }
 
-impl Model for Names {
+impl<const MOST: usize> Model for Names<MOST> {
     ghost use Rattle.std.specs.Prelude.{ℕ, List, ◌≤◌, length, map};
     ghost use Rattle.rm_reply.specs.declared.names.Asked.{Asked};
 
@@ -35,9 +32,9 @@ impl Model for Names {
     ghost view = { λ n. map (λ (asked : Asked). asked.name) n.items.items };
 }
 
-impl Names {
+impl<const MOST: usize> Names<MOST> {
     /// No names.
-    pub fn new() -> Names
+    pub fn new() -> Names<MOST>
         ensures { result ≡ [] }
     {
         Names {
@@ -47,8 +44,7 @@ impl Names {
 
     /// How many names there are.
     pub fn len(&self) -> usize
-        ensures value { result ≡ length self.now }
-        ensures fits { result ≤ 128 }
+        ensures { result ≡ length self.now }
     {
         self.items.len()
     }
@@ -71,7 +67,7 @@ impl Names {
 
     /// Appends a name.
     pub fn push(&mut self, name: Oid)
-        requires { length self.old < 128 }
+        requires { length self.old < MOST }
         ensures { self.new ≡ self.old ++ name ∷ [] }
     {
         self.items.push(Asked { name });

@@ -14,9 +14,9 @@ use rm_pdu::Draft;
 /// Puts the next variables behind names into a draft, one for each, in their order. The list becomes that of their names.
 /// Answers whether each value is endOfMibView. Room where they don't all fit; the draft then has those that do, up to the
 /// first that doesn't.
-pub(crate) fn put_repetition<G: Group + Objects>(
+pub(crate) fn put_repetition<G: Group + Objects, const MOST: usize>(
     groups: &G,
-    names: &mut Names,
+    names: &mut Names<MOST>,
     now: u32,
     draft: &mut Draft,
 ) -> Result<bool, Room>

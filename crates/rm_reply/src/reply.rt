@@ -1,19 +1,22 @@
 // The replies to requests.
-ghost use Rattle.std.specs.Prelude.{◌≡◌, ◌≤◌, List, length, All, IfSome, is_some};
+ghost use Rattle.std.specs.Prelude.{◌≡◌, ◌≤◌, List, length, drop, All, IfSome, is_some};
 ghost use Rattle.rm_val.specs.Spellable.{IsSpellable};
 ghost use Rattle.rm_pdu.specs.Message.{Binding, Message};
 ghost use Rattle.rm_reply.specs.Answered.{IsNextBinding};
-ghost use Rattle.rm_reply.specs.Replies.{IsWholeReply, IsBulkReply, AreRepetitions, IsReply, is_built};
+ghost use Rattle.rm_reply.specs.Replies.{IsWholeReply, IsBulkReply, AreRepetitions, IsReply, is_built, counting, names_of};
 ghost use Rattle.rm_reply.specs.Drafting.{OfCells, IsFound, IsAsked, IsDrafted, DraftsOne, PutsLongest};
 
 use crate::asked::put_asked;
 use crate::found::Lookup;
 use crate::names::Names;
 use crate::repetition::put_repetition;
-use crate::request::Request;
+use crate::request::{MOST_BINDINGS, Request};
 use rm_group::{Group, Objects};
 use rm_pdu::{Draft, Kind, bindings_lengthen};
 use rm_val::ErrorStatus;
+
+// How many repeated names are few. A list of as many is made faster.
+const FEW_NAMES: usize = 4;
 
 /// The reply to a request at a moment in milliseconds (RFC 1905, section 4.2). None for a SetRequest.
 pub(crate) fn reply<G: Group + Objects>(
@@ -61,14 +64,42 @@ fn bulk<G: Group + Objects>(groups: &G, request: &Request<'_>, now: u32) -> Draf
     let Ok(()) = put_asked(groups, Lookup::Above, request, fixed, now, &mut draft) else {
         return draft;
     };
-    let mut names = request.names(fixed, request.count());
-    repeat(groups, &mut names, request.repetitions(), now, &mut draft);
+    repeat_asked(groups, request, fixed, now, &mut draft);
     draft
+}
+
+// Puts the repetitions for the names of a request from a place on behind the bindings of a draft.
+fn repeat_asked<G: Group + Objects>(
+    groups: &G,
+    request: &Request<'_>,
+    from: usize,
+    now: u32,
+    draft: &mut Draft,
+)
+    requires { (m : Message) × IsAsked request.now m × (length m.bindings ≤ 128) × (from ≤ length m.bindings) }
+    ensures { OfCells (G.stands groups.now) (G.askable groups.now) G.cells now (λ cells. (m : Message) (list : List Binding) → IsAsked request.now m → IsDrafted m list draft.old
+        → PutsLongest (AreRepetitions (IsNextBinding cells) (counting m.second) (drop from (names_of m.bindings))) m list draft.new) }
+{
+    let count = request.count();
+    let most = request.repetitions();
+    if count - from <= FEW_NAMES {
+        let mut few = request.names::<FEW_NAMES>(from, count);
+        repeat(groups, &mut few, most, now, draft);
+        return;
+    }
+    let mut names = request.names::<MOST_BINDINGS>(from, count);
+    repeat(groups, &mut names, most, now, draft);
 }
 
 // Puts repetitions for names behind the bindings of a draft, as many as are asked for and fit. The last one is wholly
 // endOfMibView if any is.
-fn repeat<G: Group + Objects>(groups: &G, names: &mut Names, most: u32, now: u32, draft: &mut Draft)
+fn repeat<G: Group + Objects, const MOST: usize>(
+    groups: &G,
+    names: &mut Names<MOST>,
+    most: u32,
+    now: u32,
+    draft: &mut Draft,
+)
     requires { All IsSpellable names.old }
     ensures { OfCells (G.stands groups.now) (G.askable groups.now) G.cells now (λ cells. (m : Message) (list : List Binding) → IsDrafted m list draft.old
         → PutsLongest (AreRepetitions (IsNextBinding cells) most names.old) m list draft.new) }

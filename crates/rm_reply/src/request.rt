@@ -1,5 +1,5 @@
 // A request, and the drafts of its replies.
-ghost use Rattle.std.specs.Prelude.{◌≡◌, ◌≤◌, ◌<◌, ◌↔◌, IsTrue, [], length, All, slice_range, MatchResult, false, nat_lt};
+ghost use Rattle.std.specs.Prelude.{◌≡◌, ◌≤◌, ◌<◌, ◌+◌, ◌↔◌, IsTrue, [], length, All, slice_range, MatchResult, false, nat_lt};
 ghost use Rattle.rm_reply.specs.Replies.{counting};
 
 use crate::given::Given;
@@ -12,7 +12,7 @@ use rm_val::ErrorStatus;
 pub const MOST_REPLY: usize = 1472;
 
 /// The most bindings of a request that is answered but by tooBig.
-const MOST_BINDINGS: u32 = 128;
+pub(crate) const MOST_BINDINGS: usize = 128;
 
 /// A request that was read.
 #[derive(Drop)]
@@ -37,7 +37,7 @@ impl<'a> Request<'a> {
     pub(crate) fn is_long(&self) -> bool
         ensures { (m : Whole) → IsAsked self.now m → IsTrue result ↔ (128 < length m.bindings) }
     {
-        self.message.count > MOST_BINDINGS
+        self.message.count as usize > MOST_BINDINGS
     }
 
     /// How many bindings there are.
@@ -66,8 +66,8 @@ impl<'a> Request<'a> {
     }
 
     /// What the bindings of a SetRequest give.
-    pub(crate) fn given(&self) -> Given<'a>
-        requires { (m : Whole) × IsAsked self.now m × (length m.bindings ≤ 128) }
+    pub(crate) fn given<const MOST: usize>(&self) -> Given<'a, MOST>
+        requires { (m : Whole) × IsAsked self.now m × (length m.bindings ≤ 128) × (length m.bindings ≤ MOST) }
         ensures { (m : Whole) → IsAsked self.now m → result ≡ given_by m.bindings }
     {
         let mut given = Given::new();
@@ -132,10 +132,11 @@ impl<'a> Request<'a> {
     }
 
     /// The names of the bindings from one place to before another.
-    pub(crate) fn names(&self, from: usize, to: usize) -> Names
+    pub(crate) fn names<const MOST: usize>(&self, from: usize, to: usize) -> Names<MOST>
         requires asked { (m : Whole) × IsAsked self.now m × (to ≤ length m.bindings) }
         requires order { from ≤ to }
         requires few { to ≤ 128 }
+        requires room { to ≤ from + MOST }
         ensures names { (m : Whole) → IsAsked self.now m → result ≡ slice_range (names_of m.bindings) from to }
         ensures spelling { All IsSpellable result }
     {

@@ -53,4 +53,4 @@ pub returns-clause-put : goal.returns-clause-put
 returns-clause-put g c settings journal stands later askable m list drafted_so =
     let (so_far, replaced) = c.loop-place.invariant.0 settings journal stands later askable m list drafted_so in
     replaced_all (IsNextBinding (g.G.Group.cells settings journal c.args.now)) c.args.names.now m list c.loop-place.place c.loop-place.draft c.loop-place.names c.loop-place.is_end so_far replaced
-    (omega (arith, c.loop-place-test.false, c.loop-place.auto.place-end, c.len-place-end.ensures.value))
+    (omega (arith, c.loop-place-test.false, c.loop-place.auto.place-end, c.len-place-end.ensures))

@@ -5,7 +5,7 @@ use Rattle.rm_reply.proofs.NameLemmas.{refill_same}
 use Rattle.rm_reply.proofs.names.Names.set.Goals as goal
 
 pub returns : goal.returns
-returns c =
+returns g c =
     let items = c.self.inside.items.items in
     let asked : Asked = record { name = c.args.name } in
     let lent = c.deref_mut.result.now in

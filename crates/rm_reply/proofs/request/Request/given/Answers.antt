@@ -6,7 +6,7 @@ use Rattle.rm_reply.proofs.SetLemmas.{given_more}
 use Rattle.rm_reply.proofs.request.Request.given.Goals as goal
 
 pub loop-place-preserved : goal.loop-place-preserved
-loop-place-preserved c =
+loop-place-preserved g c =
     let (so_far, count) = c.loop-place.invariant in (
       λ m asked. c.push.ensures ∙ given_more m.bindings c.loop-place.given c.loop-place.place c.name-name.result (val_of c.value-value.result)
           (record {

@@ -5,5 +5,5 @@ use Rattle.rm_reply.specs.Sets.{given_by}
 use Rattle.rm_reply.proofs.request.Request.given.Given as goal
 
 abbrev pub invariant-loop-place : goal.invariant-loop-place
-invariant-loop-place l =
+invariant-loop-place g l =
     ((m : Message) → IsAsked l.self m → l.given ≡ given_by (take l.place m.bindings)) × (length l.given ≡ l.place)

@@ -7,7 +7,7 @@ use Rattle.rm_reply.proofs.request.Request.names.Goals as goal
 
 -- src/request.rt:61:9
 pub loop-place-preserved : goal.loop-place-preserved
-loop-place-preserved c =
+loop-place-preserved g c =
     let (whole, asked, within) = c.requires.asked in
     let (so_far, count, spelled) = c.loop-place.invariant in (
       λ m told. c.push.ensures ∙ names_more m.bindings c.loop-place.names c.args.from c.loop-place.place c.name.result c.loop-place.auto.place

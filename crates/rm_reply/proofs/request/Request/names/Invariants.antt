@@ -7,6 +7,6 @@ use Rattle.rm_reply.specs.Drafting.{IsAsked}
 use Rattle.rm_reply.proofs.request.Request.names.Given as goal
 
 abbrev pub invariant-loop-place : goal.invariant-loop-place
-invariant-loop-place l =
+invariant-loop-place g l =
     ((m : Whole) → IsAsked l.self m → l.names ≡ slice_range (names_of m.bindings) l.from l.place)
     × (length l.names + l.from ≡ l.place) × All IsSpellable l.names
