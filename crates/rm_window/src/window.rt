@@ -1,5 +1,5 @@
-ghost use Rattle.std.specs.Prelude.{◌≡◌, ◌≤◌, ◌<◌, ◌+◌, ◌-◌, ◌^◌, ℕ, List, [], length, take, drop, vec_len, IfOk};
-ghost use Rattle.rm_edge.specs.Outside.{File, HasCause};
+ghost use Rattle.std.specs.Prelude.{◌≡◌, ◌≤◌, ◌<◌, ◌+◌, ◌-◌, ◌^◌, ℕ, List, [], length, take, drop, vec_len, IfOk, IsErr};
+ghost use Rattle.rm_edge.specs.Outside.{File, Absent, HasCause};
 ghost use Rattle.rm_window.specs.Filling.{IsFront, Holds};
 
 use crate::filling::fill;
@@ -92,7 +92,7 @@ impl Window {
     ///
     /// The octets that are next stand from place `at` of the file on, and stay so. Where fewer are next than are needed, they
     /// move to the front, and reads fill the room behind them until there is none or the file ends. Failed comes only
-    /// where a read failed.
+    /// where a read failed. A name without a file always fails where fewer are next than are needed.
     pub fn hold<S: Shelf>(
         &mut self,
         shelf: &mut S,
@@ -110,6 +110,7 @@ impl Window {
         ensures count { IfOk result (λ count. count ≡ length (octets_of self.new)) }
         ensures holds { (bytes : List ℕ) → S.held shelf.old name.now ≡ File bytes → IsFront (octets_of self.old) (drop at bytes)
             → IfOk result (λ count. Holds bytes at need (octets_of self.new)) }
+        ensures absent { S.held shelf.old name.now ≡ Absent → length (octets_of self.old) < need → IsErr result }
     {
         let have = self.len();
         if have >= need {
