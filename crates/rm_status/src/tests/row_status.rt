@@ -94,8 +94,8 @@ fn step(before: &[(u32, u32, i32)], number: i32) -> (Verdict, State) {
 fn each_value_of_a_row_status(rt: HostRuntime) {
     for (before, steps) in BEFORE {
         for number in 0..8 {
-            let expected = steps[number as usize];
-            assert_eq!(rt; step(before, number), expected, "{before:?} {number}");
+            let expected = steps[number];
+            assert_eq!(rt; step(before, number as i32), expected, "{before:?} {number}");
         }
     }
 }
