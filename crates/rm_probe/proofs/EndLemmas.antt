@@ -1,7 +1,6 @@
 -- How the parts of a run make its end.
-use Rattle.std.proofs.Common.{◌≡◌, ℕ, ◌+◌, ◌≤◌, List, [], length, Option, Some, None, Result, Ok, Err, refl, sym, ap, ◌∙◌, subst, arith, inl, inr}
-use Rattle.std.specs.Prelude.{IsOk}
-use Rattle.rm_edge.specs.Outside.{Held, Untold, Absent, File, OfFile, AddsFront, Rose}
+use Rattle.std.proofs.Common.{◌≡◌, ℕ, ◌+◌, ◌≤◌, List, [], Option, Some, None, Result, Ok, Err, refl, sym, ap, ◌∙◌, subst, arith, inl, inr}
+use Rattle.rm_edge.specs.Outside.{Held, File, OfFile, AddsFront, Rose}
 use Rattle.rm_model.specs.Journal.{Frame}
 use Rattle.rm_pcap.specs.Records.{Stop, Broken, AreRecords, ReadsAs, beginning}
 use Rattle.rm_pcap.specs.Header.{header_of}
@@ -11,12 +10,14 @@ use Rattle.rm_pcap.specs.declared.form.Form.{Form}
 use Rattle.rm_pcap.specs.declared.fault.PcapFault.{PcapFault}
 use Rattle.rm_pcap.specs.declared.fault.PcapFault.TheVariants.{Magic, Version, LinkType, Included, Original, Late, TooMany, Read, NoMemory as OutOfMemory}
 use Rattle.rm_agent.specs.declared.settings.Settings.{Settings}
-use Rattle.rm_probe.specs.Whole.{IsLong}
 use Rattle.rm_probe.specs.Capture.{IsFaultless, IsCapture, IsCaptureFile, IsBroken, CallsFor, status_of}
-use Rattle.rm_probe.specs.Lines.{TimedDatagram, requests_of, AreRequests, IsRequestFile}
+use Rattle.rm_requests.specs.Lines.{TimedDatagram, requests_of, AreRequests, HasTooManyLines, IsRequestFile, IsWrongAt}
+use Rattle.rm_requests.specs.declared.fault.RequestsFault.{RequestsFault}
+use Rattle.rm_requests.specs.declared.fault.RequestsFault.TheVariants.{Line, TooLong as TooManyLines, Read as ReadFailed}
 use Rattle.rm_probe.specs.Text.{IsText}
-use Rattle.rm_probe.specs.Steps.{JudgesCapture, Leaves, Writes}
-use Rattle.rm_probe.specs.Ends.{Ends, OfBoth, JudgesFiles, IsWrongAt, IsExact, IsComplete, IsSilent, Comes}
+use Rattle.rm_probe.specs.Steps.{FindsAnother, IsNotCapture, IsNotLeft, IsNotRequests, JudgesCapture, Leaves, Writes}
+use Rattle.rm_probe.specs.Requests.{JudgesRequests, status_by}
+use Rattle.rm_probe.specs.Ends.{Ends, OfBoth, JudgesFiles, IsExact, IsComplete, IsSilent, Comes}
 use Rattle.rm_probe.specs.declared.status.Status.{Status}
 use Rattle.rm_probe.specs.declared.status.Status.TheVariants.{Done, Usage, BadCapture, BadRequests, ReadFault, WriteFault, NoMemory, LinkFault, TooLong}
 use Rattle.rm_probe.proofs.RecordLemmas.{leaves_all, of_told}
@@ -74,45 +75,81 @@ module _ (lead : ℕ) where
   first_refused c r cs cs' rs rs' WriteFault h le = absurd h
   first_refused c r cs cs' rs rs' LinkFault h le = absurd h
 
-  -- a fact of both files, where the octets of the request file were read
-  both_of : (c r : Held) (read : List ℕ) (P : List Frame → Stop → List TimedDatagram → Type 0) → OfFile c (IsCaptureFile lead) → OfFile r (λ bytes. read ≡ bytes) → IsRequestFile read
-      → ((bytes : List ℕ) (frames : List Frame) (stop : Stop) (asked : List TimedDatagram) → c ≡ File bytes → IsCapture lead bytes frames stop → AreRequests read asked → P frames stop asked) → OfBoth lead c r P
-  both_of c r read P form same are p = (form, of_read r IsRequestFile are same, of_told c (IsCaptureFile lead) _ (λ bytes is good. of_read r (λ lines. (frames : List Frame) (stop : Stop) (asked : List TimedDatagram) → IsCapture lead bytes frames stop → AreRequests lines asked → P frames stop asked) (λ frames stop asked. p bytes frames stop asked is) same) form)
-    where
-      of_read : (r : Held) (Q : List ℕ → Type 0) → Q read → OfFile r (λ bytes. read ≡ bytes) → OfFile r Q
-      of_read Untold Q q e = tt
-      of_read Absent Q q e = e
-      of_read (File bytes) Q q e = subst Q e q
+  -- a fault of the request file
+  pub then_refused : (c r : Held) (reads reads' : ℕ) (fault : RequestsFault) → OfFile c (IsCaptureFile lead) → JudgesRequests {T = Unit {0}} r (Err fault) → (fault ≡ ReadFailed → Rose reads reads')
+      → JudgesFiles lead c r reads reads' (Err (status_by fault))
+  then_refused c r reads reads' (Line line) form judged risen = (form, judged)
+  then_refused c r reads reads' TooManyLines form judged risen = inr (form, judged)
+  then_refused c r reads reads' ReadFailed form judged risen = risen refl
+
+  -- a run that ends by what was judged
+  pub refused : (settings : Settings) (c r : Held) (reads reads' writes writes' : ℕ) (old : Option (List ℕ)) (status : Status) → JudgesFiles lead c r reads reads' (Err status) → Ends settings lead c r reads reads' writes writes' old old status
+  refused settings c r reads reads' writes writes' old (BadCapture at) judged = of_told c (CallsFor lead (BadCapture at)) _ (λ bytes is called. (called, refl)) judged
+  refused settings c r reads reads' writes writes' old (BadRequests line) (form, wrong) = (form, of_told r (IsWrongAt line) _ (λ lines is w. (w, refl)) wrong)
+  refused settings c r reads reads' writes writes' old TooLong (inl called) = inl (of_told c (CallsFor lead TooLong) _ (λ bytes is k. (k, refl)) called)
+  refused settings c r reads reads' writes writes' old TooLong (inr (form, many)) = inr (form, of_told r HasTooManyLines _ (λ lines is m. (m, refl)) many)
+  refused settings c r reads reads' writes writes' old ReadFault judged = (judged, inl refl)
+  refused settings c r reads reads' writes writes' old NoMemory judged = refl
+  refused settings c r reads reads' writes writes' old Done judged = absurd judged
+  refused settings c r reads reads' writes writes' old Usage judged = absurd judged
+  refused settings c r reads reads' writes writes' old WriteFault judged = absurd judged
+  refused settings c r reads reads' writes writes' old LinkFault judged = absurd judged
+
+  -- a fact of both files
+  both_of : (c r : Held) (P : List Frame → Stop → List TimedDatagram → Type 0) → OfFile c (IsCaptureFile lead) → OfFile r IsRequestFile
+      → ((bytes lines : List ℕ) (frames : List Frame) (stop : Stop) (asked : List TimedDatagram) → c ≡ File bytes → r ≡ File lines → IsCapture lead bytes frames stop → AreRequests lines asked → P frames stop asked) → OfBoth lead c r P
+  both_of c r P form are p = (form, are, of_told c (IsCaptureFile lead) _ (λ bytes is good. of_told r IsRequestFile _ (λ lines isr requests frames stop asked. p bytes lines frames stop asked is isr) are) form)
 
   -- how the run itself ends
-  pub written : (settings : Settings) (c r : Held) (reads reads' writes writes' : ℕ) (old new : Option (List ℕ)) (read : List ℕ) (status : Status)
-      → OfFile c (IsCaptureFile lead) → OfFile r (λ bytes. read ≡ bytes) → IsOk (requests_of read) → length read ≤ 16777216
-      → ((bytes : List ℕ) (frames : List Frame) (stop : Stop) (asked : List TimedDatagram) → c ≡ File bytes → IsCapture lead bytes frames stop → AreRequests read asked → Writes settings frames stop asked old new status)
+  pub written : (settings : Settings) (c r : Held) (reads reads' writes writes' : ℕ) (old new : Option (List ℕ)) (status : Status)
+      → OfFile c (IsCaptureFile lead) → OfFile r IsRequestFile
+      → ((bytes lines : List ℕ) (frames : List Frame) (stop : Stop) (asked : List TimedDatagram) → c ≡ File bytes → r ≡ File lines → IsCapture lead bytes frames stop → AreRequests lines asked → Writes settings frames stop asked old new status)
+      → FindsAnother (IsNotCapture lead c) (IsNotRequests r) status
       → (status ≡ ReadFault → Rose reads reads') → (status ≡ WriteFault → Rose writes writes') → (IsSilent status → status ≡ NoMemory) → (IsSilent status → new ≡ old)
       → Ends settings lead c r reads reads' writes writes' old new status
-  written settings c r reads reads' writes writes' old new read status form same ok short text risen cut kinds silent = go status (some_requests (requests_of read) ok) text risen cut kinds silent
+  written settings c r reads reads' writes writes' old new Done form are text finds risen cut kinds silent = both_of c r _ form are text
+  written settings c r reads reads' writes writes' old new WriteFault form are text finds risen cut kinds silent = (cut refl, both_of c r _ form are text)
+  written settings c r reads reads' writes writes' old new ReadFault form are text finds risen cut kinds silent = (risen refl, inr (both_of c r _ form are text))
+  written settings c r reads reads' writes writes' old new (BadCapture at) form are text finds risen cut kinds silent = of_told c (IsCaptureFile lead) _ (λ bytes is good. absurd (finds bytes is good)) form
+  written settings c r reads reads' writes writes' old new (BadRequests line) form are text finds risen cut kinds silent = (form, of_told r IsRequestFile _ (λ lines is good. absurd (finds lines is good)) are)
+  written settings c r reads reads' writes writes' old new TooLong form are text (inl another) risen cut kinds silent = inl (of_told c (IsCaptureFile lead) _ (λ bytes is good. absurd (another bytes is good)) form)
+  written settings c r reads reads' writes writes' old new TooLong form are text (inr another) risen cut kinds silent = inr (form, of_told r IsRequestFile _ (λ lines is good. absurd (another lines is good)) are)
+  written settings c r reads reads' writes writes' old new NoMemory form are text finds risen cut kinds silent = silent tt
+  written settings c r reads reads' writes writes' old new Usage form are text finds risen cut kinds silent = absurd (let e = kinds tt in cc)
+  written settings c r reads reads' writes writes' old new LinkFault form are text finds risen cut kinds silent = absurd (let e = kinds tt in cc)
+
+  -- what another file means where the capture is begun again, and where it isn't
+  pub another_left : (c : Held) (form : Form) (progress : Progress) (NoRequests : Type 0) (status : Status) → ((bytes : List ℕ) → c ≡ File bytes → header_of bytes ≡ Ok form) → progress ≡ begun form lead
+      → FindsAnother (IsNotLeft c progress) NoRequests status → FindsAnother (IsNotCapture lead c) NoRequests status
+  another_left c form progress NoRequests status header is finds = by_status status finds
     where
-      some_requests : (o : Result (List TimedDatagram) ℕ) → IsOk o → (asked : List TimedDatagram) × (o ≡ Ok asked)
-      some_requests (Ok asked) e = (asked, refl)
-      some_requests (Err line) e = absurd cc
+      none : IsNotLeft c progress → IsNotCapture lead c
+      none left bytes held (frames, stop, capture) =
+          let (are, count) = begun_left bytes frames stop form progress (header bytes held) is capture in left bytes frames stop held are count capture.faultless
 
-      never : (status : Status) (P : List ℕ → Type 0) → (asked : List TimedDatagram) × (requests_of read ≡ Ok asked)
-          → ((bytes : List ℕ) (frames : List Frame) (stop : Stop) (asked : List TimedDatagram) → c ≡ File bytes → IsCapture lead bytes frames stop → AreRequests read asked → ⊥) → OfFile c P
-      never status P are none = of_told c (IsCaptureFile lead) P (λ bytes is good. absurd (none bytes good.0 good.1 are.0 is good.2 (record { short = short; are = are.1 }))) form
+      by_status : (status : Status) → FindsAnother (IsNotLeft c progress) NoRequests status → FindsAnother (IsNotCapture lead c) NoRequests status
+      by_status (BadCapture at) finds = none finds
+      by_status (BadRequests line) finds = finds
+      by_status TooLong (inl left) = inl (none left)
+      by_status TooLong (inr requests) = inr requests
+      by_status Done finds = tt
+      by_status Usage finds = tt
+      by_status ReadFault finds = tt
+      by_status WriteFault finds = tt
+      by_status NoMemory finds = tt
+      by_status LinkFault finds = tt
 
-      go : (status : Status) → (asked : List TimedDatagram) × (requests_of read ≡ Ok asked)
-          → ((bytes : List ℕ) (frames : List Frame) (stop : Stop) (asked : List TimedDatagram) → c ≡ File bytes → IsCapture lead bytes frames stop → AreRequests read asked → Writes settings frames stop asked old new status)
-          → (status ≡ ReadFault → Rose reads reads') → (status ≡ WriteFault → Rose writes writes') → (IsSilent status → status ≡ NoMemory) → (IsSilent status → new ≡ old)
-          → Ends settings lead c r reads reads' writes writes' old new status
-      go Done are text risen cut kinds silent = both_of c r read _ form same (are.0, record { short = short; are = are.1 }) text
-      go WriteFault are text risen cut kinds silent = (cut refl, both_of c r read _ form same (are.0, record { short = short; are = are.1 }) text)
-      go ReadFault are text risen cut kinds silent = (risen refl, inr (both_of c r read _ form same (are.0, record { short = short; are = are.1 }) text))
-      go (BadCapture at) are text risen cut kinds silent = never (BadCapture at) (λ bytes. CallsFor lead (BadCapture at) bytes × (new ≡ old)) are text
-      go TooLong are text risen cut kinds silent = inl (never TooLong (λ bytes. CallsFor lead TooLong bytes × (new ≡ old)) are text)
-      go NoMemory are text risen cut kinds silent = silent tt
-      go Usage are text risen cut kinds silent = absurd (let e = kinds tt in cc)
-      go (BadRequests line) are text risen cut kinds silent = absurd (let e = kinds tt in cc)
-      go LinkFault are text risen cut kinds silent = absurd (let e = kinds tt in cc)
+  pub another_begun : (c : Held) (NoRequests : Type 0) (fault : PcapFault) → ((bytes : List ℕ) → c ≡ File bytes → BeginsAs bytes (Err fault)) → IsFirstFault fault
+      → FindsAnother (IsNotCapture lead c) NoRequests (status_of fault)
+  another_begun c NoRequests Read header kind = tt
+  another_begun c NoRequests OutOfMemory header kind = tt
+  another_begun c NoRequests Magic header kind = λ bytes is (frames, stop, capture). let g = good_header bytes frames stop (Err Magic) (header bytes is) capture in let e = g.1 in cc
+  another_begun c NoRequests Version header kind = λ bytes is (frames, stop, capture). let g = good_header bytes frames stop (Err Version) (header bytes is) capture in let e = g.1 in cc
+  another_begun c NoRequests LinkType header kind = λ bytes is (frames, stop, capture). let g = good_header bytes frames stop (Err LinkType) (header bytes is) capture in let e = g.1 in cc
+  another_begun c NoRequests (Included at) header kind = absurd kind
+  another_begun c NoRequests (Original at) header kind = absurd kind
+  another_begun c NoRequests (Late at) header kind = absurd kind
+  another_begun c NoRequests TooMany header kind = absurd kind
 
   -- a file reads in one way
   abbrev pub OneReading : Type 0
@@ -131,11 +168,14 @@ module _ (lead : ℕ) where
   same_fault : OneReading → (bytes : List ℕ) (fault other : PcapFault) → IsBroken lead fault bytes → IsBroken lead other bytes → fault ≡ other
   same_fault one bytes fault other broken again = let e = (one lead bytes broken.0 again.0 (Broken fault) (Broken other) broken.1 again.1).1 in cc
 
-  not_long : (lines : List ℕ) → IsLong lines → IsRequestFile lines → ⊥
-  not_long lines long are = omega (arith, long, are.1.short)
+  not_many : (lines : List ℕ) → HasTooManyLines lines → IsRequestFile lines → ⊥
+  not_many lines many are = omega (arith, many.many, are.1.few)
+
+  not_both : (lines : List ℕ) (line : ℕ) → HasTooManyLines lines → IsWrongAt line lines → ⊥
+  not_both lines line many wrong = omega (arith, many.good line wrong.0, wrong.1)
 
   not_wrong : (lines : List ℕ) (line : ℕ) → IsWrongAt line lines → IsRequestFile lines → ⊥
-  not_wrong lines line wrong are = let e : Err line ≡ Ok are.0 = sym wrong.1 ∙ are.1.are in cc
+  not_wrong lines line wrong are = let e : Err line ≡ Ok are.0 = sym wrong.0 ∙ are.1.are in cc
 
   same_line : (lines : List ℕ) (m n : ℕ) → requests_of lines ≡ Err m → requests_of lines ≡ Err n → m ≡ n
   same_line lines m n first second = let e = sym first ∙ second in cc
@@ -144,7 +184,7 @@ module _ (lead : ℕ) where
   of_forms : OneReading → (c r : Held) (status : Status) → OfFile c (IsCaptureFile lead) → OfFile r IsRequestFile → IsExact lead c r status
   of_forms one c r status form are = record {
     bad_capture = λ bytes fault is broken. absurd (not_broken one bytes fault broken (told c bytes (IsCaptureFile lead) is form));
-    long_requests = λ bytes lines is good isr long. absurd (not_long lines long (told r lines IsRequestFile isr are));
+    long_requests = λ bytes lines is good isr long. absurd (not_many lines long (told r lines IsRequestFile isr are));
     bad_requests = λ bytes lines line is good isr wrong. absurd (not_wrong lines line wrong (told r lines IsRequestFile isr are));
   }
 
@@ -169,17 +209,19 @@ module _ (lead : ℕ) where
   is_exact settings one c r reads reads' writes writes' old new WriteFault ends = of_forms one c r WriteFault ends.1.0 ends.1.1
   is_exact settings one c r reads reads' writes writes' old new (BadCapture at) ends =
       of_fault one c r (BadCapture at) (λ bytes is. (told c bytes (λ b. CallsFor lead (BadCapture at) b × (new ≡ old)) is ends).0)
-  is_exact settings one c r reads reads' writes writes' old new (BadRequests at) ends = record {
-    bad_capture = λ bytes fault is broken. absurd (not_broken one bytes fault broken (told c bytes (IsCaptureFile lead) is ends.0));
-    long_requests = λ bytes lines is good isr long. absurd (let w = told r lines (IsWrongAt at) isr ends.1 in omega (arith, long, w.0));
-    bad_requests = λ bytes lines line is good isr wrong. inl (ap BadRequests (let w = told r lines (IsWrongAt at) isr ends.1 in same_line lines at line w.1 wrong.1));
-  }
+  is_exact settings one c r reads reads' writes writes' old new (BadRequests at) ends =
+      let wrong_at = λ (lines : List ℕ) (isr : r ≡ File lines). (told r lines (λ b. IsWrongAt at b × (new ≡ old)) isr ends.1).0 in
+      record {
+        bad_capture = λ bytes fault is broken. absurd (not_broken one bytes fault broken (told c bytes (IsCaptureFile lead) is ends.0));
+        long_requests = λ bytes lines is good isr many. absurd (not_both lines at many (wrong_at lines isr));
+        bad_requests = λ bytes lines line is good isr wrong. inl (ap BadRequests (same_line lines at line (wrong_at lines isr).0 wrong.0));
+      }
   is_exact settings one c r reads reads' writes writes' old new TooLong (inl called) =
       of_fault one c r TooLong (λ bytes is. (told c bytes (λ b. CallsFor lead TooLong b × (new ≡ old)) is called).0)
-  is_exact settings one c r reads reads' writes writes' old new TooLong (inr long) = record {
-    bad_capture = λ bytes fault is broken. absurd (not_broken one bytes fault broken (told c bytes (IsCaptureFile lead) is long.0));
-    long_requests = λ bytes lines is good isr much. inl refl;
-    bad_requests = λ bytes lines line is good isr wrong. absurd (let l = told r lines IsLong isr long.1 in omega (arith, l, wrong.0));
+  is_exact settings one c r reads reads' writes writes' old new TooLong (inr many) = record {
+    bad_capture = λ bytes fault is broken. absurd (not_broken one bytes fault broken (told c bytes (IsCaptureFile lead) is many.0));
+    long_requests = λ bytes lines is good isr more. inl refl;
+    bad_requests = λ bytes lines line is good isr wrong. absurd (not_both lines line (told r lines (λ b. HasTooManyLines b × (new ≡ old)) isr many.1).0 wrong);
   }
   is_exact settings one c r reads reads' writes writes' old new ReadFault ends = of_free c r ReadFault (λ other. inr (inr refl))
   is_exact settings one c r reads reads' writes writes' old new NoMemory ends = of_free c r NoMemory (λ other. inr (inl refl))
@@ -195,20 +237,10 @@ module _ (lead : ℕ) where
   is_complete settings one c r reads reads' writes writes' old new (BadCapture at) ends bytes lines is isr good are unread unput =
       absurd (let k = (told c bytes (λ b. CallsFor lead (BadCapture at) b × (new ≡ old)) is ends).0 in not_broken one bytes k.0 k.1 good)
   is_complete settings one c r reads reads' writes writes' old new (BadRequests at) ends bytes lines is isr good are unread unput =
-      absurd (not_wrong lines at (told r lines (IsWrongAt at) isr ends.1) are)
+      absurd (not_wrong lines at (told r lines (λ b. IsWrongAt at b × (new ≡ old)) isr ends.1).0 are)
   is_complete settings one c r reads reads' writes writes' old new TooLong (inl called) bytes lines is isr good are unread unput =
       absurd (let k = (told c bytes (λ b. CallsFor lead TooLong b × (new ≡ old)) is called).0 in not_broken one bytes k.0 k.1 good)
-  is_complete settings one c r reads reads' writes writes' old new TooLong (inr long) bytes lines is isr good are unread unput =
-      absurd (not_long lines (told r lines IsLong isr long.1) are)
+  is_complete settings one c r reads reads' writes writes' old new TooLong (inr many) bytes lines is isr good are unread unput =
+      absurd (not_many lines (told r lines (λ b. HasTooManyLines b × (new ≡ old)) isr many.1).0 are)
   is_complete settings one c r reads reads' writes writes' old new Usage ends bytes lines is isr good are unread unput = absurd ends
   is_complete settings one c r reads reads' writes writes' old new LinkFault ends bytes lines is isr good are unread unput = absurd ends
-
-  -- a line of the request file is wrong
-  pub bad_requests : (c r : Held) (reads reads' : ℕ) (read : List ℕ) (line : ℕ) → OfFile c (IsCaptureFile lead) → OfFile r (λ bytes. read ≡ bytes) → length read ≤ 16777216 → requests_of read ≡ Err line
-      → JudgesFiles lead c r reads reads' (Err (BadRequests line))
-  bad_requests c r reads reads' read line form same short are = (form, of_read r same)
-    where
-      of_read : (r : Held) → OfFile r (λ bytes. read ≡ bytes) → OfFile r (IsWrongAt line)
-      of_read Untold e = tt
-      of_read Absent e = e
-      of_read (File bytes) e = subst (IsWrongAt line) e (short, are)

@@ -1,10 +1,8 @@
 pub mod RecordLemmas
 pub mod PassingLemmas
 pub mod SampleLemmas
-pub mod LineLemmas
 pub mod JudgeLemmas
 pub mod FrameLemmas
-pub mod WholeLemmas
 pub mod AnswerLemmas
 pub mod NoteLemmas
 pub mod WritingLemmas

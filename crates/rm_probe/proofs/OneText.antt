@@ -11,7 +11,7 @@ use Rattle.rm_agent.specs.declared.answer.Reason.{Reason}
 use Rattle.rm_agent.specs.Answers.{reason_for, IsReplyAfter}
 use Rattle.rm_reply.specs.Sets.{given_by}
 use Rattle.rm_agent.specs.Groups.{Reserves}
-use Rattle.rm_probe.specs.Lines.{TimedDatagram}
+use Rattle.rm_requests.specs.Lines.{TimedDatagram}
 use Rattle.rm_agent.specs.Advance.{Notification, IsAdvanced as AgentIsAdvanced}
 use Rattle.rm_probe.specs.Advance.{note_of, IsAdvanced}
 use Rattle.rm_probe.specs.Notes.{Note, trap_lines}

@@ -14,7 +14,7 @@ use Rattle.rm_agent.specs.Orderly.{NoneIsDue, IsOrderly}
 use Rattle.rm_agent.specs.Advance.{Notification, IsAdvanced as AgentIsAdvanced}
 use Rattle.rm_probe.specs.Advance.{note_of, IsAdvanced}
 use Rattle.rm_probe.specs.Events.{Event, Comes, Asks, is_by, frames_after, comings}
-use Rattle.rm_probe.specs.Lines.{TimedDatagram}
+use Rattle.rm_requests.specs.Lines.{TimedDatagram}
 use Rattle.rm_probe.specs.Notes.{Note, trap_line, trap_lines}
 use Rattle.rm_probe.specs.Text.{IsAnswered, dropped, replied, IsAnswer, AreLines}
 use Rattle.rm_probe.specs.Steps.{ArePassing, HasBegun}

@@ -11,7 +11,7 @@ use Rattle.rm_pcap.specs.declared.fault.PcapFault.TheVariants.{Magic, Version, L
 use Rattle.rm_probe.specs.Capture.{status_of}
 use Rattle.rm_probe.specs.Advance.{IsAdvanced}
 use Rattle.rm_probe.specs.Events.{Asks, comings, is_by}
-use Rattle.rm_probe.specs.Lines.{TimedDatagram}
+use Rattle.rm_requests.specs.Lines.{TimedDatagram}
 use Rattle.rm_probe.specs.Notes.{Note, trap_lines, HasNoted}
 use Rattle.rm_probe.specs.Probe.{settings_of, Stands}
 use Rattle.rm_probe.specs.Steps.{HasBegun, Advanced, Advances, Answers, Finishes, IsNextLine, IsOfRecord, Leaves, WritesLine, done}

@@ -1,16 +1,16 @@
 -- How a run of words ends: what each status says of the files, of the counts of faults, and of the octets written.
-use Rattle.std.specs.Prelude.{◌≡◌, ◌⊎◌, ◌≤◌, ◌&&◌, ℕ, List, [], ◌∷◌, Bool, false, not, ◌==◌, if◌then◌else◌, length, codes, Option, Some, None, Result, Ok, Err, IsOk, ⊤}
+use Rattle.std.specs.Prelude.{◌≡◌, ◌⊎◌, ◌&&◌, ℕ, List, [], ◌∷◌, Bool, false, not, ◌==◌, if◌then◌else◌, codes, Option, Some, None, Result, Ok, Err, ⊤}
 use Rattle.std.specs.Str.{bytes_eq}
 use Rattle.rm_edge.specs.Outside.{Held, File, OfFile, Adds, AddsFront, Rose}
 use Rattle.rm_model.specs.Journal.{Frame}
 use Rattle.rm_pcap.specs.Records.{Stop}
 use Rattle.rm_pcap.specs.declared.fault.PcapFault.{PcapFault}
-use Rattle.rm_probe.specs.Whole.{IsLong}
 use Rattle.rm_probe.specs.Capture.{IsCapture, IsCaptureFile, IsBroken, CallsFor, status_of}
-use Rattle.rm_probe.specs.Lines.{TimedDatagram, requests_of, AreRequests, IsRequestFile}
+use Rattle.rm_requests.specs.Lines.{TimedDatagram, HasTooManyLines, AreRequests, IsRequestFile, IsWrongAt}
+use Rattle.rm_requests.specs.Reading.{beginning, place_of}
+use Rattle.rm_requests.specs.declared.requests.Requests.{Requests}
 use Rattle.rm_probe.specs.Text.{IsText}
 use Rattle.rm_agent.specs.declared.settings.Settings.{Settings}
-use Rattle.rm_probe.specs.declared.judging.Judged.{Judged}
 use Rattle.rm_probe.specs.declared.status.Status.{Status}
 use Rattle.rm_probe.specs.declared.status.Status.TheVariants.{Done, Usage, BadCapture, BadRequests, ReadFault, WriteFault, NoMemory, LinkFault, TooLong}
 
@@ -29,10 +29,6 @@ replay_of words = None
 abbrev pub OfReplay : List (List ℕ) → (List ℕ → List ℕ → Type 0) → Type 0
 OfReplay words P = (capture requests : List ℕ) → replay_of words ≡ Some (capture, requests) → P capture requests
 
--- the octets aren't too many, and that line is the first that is wrong
-abbrev pub IsWrongAt : ℕ → List ℕ → Type 0
-IsWrongAt line bytes = (length bytes ≤ 16777216) × (requests_of bytes ≡ Err line)
-
 -- both files are of the form, and P holds of all their frames, of how the records stop, and of all datagrams
 abbrev pub OfBoth : ℕ → Held → Held → (List Frame → Stop → List TimedDatagram → Type 0) → Type 0
 OfBoth lead capture requests P = OfFile capture (IsCaptureFile lead) × OfFile requests IsRequestFile
@@ -50,17 +46,17 @@ WritesFront settings lead capture requests old new =
     OfBoth lead capture requests (λ frames stop asked. (text : List ℕ) × IsText settings frames stop asked text × AddsFront old new text)
 
 -- What a status says: of what is held under the two names, of the counts of failed reads and of failed puts
--- before and after, and of the octets put before and after. The capture is read again while the lines are written: a
--- read may fail then, and a shelf that doesn't tell what it holds may then have another capture.
+-- before and after, and of the octets put before and after. Both files are read again while the lines are written: a
+-- read may fail then, and a shelf that doesn't tell what it holds may then have other files.
 abbrev pub Ends : Settings → ℕ → Held → Held → ℕ → ℕ → ℕ → ℕ → Option (List ℕ) → Option (List ℕ) → Status → Type 0
 Ends settings lead capture requests reads reads' writes writes' old new Done = WritesText settings lead capture requests old new
 Ends settings lead capture requests reads reads' writes writes' old new (BadCapture at) =
     OfFile capture (λ bytes. CallsFor lead (BadCapture at) bytes × (new ≡ old))
 Ends settings lead capture requests reads reads' writes writes' old new (BadRequests line) =
-    OfFile capture (IsCaptureFile lead) × OfFile requests (IsWrongAt line) × (new ≡ old)
+    OfFile capture (IsCaptureFile lead) × OfFile requests (λ lines. IsWrongAt line lines × (new ≡ old))
 Ends settings lead capture requests reads reads' writes writes' old new TooLong =
     OfFile capture (λ bytes. CallsFor lead TooLong bytes × (new ≡ old))
-    ⊎ (OfFile capture (IsCaptureFile lead) × OfFile requests IsLong × (new ≡ old))
+    ⊎ (OfFile capture (IsCaptureFile lead) × OfFile requests (λ lines. HasTooManyLines lines × (new ≡ old)))
 Ends settings lead capture requests reads reads' writes writes' old new ReadFault =
     Rose reads reads' × ((new ≡ old) ⊎ WritesFront settings lead capture requests old new)
 Ends settings lead capture requests reads reads' writes writes' old new WriteFault =
@@ -72,7 +68,6 @@ Ends settings lead capture requests reads reads' writes writes' old new LinkFaul
 -- with these nothing was written, whatever the shelf tells
 abbrev pub IsSilent : Status → Type 0
 IsSilent Usage = ⊤
-IsSilent (BadRequests line) = ⊤
 IsSilent NoMemory = ⊤
 IsSilent LinkFault = ⊤
 IsSilent status = ⊥
@@ -81,11 +76,11 @@ IsSilent status = ⊥
 abbrev pub Comes : Status → Status → Type 0
 Comes status result = (result ≡ status) ⊎ (result ≡ NoMemory) ⊎ (result ≡ ReadFault)
 
--- Each status comes wherever the files call for it, the capture judged before the request file, and the request file's
--- length before its form.
+-- Each status comes wherever the files call for it, the capture judged before the request file. Line 1000001 isn't
+-- judged, and a wrong line before it comes first.
 pub record IsExact (lead : ℕ) (capture requests : Held) (result : Status) : Type 0 where
   pub bad_capture : (bytes : List ℕ) (fault : PcapFault) → capture ≡ File bytes → IsBroken lead fault bytes → Comes (status_of fault) result
-  pub long_requests : (bytes lines : List ℕ) → capture ≡ File bytes → IsCaptureFile lead bytes → requests ≡ File lines → IsLong lines → Comes TooLong result
+  pub long_requests : (bytes lines : List ℕ) → capture ≡ File bytes → IsCaptureFile lead bytes → requests ≡ File lines → HasTooManyLines lines → Comes TooLong result
   pub bad_requests : (bytes lines : List ℕ) (line : ℕ) → capture ≡ File bytes → IsCaptureFile lead bytes → requests ≡ File lines → IsWrongAt line lines
       → Comes (BadRequests line) result
 
@@ -96,15 +91,14 @@ IsComplete lead capture requests reads reads' writes writes' result =
     → IsCaptureFile lead bytes → IsRequestFile lines → (Rose reads reads' → ⊥) → (Rose writes writes' → ⊥)
     → (result ≡ Done) ⊎ (result ≡ NoMemory)
 
--- What judging both files answers: the octets of the request file, or for what a run ends before anything is written.
-abbrev pub JudgesFiles : ℕ → Held → Held → ℕ → ℕ → Result Judged Status → Type 0
-JudgesFiles lead capture requests reads reads' (Ok judged) =
-    OfFile capture (IsCaptureFile lead) × OfFile requests (λ bytes. judged.requests.items ≡ bytes)
-    × IsOk (requests_of judged.requests.items) × (length judged.requests.items ≤ 16777216) × (length judged.datagram.items ≡ 65535)
+-- What judging both files answers: what reads the request file again from its first line on, or for what a run ends before anything is written.
+abbrev pub JudgesFiles : ℕ → Held → Held → ℕ → ℕ → Result Requests Status → Type 0
+JudgesFiles lead capture requests reads reads' (Ok reader) =
+    OfFile capture (IsCaptureFile lead) × OfFile requests IsRequestFile × (place_of reader ≡ beginning)
 JudgesFiles lead capture requests reads reads' (Err (BadCapture at)) = OfFile capture (CallsFor lead (BadCapture at))
 JudgesFiles lead capture requests reads reads' (Err (BadRequests line)) = OfFile capture (IsCaptureFile lead) × OfFile requests (IsWrongAt line)
 JudgesFiles lead capture requests reads reads' (Err TooLong) =
-    OfFile capture (CallsFor lead TooLong) ⊎ (OfFile capture (IsCaptureFile lead) × OfFile requests IsLong)
+    OfFile capture (CallsFor lead TooLong) ⊎ (OfFile capture (IsCaptureFile lead) × OfFile requests HasTooManyLines)
 JudgesFiles lead capture requests reads reads' (Err ReadFault) = Rose reads reads'
 JudgesFiles lead capture requests reads reads' (Err NoMemory) = ⊤
 JudgesFiles lead capture requests reads reads' (Err other) = ⊥

@@ -2,7 +2,7 @@
 use Rattle.std.specs.Prelude.{ℕ, ◌+◌, Bool, nat_le, List, [], ◌∷◌, ◌++◌, drop, map, take_while}
 use Rattle.std.specs.List.{prefix_len}
 use Rattle.rm_model.specs.Journal.{Frame}
-use Rattle.rm_probe.specs.Lines.{TimedDatagram}
+use Rattle.rm_requests.specs.Lines.{TimedDatagram}
 
 -- a frame comes, or a datagram of the line with that number
 pub data Event : Type 0 where

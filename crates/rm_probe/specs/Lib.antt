@@ -1,8 +1,6 @@
 pub mod Defaults
 pub mod Capture
-pub mod Lines
-pub mod Taking
-pub mod Whole
+pub mod Requests
 pub mod Events
 pub mod Notes
 pub mod Advance

@@ -1,6 +1,6 @@
 -- What the steps of a run do.
-use Rattle.std.specs.Prelude.{◌≡◌, ℕ, ◌+◌, ◌≤◌, List, [], ◌∷◌, ◌++◌, length, take_while, Option, Some, None, Result, Ok, Err, ⊤}
-use Rattle.rm_edge.specs.Outside.{Adds, AddsFront, Held, OfFile, Rose}
+use Rattle.std.specs.Prelude.{◌≡◌, ◌⊎◌, ℕ, ◌+◌, ◌≤◌, List, [], ◌∷◌, ◌++◌, length, take_while, Option, Some, None, Result, Ok, Err, ⊤}
+use Rattle.rm_edge.specs.Outside.{Adds, AddsFront, File, Held, OfFile, Rose}
 use Rattle.rm_model.specs.Journal.{Frame, Journal, passes}
 use Rattle.rm_pcap.specs.Records.{Stop, Broken, Found, Whole, Stops, AreRecords}
 use Rattle.rm_pcap.specs.Progress.{Progress, Agrees}
@@ -10,16 +10,16 @@ use Rattle.rm_pcap.specs.declared.fault.PcapFault.TheVariants.{Included, Origina
 use Rattle.rm_probe.specs.Advance.{IsAdvanced}
 use Rattle.rm_agent.specs.Orderly.{IsOrderly}
 use Rattle.rm_probe.specs.Notes.{Note, trap_lines}
-use Rattle.rm_probe.specs.Capture.{IsCaptureFile, CallsFor, status_of}
-use Rattle.rm_probe.specs.Lines.{TimedDatagram}
-use Rattle.rm_probe.specs.declared.lines.NumberedDatagram.{NumberedDatagram}
+use Rattle.rm_probe.specs.Capture.{IsCaptureFile, IsFaultless, CallsFor, status_of}
+use Rattle.rm_requests.specs.Lines.{TimedDatagram, IsRequestFile}
+use Rattle.rm_probe.specs.declared.replaying.NumberedDatagram.{NumberedDatagram}
 use Rattle.rm_probe.specs.Events.{Event, Asks, comings, is_by, frames_after}
 use Rattle.rm_probe.specs.Text.{IsAnswer, AreLines, IsText, last_line}
 use Rattle.rm_probe.specs.Probe.{settings_of, last_given, frames_given, Stands}
 use Rattle.rm_probe.specs.declared.probe.Probe.{Probe}
 use Rattle.rm_agent.specs.declared.settings.Settings.{Settings}
 use Rattle.rm_probe.specs.declared.status.Status.{Status}
-use Rattle.rm_probe.specs.declared.status.Status.TheVariants.{Done, BadCapture, ReadFault, WriteFault, NoMemory, TooLong}
+use Rattle.rm_probe.specs.declared.status.Status.TheVariants.{Done, Usage, BadCapture, BadRequests, ReadFault, WriteFault, NoMemory, LinkFault, TooLong}
 
 -- the faults of a record, and of a read
 abbrev pub IsOfRecord : PcapFault → Type 0
@@ -151,3 +151,30 @@ Writes settings frames stop requests old new WriteFault = (text : List ℕ) × I
 Writes settings frames stop requests old new ReadFault = (text : List ℕ) × IsText settings frames stop requests text × AddsFront old new text
 Writes settings frames stop requests old new NoMemory = new ≡ old
 Writes settings frames stop requests old new other = ⊥
+
+-- what isn't of a call on the capture, nor of a put
+abbrev pub IsForeign : Status → Type 0
+IsForeign Usage = ⊤
+IsForeign (BadRequests line) = ⊤
+IsForeign NoMemory = ⊤
+IsForeign LinkFault = ⊤
+IsForeign status = ⊥
+
+-- no capture is held, or none is left of it
+abbrev pub IsNotCapture : ℕ → Held → Type 0
+IsNotCapture lead held = (bytes : List ℕ) → held ≡ File bytes → IsCaptureFile lead bytes → ⊥
+
+abbrev pub IsNotLeft : Held → Progress → Type 0
+IsNotLeft held progress =
+    (bytes : List ℕ) (frames : List Frame) (stop : Stop) → held ≡ File bytes → Leaves progress bytes frames stop → progress.reach.count ≡ 0 → IsFaultless stop → ⊥
+
+-- no request file is held
+abbrev pub IsNotRequests : Held → Type 0
+IsNotRequests held = (bytes : List ℕ) → held ≡ File bytes → IsRequestFile bytes → ⊥
+
+-- Both files were judged before they are read again: where a fault of one is found, a shelf held another one then.
+abbrev pub FindsAnother : Type 0 → Type 0 → Status → Type 0
+FindsAnother NoCapture NoRequests (BadCapture at) = NoCapture
+FindsAnother NoCapture NoRequests (BadRequests line) = NoRequests
+FindsAnother NoCapture NoRequests TooLong = NoCapture ⊎ NoRequests
+FindsAnother NoCapture NoRequests status = ⊤

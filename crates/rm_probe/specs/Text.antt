@@ -14,7 +14,7 @@ use Rattle.rm_agent.specs.declared.answer.Answer.TheVariants.{Reply, Drop}
 use Rattle.rm_agent.specs.Answers.{reason_for, IsReplyAfter}
 use Rattle.rm_reply.specs.Sets.{given_by}
 use Rattle.rm_agent.specs.Groups.{Reserves}
-use Rattle.rm_probe.specs.Lines.{TimedDatagram}
+use Rattle.rm_requests.specs.Lines.{TimedDatagram}
 use Rattle.rm_probe.specs.Notes.{Note, trap_lines}
 use Rattle.rm_probe.specs.Advance.{IsAdvanced}
 use Rattle.rm_probe.specs.Events.{Event, Comes, Asks, events}

@@ -23,11 +23,11 @@ const LEAD: u32 = 1000;
 /// The one command is `replay CAPTURE REQUESTS`. It writes one line for each datagram of the request file and one for each
 /// notification, and a last line. Each word after `replay` isn't empty and doesn't begin with a dash; other words are `Usage`.
 ///
-/// The capture is judged first, a record at a time, and then the request file, its length before its form. Only then
-/// is anything written, and the capture is read again meanwhile. After `WriteFault` and `ReadFault` a front of the
-/// text may have been written. Over a shelf that tells what it holds, nothing was written after the others but `Done`.
-/// Over one that doesn't, the capture may be another one when it is read again, and `BadCapture` and `TooLong` may
-/// come after lines were written.
+/// The capture is judged first, a record at a time, and then the request file, a line at a time. Only then is anything
+/// written, and both are read again meanwhile. After `WriteFault` and `ReadFault` a front of the text may have been
+/// written. Over a shelf that tells what it holds, nothing was written after the others but `Done`. Over one that
+/// doesn't, the files may be other ones when they are read again, and `BadCapture`, `BadRequests` and `TooLong` may come
+/// after lines were written.
 pub fn run<F: Shelf, K: Sink, L: Link, T: Clock>(
     alloc: Global,
     words: &Words,
@@ -124,11 +124,11 @@ fn replay_words(words: &Words) -> Option<(&str, &str)>
 /// Replays a capture, whose first frame stands at the moment `lead` in milliseconds, against the datagrams of a request
 /// file. It writes one line for each datagram and one for each notification, and a last line.
 ///
-/// The capture is judged first, a record at a time, and then the request file, its length before its form. Only then
-/// is anything written, and the capture is read again meanwhile. After `WriteFault` and `ReadFault` a front of the
-/// text may have been written. Over a shelf that tells what it holds, nothing was written after the others but `Done`.
-/// Over one that doesn't, the capture may be another one when it is read again, and `BadCapture` and `TooLong` may
-/// come after lines were written. `Usage` and `LinkFault` never come.
+/// The capture is judged first, a record at a time, and then the request file, a line at a time. Only then is anything
+/// written, and both are read again meanwhile. After `WriteFault` and `ReadFault` a front of the text may have been
+/// written. Over a shelf that tells what it holds, nothing was written after the others but `Done`. Over one that
+/// doesn't, the files may be other ones when they are read again, and `BadCapture`, `BadRequests` and `TooLong` may come
+/// after lines were written. `Usage` and `LinkFault` never come.
 pub fn replay<F: Shelf, K: Sink>(
     alloc: Global,
     settings: Settings,
@@ -153,14 +153,14 @@ pub fn replay<F: Shelf, K: Sink>(
         return Status::NoMemory;
     };
     match judge(alloc, lead, capture, requests, shelf) {
-        Ok(mut judged) => write_run(
+        Ok(mut reader) => write_run(
             alloc,
             shelf,
             capture,
             lead,
             probe,
-            &judged.requests,
-            &mut judged.datagram,
+            requests,
+            &mut reader,
             out,
         ),
         Err(status) => status,

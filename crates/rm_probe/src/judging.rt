@@ -2,28 +2,20 @@
 ghost use Rattle.std.specs.Prelude.{◌≡◌, ◌+◌, ◌≤◌, ℕ, List};
 ghost use Rattle.rm_probe.specs.Ends.{JudgesFiles};
 
-use crate::capture;
-use crate::lines::{self, MOST_DATAGRAM};
 use crate::status::Status;
-use crate::whole::read_whole;
+use crate::{capture, requests};
 use rm_edge::Shelf;
+use rm_requests::Requests;
 use std::alloc::Global;
 
-/// A request file that was judged, with room for one of its datagrams.
-#[derive(Drop)]
-pub struct Judged {
-    pub requests: Vec<u8>,
-    pub datagram: Vec<u8>,
-}
-
-/// Judges both files, the capture first.
+/// Judges both files, the capture first. It answers what reads the request file again from its first line on.
 pub fn judge<F: Shelf>(
     alloc: Global,
     lead: u32,
     capture: &str,
     requests: &str,
     shelf: &mut F,
-) -> Result<Judged, Status>
+) -> Result<Requests, Status>
     ensures constant { (each : List ℕ) → F.held shelf.new each ≡ F.held shelf.old each }
     ensures later { (each : List ℕ) → F.faults shelf.old each ≤ F.faults shelf.new each }
     ensures judged { JudgesFiles lead (F.held shelf.old capture.now) (F.held shelf.old requests.now)
@@ -33,12 +25,14 @@ pub fn judge<F: Shelf>(
         Ok(()) => (),
         Err(status) => return Err(status),
     }
-    let requests = read_whole(alloc, shelf, requests)?;
-    let Ok(mut datagram) = vec![in alloc; 0u8; MOST_DATAGRAM] else {
+    let Ok(mut reader) = Requests::new(alloc) else {
         return Err(Status::NoMemory);
     };
-    match lines::judge(&requests, &mut datagram) {
-        Ok(()) => Ok(Judged { requests, datagram }),
-        Err(line) => Err(Status::BadRequests(line)),
+    match requests::judge(&mut reader, shelf, requests) {
+        Ok(()) => {
+            reader.rewind();
+            Ok(reader)
+        }
+        Err(fault) => Err(Status::of_requests(fault)),
     }
 }

@@ -7,15 +7,14 @@ mod entry;
 mod judging;
 mod laws;
 mod line;
-mod lines;
 mod notes;
 mod output;
 mod probe;
 mod replaying;
+mod requests;
 mod status;
 #[cfg(test)]
 mod tests;
-mod whole;
 
 pub use entry::{replay, run};
 pub use laws::one_text;

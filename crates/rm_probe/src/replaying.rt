@@ -1,21 +1,21 @@
-// The text of a run: a capture is read again, and the datagrams of a request file are answered, which were judged before.
-ghost use Rattle.std.specs.Prelude.{◌≡◌, ◌≤◌, ◌<◌, ◌^◌, ℕ, false, List, length, Some, Ok, Err, OnOk, IsOk, IfErr, []};
+// The text of a run: a capture and a request file are read again, which were judged before, and the datagrams are answered.
+ghost use Rattle.std.specs.Prelude.{◌≡◌, ◌+◌, ◌≤◌, ◌<◌, ◌^◌, ℕ, false, List, Some, Ok, Err, OnOk, IfErr, []};
 ghost use Rattle.rm_edge.specs.Outside.{Rose, File};
 ghost use Rattle.rm_model.specs.Journal.{Frame, Journal};
 ghost use Rattle.rm_pcap.specs.View.{progress_of};
 ghost use Rattle.rm_pcap.specs.Records.{Stop, Stops};
 ghost use Rattle.rm_pcap.specs.declared.fault.PcapFault.TheVariants.{Read};
 ghost use Rattle.rm_probe.specs.Capture.{IsCapture, IsFaultless};
-ghost use Rattle.rm_probe.specs.Lines.{TimedDatagram, AreRequests, requests_of};
+ghost use Rattle.rm_requests.specs.Lines.{TimedDatagram, AreRequests};
+ghost use Rattle.rm_requests.specs.Reading.{beginning, place_of};
 ghost use Rattle.rm_probe.specs.Notes.{Note, Sent};
 ghost use Rattle.rm_probe.specs.Probe.{settings_of, last_given, frames_given, IsFresh, Stands};
-ghost use Rattle.rm_probe.specs.Steps.{Advances, Answers, Finishes, HasBegun, IsLastLine, IsNextLine, IsOfRecord, Keeps, Leaves, Writes, WritesLine, done, timed};
+ghost use Rattle.rm_probe.specs.Steps.{Advances, Answers, FindsAnother, Finishes, HasBegun, IsForeign, IsLastLine, IsNextLine, IsNotCapture, IsNotLeft, IsNotRequests, IsOfRecord, Keeps, Leaves, Writes, WritesLine, done, timed};
 ghost use Rattle.rm_probe.specs.Ends.{IsSilent};
-ghost use Rattle.rm_probe.specs.declared.status.Status.TheVariants.{BadRequests, ReadFault, WriteFault, NoMemory};
+ghost use Rattle.rm_probe.specs.declared.status.Status.TheVariants.{ReadFault, WriteFault, NoMemory};
 
 use crate::laws::every_line;
 use crate::line::{self, Line};
-use crate::lines::{self, NumberedDatagram};
 use crate::notes::Notes;
 use crate::output::Output;
 use crate::probe::Probe;
@@ -23,7 +23,16 @@ use crate::status::Status;
 use rm_agent::MOST_REPLY;
 use rm_edge::{Shelf, Sink};
 use rm_pcap::{Capture, PcapFault, Step};
+use rm_requests::Requests;
 use std::alloc::Global;
+
+/// A datagram of a request file, the number of its line from 1, and the moment in milliseconds at which it comes.
+#[derive(Clone, Copy)]
+pub struct NumberedDatagram<'a> {
+    pub number: u64,
+    pub moment: u32,
+    pub datagram: &'a [u8],
+}
 
 /// A capture whose frames pass by a probe.
 #[derive(Drop)]
@@ -123,7 +132,7 @@ impl Replaying {
         ensures read_later { (each : List ℕ) → F.faults shelf.old each ≤ F.faults shelf.new each }
         ensures reads { result ≡ Err ReadFault → Rose (F.faults shelf.old name.now) (F.faults shelf.new name.now) }
         ensures writes { result ≡ Err WriteFault → Rose (K.faults out.old.sink.now) (K.faults out.new.sink.now) }
-        ensures loud { IfErr result (λ status. IsSilent status → ⊥) }
+        ensures loud { IfErr result (λ status. IsForeign status → ⊥) }
     {
         self.advance(shelf, name, request.moment, out)?;
         let mut line = Line::new();
@@ -154,7 +163,7 @@ impl Replaying {
         ensures read_later { (each : List ℕ) → F.faults shelf.old each ≤ F.faults shelf.new each }
         ensures reads { result ≡ ReadFault → Rose (F.faults shelf.old name.now) (F.faults shelf.new name.now) }
         ensures writes { result ≡ WriteFault → Rose (K.faults out.old.sink.now) (K.faults out.new.sink.now) }
-        ensures loud { IsSilent result → ⊥ }
+        ensures loud { IsForeign result → ⊥ }
     {
         let mut line = Line::new();
         match self.finish(shelf, name, requests, &mut line, out) {
@@ -167,49 +176,48 @@ impl Replaying {
         }
     }
 
-    /// Writes the lines of the datagrams of a request file, and the last one. Each datagram is read into `buffer`.
+    /// Writes the lines of the datagrams of a request file, which is read from its first line on, and the last one.
     fn write_lines<F: Shelf, K: Sink>(
         &mut self,
         alloc: Global,
         shelf: &mut F,
         name: &str,
-        requests: &[u8],
-        buffer: &mut [u8],
+        requests: &str,
+        reader: &mut Requests,
         out: &mut Output<'_, K>,
     ) -> Status
-        requires room { 65535 ≤ length buffer.old }
-        requires few { length requests.now < 2 ^ 32 }
-        requires judged { IsOk (requests_of requests.now) }
+        requires place { place_of reader.old ≡ beginning }
         requires first { IsFresh self.old.probe }
         requires begun { Keeps 0 self.old.probe (progress_of self.old.capture) }
         requires output { out.old.failed ≡ false }
-        ensures text { (bytes : List ℕ) (frames : List Frame) (stop : Stop) (asked : List TimedDatagram)
-            → F.held shelf.old name.now ≡ File bytes
+        ensures text { (bytes lines : List ℕ) (frames : List Frame) (stop : Stop) (asked : List TimedDatagram)
+            → F.held shelf.old name.now ≡ File bytes → F.held shelf.old requests.now ≡ File lines
             → Leaves (progress_of self.old.capture) bytes frames stop → (progress_of self.old.capture).reach.count ≡ 0 → IsFaultless stop
-            → AreRequests requests.now asked
+            → AreRequests lines asked
             → Writes (settings_of self.old.probe) frames stop asked (K.content out.old.sink.now) (K.content out.new.sink.now) result }
+        ensures finds { FindsAnother (IsNotLeft (F.held shelf.old name.now) (progress_of self.old.capture)) (IsNotRequests (F.held shelf.old requests.now)) result }
         ensures same_reference { out.new.sink.ghost_name ≡ out.old.sink.ghost_name }
         ensures write_later { K.faults out.old.sink.now ≤ K.faults out.new.sink.now }
         ensures read_later { (each : List ℕ) → F.faults shelf.old each ≤ F.faults shelf.new each }
-        ensures reads { result ≡ ReadFault → Rose (F.faults shelf.old name.now) (F.faults shelf.new name.now) }
+        ensures reads { result ≡ ReadFault → Rose (F.faults shelf.old name.now + F.faults shelf.old requests.now)
+            (F.faults shelf.new name.now + F.faults shelf.new requests.now) }
         ensures writes { result ≡ WriteFault → Rose (K.faults out.old.sink.now) (K.faults out.new.sink.now) }
         ensures loud { IsSilent result → ⊥ }
     {
         every_line();
-        let mut cursor = lines::first_request(requests);
         loop {
-            let taken = match lines::next_request(cursor, buffer) {
-                Ok(Some(taken)) => taken,
-                Ok(None) => return self.write_last(shelf, name, cursor.number - 1, out),
-                Err(number) => return Status::BadRequests(number),
+            let asked = match reader.next(shelf, requests) {
+                Ok(Some(asked)) => asked,
+                Ok(None) => return self.write_last(shelf, name, reader.passed(), out),
+                Err(fault) => return Status::of_requests(fault),
             };
             let request = NumberedDatagram {
-                number: cursor.number,
-                moment: taken.moment,
-                datagram: &buffer[..taken.count],
+                number: asked.number,
+                moment: asked.moment,
+                datagram: reader.datagram(),
             };
             match self.write_answer(alloc, shelf, name, request, out) {
-                Ok(()) => cursor = taken.next,
+                Ok(()) => (),
                 Err(status) => return status,
             }
         }
@@ -238,27 +246,26 @@ fn answer<N: Notes>(
     line::answer_line(request.moment, request.number, answer, &out, line);
 }
 
-/// Reads the capture again, its first frame at the moment `lead`, and writes the text of it and of the datagrams of a
-/// request file.
+/// Reads both files again, the capture with its first frame at the moment `lead`, and writes the text of them.
 pub fn write_run<F: Shelf, K: Sink>(
     alloc: Global,
     shelf: &mut F,
     name: &str,
     lead: u32,
     probe: Probe,
-    requests: &[u8],
-    buffer: &mut [u8],
+    requests: &str,
+    reader: &mut Requests,
     out: &mut K,
 ) -> Status
-    requires room { 65535 ≤ length buffer.old }
-    requires few { length requests.now < 2 ^ 32 }
-    requires judged { IsOk (requests_of requests.now) }
+    requires place { place_of reader.old ≡ beginning }
     requires first { IsFresh probe }
-    ensures text { (bytes : List ℕ) (frames : List Frame) (stop : Stop) (asked : List TimedDatagram)
-        → F.held shelf.old name.now ≡ File bytes
-        → IsCapture lead bytes frames stop → AreRequests requests.now asked
+    ensures text { (bytes lines : List ℕ) (frames : List Frame) (stop : Stop) (asked : List TimedDatagram)
+        → F.held shelf.old name.now ≡ File bytes → F.held shelf.old requests.now ≡ File lines
+        → IsCapture lead bytes frames stop → AreRequests lines asked
         → Writes (settings_of probe) frames stop asked (K.content out.old) (K.content out.new) result }
-    ensures reads { result ≡ ReadFault → Rose (F.faults shelf.old name.now) (F.faults shelf.new name.now) }
+    ensures finds { FindsAnother (IsNotCapture lead (F.held shelf.old name.now)) (IsNotRequests (F.held shelf.old requests.now)) result }
+    ensures reads { result ≡ ReadFault → Rose (F.faults shelf.old name.now + F.faults shelf.old requests.now)
+        (F.faults shelf.new name.now + F.faults shelf.new requests.now) }
     ensures writes { result ≡ WriteFault → Rose (K.faults out.old) (K.faults out.new) }
     ensures silent { IsSilent result → K.content out.new ≡ K.content out.old }
     ensures later { K.faults out.old ≤ K.faults out.new }
@@ -270,7 +277,7 @@ pub fn write_run<F: Shelf, K: Sink>(
         Ok(capture) => {
             let mut replaying = Replaying { capture, probe };
             let mut output = Output::new(out);
-            replaying.write_lines(alloc, shelf, name, requests, buffer, &mut output)
+            replaying.write_lines(alloc, shelf, name, requests, reader, &mut output)
         }
         Err(fault) => Status::from(fault),
     }

@@ -2,6 +2,7 @@
 ghost use Rattle.std.specs.Prelude.{◌≡◌, Some};
 
 use rm_pcap::PcapFault;
+use rm_requests::RequestsFault;
 use std::fmt::{self, Display, Formatter, Write};
 
 /// How a run ended.
@@ -23,11 +24,12 @@ pub enum Status {
     NoMemory,
     /// A call on the socket failed.
     LinkFault,
-    /// The capture has too many records, or the request file too many octets.
+    /// The capture has too many records, or the request file too many lines.
     TooLong,
 }
 
 impl Status {
+    ghost use Rattle.rm_probe.specs.Requests.{status_by};
     ghost use Rattle.rm_probe.specs.Status.{number_of};
 
     /// The exit status of the program that ends so.
@@ -44,6 +46,17 @@ impl Status {
             Status::NoMemory => 7,
             Status::LinkFault => 8,
             Status::TooLong => 9,
+        }
+    }
+
+    /// How a run ends by a fault of its request file.
+    pub(crate) fn of_requests(fault: RequestsFault) -> Status
+        ensures { result ≡ status_by fault }
+    {
+        match fault {
+            RequestsFault::Line(line) => Status::BadRequests(line),
+            RequestsFault::TooLong => Status::TooLong,
+            RequestsFault::Read => Status::ReadFault,
         }
     }
 }

@@ -150,8 +150,8 @@ fn failed_reads_leave_a_front(rt: HostRuntime) -> Result<(), Fail> {
             }
         }
     }
-    // The last read that can fail is the one that finds the end of the capture, for the third line.
-    assert_eq!(rt; longest, 47);
+    // The last read that can fail is the one that finds the end of the request file, after the third line.
+    assert_eq!(rt; longest, 71);
     assert!(rt; is_done);
     Ok(())
 }

@@ -1,7 +1,7 @@
 -- The lines of a request file. A line is a moment in one to ten digits, a blank, and the octets of a datagram as
 -- hexadecimal digits, at most 131070 of them. It ends with a line feed, or with a carriage return and a line
 -- feed; the last line may have no end.
-use Rattle.std.specs.Prelude.{◌≡◌, ◌≤◌, ℕ, ◌+◌, ◌-◌, ◌*◌, ◌^◌, Bool, ◌==◌, ◌&&◌, nat_le, nat_lt, if◌then◌else◌, List, [], ◌∷◌, length, take, drop, position, Option, Some, None, Result, Ok, Err}
+use Rattle.std.specs.Prelude.{◌≡◌, ◌≤◌, ◌<◌, ℕ, ◌+◌, ◌-◌, ◌*◌, ◌^◌, Bool, ◌==◌, ◌&&◌, nat_le, nat_lt, if◌then◌else◌, List, [], ◌∷◌, length, take, drop, position, Option, Some, None, Result, Ok, Err}
 use Rattle.std.specs.Str.Lines.{lines}
 use Rattle.hex.specs.Hex.{decode_of}
 use Rattle.hex.specs.declared.error.FromHexError.{FromHexError}
@@ -72,9 +72,18 @@ requests_from number last (line ∷ more) = elim (request_of line) [
 abbrev pub requests_of : List ℕ → Result (List TimedDatagram) ℕ
 requests_of bytes = requests_from 1 0 (lines bytes)
 
--- a file of at most 16777216 octets with these datagrams
+-- line 1000001 is reached: there is one, and none before it is wrong
+pub record HasTooManyLines (bytes : List ℕ) : Type 0 where
+  pub many : 1000000 < length (lines bytes)
+  pub good : (line : ℕ) → requests_of bytes ≡ Err line → 1000000 < line
+
+-- that line is the first that is wrong, among those that there may be
+abbrev pub IsWrongAt : ℕ → List ℕ → Type 0
+IsWrongAt line bytes = (requests_of bytes ≡ Err line) × (line ≤ 1000000)
+
+-- a file of at most 1000000 lines with these datagrams
 pub record AreRequests (bytes : List ℕ) (requests : List TimedDatagram) : Type 0 where
-  pub short : length bytes ≤ 16777216
+  pub few : length (lines bytes) ≤ 1000000
   pub are : requests_of bytes ≡ Ok requests
 
 -- the octets are a request file

@@ -1,6 +1,6 @@
 -- The first line of a text, and the moment that digits are.
 use Rattle.std.proofs.Common.{◌≡◌, ℕ, ◌+◌, ◌<◌, Bool, true, false, List, [], ◌∷◌, length, take, drop, Some, None, refl, ap, ◌∙◌, arith, position, inl, inr, get_or}
-use Rattle.std.specs.Prelude.{◌==◌, not}
+use Rattle.std.specs.Prelude.{not}
 use Rattle.std.specs.List.{position_or_len, slice_split}
 use Rattle.std.specs.Str.Lines.{lines, lines_of_parts, strip_carriage_return}
 use Rattle.std.proofs.lemmas.Bool.{cases_lt, lt-ltb}
@@ -10,9 +10,7 @@ use Rattle.std.proofs.lemmas.List.Sums.{position_or_len_is}
 use Rattle.std.specs.Prelude.{All}
 use Rattle.std.proofs.lemmas.List.Sums.{prefix_len_passes}
 use Rattle.std.proofs.Math.Dec.{eqb-suc-zero}
-
-abbrev pub is_newline : ℕ → Bool
-is_newline b = b == 10
+use Rattle.rm_requests.specs.Reading.{is_newline}
 
 split_goes_on : (x : List ℕ) (parts : List (List ℕ)) → 0 < length parts → lines_of_parts (x ∷ parts) ≡ strip_carriage_return x ∷ lines_of_parts parts
 split_goes_on x [] lt = absurd (omega arith)
@@ -36,7 +34,7 @@ not_true : (b : Bool) → not b ≡ true → b ≡ false
 not_true true e = absurd cc
 not_true false e = refl
 
-none_stands : {X : Type 0} (p : X → Bool) (xs : List X) → position p xs ≡ None → All (λ x. p x ≡ false) xs
+pub none_stands : {X : Type 0} (p : X → Bool) (xs : List X) → position p xs ≡ None → All (λ x. p x ≡ false) xs
 none_stands p xs none k d lt =
     elim (cases_lt (position_or_len p xs) (length xs)) [
       | inl found ↦ absurd (let s : position p xs ≡ Some (position_or_len p xs) = rw (lt-ltb _ _ found) refl in cc)
