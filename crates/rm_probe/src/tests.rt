@@ -3,6 +3,7 @@
 use crate::{Status, run};
 use rm_edge::{ListClock, MemLink, MemShelf, MemSink, Words};
 use std::alloc::Global;
+use std::fmt::Write;
 use std::test::Fail;
 
 mod notifications;
@@ -113,6 +114,29 @@ fn files_are_read_in_pieces(rt: HostRuntime) -> Result<(), Fail> {
     let status = run_replay(alloc, &mut shelf, &mut out)?;
     assert_eq!(rt; status, Status::Done);
     assert_eq!(rt; out.bytes(), THREE_LINES.as_bytes());
+    Ok(())
+}
+
+// 160 lines of the longest datagram: 20,972,160 octets, which are read through a window.
+#[test]
+fn long_requests_are_dropped(rt: HostRuntime) -> Result<(), Fail> {
+    let alloc = rt.alloc();
+    let zeros = vec![in alloc; b'0'; 131_070]?;
+    let mut requests = Vec::new(alloc);
+    let mut text = String::new(alloc);
+    for number in 1..=160 {
+        requests.extend_from_slice(b"1000 ")?;
+        requests.extend_from_slice(&zeros)?;
+        requests.push(b'\n')?;
+        write!(text, "1000 {number} drop too-long\n")?;
+    }
+    write!(text, "end 0 160\n")?;
+    assert_eq!(rt; requests.len(), 20_972_160);
+    let mut shelf = shelf_of(alloc, &HEADER, &requests)?;
+    let mut out = sink_of(alloc, 8192)?;
+    let status = run_replay(alloc, &mut shelf, &mut out)?;
+    assert_eq!(rt; status, Status::Done);
+    assert_eq!(rt; str::from_utf8(out.bytes())?, text.as_str());
     Ok(())
 }
 
