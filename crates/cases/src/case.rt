@@ -1,13 +1,10 @@
 // A case, as the statements of a file tell it.
-use crate::capture::Capture;
-use crate::frame::{Frame, read_frame};
 use crate::given::Given;
-use crate::names::Names;
-use crate::octets::octets;
-use crate::request::Datagram;
 use crate::status::status;
-use crate::text::{Statement, first_number, first_word, number};
-use crate::trouble::Trouble;
+use case_text::{
+    Capture, Datagram, Frame, Names, Statement, Trouble, first_number, first_word, number, octets,
+    read_frame,
+};
 use rm_probe::Status;
 use std::alloc::Global;
 use std::fmt::Write;

@@ -1,10 +1,8 @@
 // The settings of a case.
 ghost use Rattle.std.specs.Prelude.{◌≤◌, ◌↔◌, IfOk, IsTrue, length};
 
-use crate::octets::word_octets;
-use crate::text::{first_word, number};
-use crate::trouble::Trouble;
 use arrayvec::ArrayVec;
+use case_text::{Trouble, first_word, number, word_octets};
 use rm_agent::Settings;
 use std::alloc::Global;
 

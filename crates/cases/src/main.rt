@@ -3,25 +3,14 @@
 //! README.md says the form.
 #![tactic(auto)]
 
-mod address;
-mod ber;
-mod binding;
-mod capture;
 mod case;
-mod frame;
 mod given;
-mod names;
-mod octets;
-mod request;
+mod outcome;
 mod status;
-mod text;
 mod trial;
-mod trouble;
-mod verdict;
 
-use crate::names::Names;
-use crate::text::statements;
-use crate::verdict::{Verdict, judge};
+use crate::outcome::{Outcome, judge};
+use case_text::{Names, statements};
 use std::process::ExitCode;
 use std::rt::Files;
 use std::{fs, io};
@@ -43,38 +32,38 @@ fn files_of_cases(rt: &HostRuntime) -> io::Result<Vec<String>> {
     Ok(files)
 }
 
-// Reads the file of names. The verdict tells what is wrong with it.
-fn read_names(rt: &HostRuntime) -> io::Result<Result<Names, Verdict>> {
+// Reads the file of names. The outcome tells what is wrong with it.
+fn read_names(rt: &HostRuntime) -> io::Result<Result<Names, Outcome>> {
     let text = fs::read_to_string(rt, NAMES)?;
     let mut names = Names::new(rt.alloc());
     let statements = match statements(rt.alloc(), text.as_str()) {
         Ok(statements) => statements,
-        Err(trouble) => return Ok(Err(Verdict::Unread { line: 0, trouble })),
+        Err(trouble) => return Ok(Err(Outcome::Unread { line: 0, trouble })),
     };
     for statement in &statements {
         if let Err(trouble) = names.take(statement) {
             let line = statement.line;
-            return Ok(Err(Verdict::Unread { line, trouble }));
+            return Ok(Err(Outcome::Unread { line, trouble }));
         }
     }
     Ok(Ok(names))
 }
 
-// Judges each file, and prints the verdicts. The result is whether all are good.
+// Judges each file, and prints the outcomes. The result is whether all are good.
 fn judge_all(rt: &HostRuntime) -> io::Result<bool> {
     let names = match read_names(rt)? {
         Ok(names) => names,
-        Err(verdict) => {
-            rt.println(verdict.text(rt.alloc(), NAMES)?)?;
+        Err(outcome) => {
+            rt.println(outcome.text(rt.alloc(), NAMES)?)?;
             return Ok(false);
         }
     };
     let mut is_good = true;
     for name in &files_of_cases(rt)? {
         let text = fs::read_to_string(rt, name.as_str())?;
-        let verdict = judge(rt.alloc(), &names, text.as_str());
-        rt.println(verdict.text(rt.alloc(), name.as_str())?)?;
-        is_good = is_good && verdict.is_good();
+        let outcome = judge(rt.alloc(), &names, text.as_str());
+        rt.println(outcome.text(rt.alloc(), name.as_str())?)?;
+        is_good = is_good && outcome.is_good();
     }
     Ok(is_good)
 }

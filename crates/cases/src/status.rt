@@ -1,6 +1,5 @@
 // How a run ends, as text.
-use crate::text::first_word;
-use crate::trouble::Trouble;
+use case_text::{Trouble, first_word};
 use rm_probe::Status;
 
 /// The status that a text names, with its number behind it where it has one.

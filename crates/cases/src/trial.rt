@@ -1,6 +1,6 @@
 // What a run does with a case.
 use crate::case::Case;
-use crate::trouble::Trouble;
+use case_text::Trouble;
 use rm_edge::{ListClock, MemLink, MemShelf, MemSink, Words};
 use rm_probe::{Status, replay, run};
 use std::alloc::Global;

@@ -1,9 +1,7 @@
-// The verdict on a file of cases.
+// The outcome of a file of cases.
 use crate::case::Case;
-use crate::names::Names;
-use crate::text::{Statement, first_word, statements};
 use crate::trial::{Difference, try_case};
-use crate::trouble::Trouble;
+use case_text::{Names, Statement, Trouble, first_word, statements};
 use std::alloc::{AllocError, Global};
 
 /// How many cases a file has, and how many datagrams they ask.
@@ -13,9 +11,9 @@ pub struct Counts {
     pub datagrams: usize,
 }
 
-/// The verdict on a file of cases.
+/// The outcome of a file of cases.
 #[derive(Drop)]
-pub enum Verdict {
+pub enum Outcome {
     /// Each of its cases is as its run.
     Good(Counts),
     /// This statement isn't of the form, or the file has no case.
@@ -30,25 +28,25 @@ pub enum Verdict {
     },
 }
 
-impl Verdict {
+impl Outcome {
     /// Whether each of the cases is as its run.
     pub fn is_good(&self) -> bool {
-        matches!(self, Verdict::Good(_))
+        matches!(self, Outcome::Good(_))
     }
 
     /// The lines that tell it of a file with that name.
     pub fn text(&self, alloc: Global, name: &str) -> Result<String, AllocError> {
         match self {
-            Verdict::Good(counts) => {
+            Outcome::Good(counts) => {
                 let cases = counts.cases;
                 let datagrams = counts.datagrams;
                 format!(in alloc; "{name}: cases {cases}, datagrams {datagrams}")
             }
-            Verdict::Unread { line, trouble } => {
+            Outcome::Unread { line, trouble } => {
                 let text = trouble.text();
                 format!(in alloc; "{name}, line {line}: unread: {text}")
             }
-            Verdict::Bad { title, difference } => {
+            Outcome::Bad { title, difference } => {
                 let Difference {
                     line,
                     expected,
@@ -63,10 +61,10 @@ impl Verdict {
 }
 
 /// Judges a file of cases, up to the first that isn't as its run.
-pub fn judge(alloc: Global, names: &Names, text: &str) -> Verdict {
+pub fn judge(alloc: Global, names: &Names, text: &str) -> Outcome {
     let statements = match statements(alloc, text) {
         Ok(statements) => statements,
-        Err(trouble) => return Verdict::Unread { line: 0, trouble },
+        Err(trouble) => return Outcome::Unread { line: 0, trouble },
     };
     let mut counts = Counts {
         cases: 0,
@@ -77,9 +75,9 @@ pub fn judge(alloc: Global, names: &Names, text: &str) -> Verdict {
     for statement in &statements {
         match step(alloc, names, common, statement, &mut current, &mut counts) {
             Ok(None) => {}
-            Ok(Some(verdict)) => return verdict,
+            Ok(Some(outcome)) => return outcome,
             Err(trouble) => {
-                return Verdict::Unread {
+                return Outcome::Unread {
                     line: statement.line,
                     trouble,
                 };
@@ -87,11 +85,11 @@ pub fn judge(alloc: Global, names: &Names, text: &str) -> Verdict {
         }
     }
     match finish(alloc, current, &mut counts) {
-        Ok(None) => Verdict::Good(counts),
-        Ok(Some(verdict)) => verdict,
+        Ok(None) => Outcome::Good(counts),
+        Ok(Some(outcome)) => outcome,
         Err(trouble) => {
             let line = statements.last().map_or(0, |statement| statement.line);
-            Verdict::Unread { line, trouble }
+            Outcome::Unread { line, trouble }
         }
     }
 }
@@ -107,7 +105,7 @@ fn common(statements: &[Statement]) -> &[Statement] {
     }
 }
 
-// Takes a statement. A verdict comes where it ends a case that isn't as its run.
+// Takes a statement. An outcome comes where it ends a case that isn't as its run.
 fn step(
     alloc: Global,
     names: &Names,
@@ -115,7 +113,7 @@ fn step(
     statement: &Statement,
     current: &mut Option<Case>,
     counts: &mut Counts,
-) -> Result<Option<Verdict>, Trouble> {
+) -> Result<Option<Outcome>, Trouble> {
     if statement.begins_case() {
         let (_, title) = first_word(statement.text.as_str());
         let mut next = Case::new(alloc, statement.line, title)?;
@@ -141,7 +139,7 @@ fn finish(
     alloc: Global,
     current: Option<Case>,
     counts: &mut Counts,
-) -> Result<Option<Verdict>, Trouble> {
+) -> Result<Option<Outcome>, Trouble> {
     match current {
         None => Err(Trouble::Form("no case")),
         Some(case) => end_case(alloc, &case, counts),
@@ -149,11 +147,11 @@ fn finish(
 }
 
 // Runs a case, and counts it where it is as its run.
-fn end_case(alloc: Global, case: &Case, counts: &mut Counts) -> Result<Option<Verdict>, Trouble> {
+fn end_case(alloc: Global, case: &Case, counts: &mut Counts) -> Result<Option<Outcome>, Trouble> {
     case.end()?;
     if let Some(difference) = try_case(alloc, case)? {
         let title = String::from_str(alloc, case.title.as_str())?;
-        return Ok(Some(Verdict::Bad { title, difference }));
+        return Ok(Some(Outcome::Bad { title, difference }));
     }
     counts.cases = counts.cases.saturating_add(1);
     counts.datagrams = counts.datagrams.saturating_add(case.asked);

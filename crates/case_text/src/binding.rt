@@ -2,7 +2,7 @@
 use crate::address::ip;
 use crate::ber;
 use crate::names::{Names, Syntax};
-use crate::octets::octets;
+use crate::pieces::octets;
 use crate::text::{first_word, number};
 use crate::trouble::Trouble;
 use std::alloc::Global;

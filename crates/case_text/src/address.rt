@@ -1,5 +1,5 @@
 // Addresses and ports as text.
-use crate::octets::octets;
+use crate::pieces::octets;
 use crate::trouble::Trouble;
 use std::alloc::Global;
 

@@ -2,7 +2,7 @@
 use crate::ber;
 use crate::binding::bindings;
 use crate::names::Names;
-use crate::octets::{octets, word_octets};
+use crate::pieces::{octets, word_octets};
 use crate::text::{first_word, number};
 use crate::trouble::Trouble;
 use std::alloc::Global;

@@ -1,6 +1,6 @@
 // Frames as text.
 use crate::address::{ethernet_address, ip_pair, ports};
-use crate::octets::octets;
+use crate::pieces::octets;
 use crate::text::number;
 use crate::trouble::Trouble;
 use std::alloc::Global;
