@@ -79,9 +79,15 @@ fn a_line_stands_across_the_end_of_the_window(rt: HostRuntime) -> Result<(), Fai
         for number in 1..=count as u64 {
             assert_eq!(rt; next(&mut requests, &mut shelf), Ok(Some((number, 8))));
         }
-        assert_eq!(rt; next(&mut requests, &mut shelf), Ok(Some((count as u64 + 1, 9))));
+        assert_eq!(rt;
+            next(&mut requests, &mut shelf),
+            Ok(Some((count as u64 + 1, 9)))
+        );
         assert_eq!(rt; requests.datagram(), [10, 11, 12].as_slice());
-        assert_eq!(rt; next(&mut requests, &mut shelf), Ok(Some((count as u64 + 2, 10))));
+        assert_eq!(rt;
+            next(&mut requests, &mut shelf),
+            Ok(Some((count as u64 + 2, 10)))
+        );
         assert_eq!(rt; requests.datagram(), [255].as_slice());
         assert_eq!(rt; next(&mut requests, &mut shelf), Ok(None));
     }
@@ -95,12 +101,20 @@ fn a_million_lines_are_read_and_no_more(rt: HostRuntime) -> Result<(), Fail> {
         (999_999, "8 ", 1_000_000, None),
         (1_000_000, "\n", 1_000_000, Some(RequestsFault::TooLong)),
         (1_000_000, "8 \nx", 1_000_000, Some(RequestsFault::TooLong)),
-        (999_999, "x\n8 \n", 999_999, Some(RequestsFault::Line(1_000_000))),
+        (
+            999_999,
+            "x\n8 \n",
+            999_999,
+            Some(RequestsFault::Line(1_000_000)),
+        ),
     ] {
         let octets = short_lines(rt.alloc(), count, rest.as_bytes())?;
         let mut shelf = shelf_of(rt.alloc(), &octets)?;
         let mut requests = Requests::new(rt.alloc())?;
-        assert_eq!(rt; read_on(&mut requests, &mut shelf, 1_000_001), (passed, fault));
+        assert_eq!(rt;
+            read_on(&mut requests, &mut shelf, 1_000_001),
+            (passed, fault)
+        );
     }
     Ok(())
 }
