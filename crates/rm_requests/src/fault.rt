@@ -1,3 +1,4 @@
+// Why a request file isn't read on.
 /// Why a request file isn't read on.
 #[derive(Clone, Copy, Debug, PartialEq, Eq)]
 pub enum RequestsFault {

@@ -1,3 +1,4 @@
+// A request file that is read line by line.
 ghost use Rattle.std.specs.Prelude.{◌≡◌, ◌≤◌, ◌<◌, ◌*◌, ◌+◌, ℕ, List, [], length, drop, take, vec_len, Err, IfOk, OnOk, IsErr};
 ghost use Rattle.rm_edge.specs.Outside.{File, Absent, HasCause, Rose};
 ghost use Rattle.rm_window.specs.Filling.{IsFront};
@@ -125,8 +126,8 @@ impl Requests {
     /// Reads the next line, which is passed where it is a request. None comes exactly at the end of the file.
     ///
     /// Line comes exactly where the next line isn't of the form or its moment falls, TooLong where line 1,000,001 is
-    /// reached, whatever stands in it, and Read only where a read failed. A name without a file fails with Read before the first line. After a fault nothing was
-    /// passed.
+    /// reached, whatever stands in it, and Read only where a read failed. A name without a file fails with Read before the
+    /// first line. After a fault nothing was passed.
     pub fn next<S: Shelf>(
         &mut self,
         shelf: &mut S,
