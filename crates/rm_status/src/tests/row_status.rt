@@ -95,7 +95,11 @@ fn each_value_of_a_row_status(rt: HostRuntime) {
     for (before, steps) in BEFORE {
         for number in 0..8 {
             let expected = steps[number];
-            assert_eq!(rt; step(before, number as i32), expected, "{before:?} {number}");
+            assert_eq!(rt;
+                step(before, number as i32),
+                expected,
+                "{before:?} {number}"
+            );
         }
     }
 }
