@@ -7,7 +7,7 @@ use Rattle.rm_val.specs.Val.{Val, int, name}
 pub use Rattle.rm_val.specs.Contents.{number_of, name_of}
 use Rattle.rm_model.specs.Settings.{Settings}
 use Rattle.rm_model.specs.Journal.{Journal, passes, assigns, samples, moment_of}
-use Rattle.rm_model.specs.ControlTable.{Range, Column, ControlTable, number, any_name, owner_column}
+use Rattle.rm_model.specs.ControlTable.{Range, Column, ControlTable, no_rules, number, any_name, owner_column}
 use Rattle.rm_model.specs.ControlRows.{no_rows, is_valid, state_of, value_of, stays_valid, since, activated}
 use Rattle.rm_acts.specs.Crossings.{Bounds, crossing}
 use Rattle.rm_model.specs.declared.row.StatusKind.TheVariants.{EntryStatus}
@@ -60,10 +60,12 @@ alarm_table = record {
   entry = alarm_entry;
   status = 12;
   status_kind = EntryStatus;
+  most = 16;
   columns =
       interval_column ∷ variable_column ∷ sample_type_column ∷ startup_column ∷ rising_column ∷ falling_column
       ∷ rising_event_column ∷ falling_event_column ∷ owner_column 11 ∷ [];
   go_together = λ value. int_le (number_of (value 8)) (number_of (value 7));
+  rules = no_rules;
   is_sampled = true;
 }
 

@@ -4,7 +4,7 @@ use Rattle.rm_val.specs.Val.{Val, int, octets}
 use Rattle.rm_model.specs.Settings.{Settings}
 use Rattle.rm_model.specs.Journal.{Frame, Journal}
 use Rattle.rm_model.specs.Cells.{is_one_of}
-use Rattle.rm_model.specs.ControlTable.{ControlTable, number, text}
+use Rattle.rm_model.specs.ControlTable.{ControlTable, no_rules, number, text}
 use Rattle.rm_model.specs.ControlRows.{no_rows, value_of}
 use Rattle.rm_acts.specs.Alarms.{up_from}
 use Rattle.rm_model.specs.declared.row.StatusKind.TheVariants.{EntryStatus}
@@ -22,6 +22,7 @@ buffer_table = record {
   entry = buffer_entry;
   status = 13;
   status_kind = EntryStatus;
+  most = 16;
   columns =
       record { number = 2; kind = number (up_from 1 65535); always = false; needed = true; default = int (pos 0) }
       ∷ record { number = 4; kind = number (up_from 1 2); always = false; needed = false; default = int (pos 1) }
@@ -32,6 +33,7 @@ buffer_table = record {
       ∷ record { number = 12; kind = text 127; always = true; needed = false; default = octets [] }
       ∷ [];
   go_together = λ value. true;
+  rules = no_rules;
   is_sampled = false;
 }
 

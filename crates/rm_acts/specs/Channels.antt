@@ -4,7 +4,7 @@ use Rattle.std.specs.List.{list_any}
 use Rattle.rm_val.specs.Val.{int, octets}
 use Rattle.rm_model.specs.Settings.{Settings}
 use Rattle.rm_model.specs.Journal.{Frame, Journal}
-use Rattle.rm_model.specs.ControlTable.{Column, ControlTable, number, text}
+use Rattle.rm_model.specs.ControlTable.{Column, ControlTable, no_rules, number, text}
 use Rattle.rm_model.specs.ControlRows.{no_rows}
 use Rattle.rm_model.specs.Indexes.{indexes_of}
 use Rattle.rm_model.specs.declared.interface.TheConstants.{INTERFACES}
@@ -28,6 +28,7 @@ channel_table = record {
   entry = channel_entry;
   status = 12;
   status_kind = EntryStatus;
+  most = 16;
   columns =
       record { number = 2; kind = number (up_from 1 INTERFACES); always = false; needed = false; default = int (pos 1) }
       ∷ record { number = 3; kind = number (up_from 1 2); always = false; needed = false; default = int (pos 1) }
@@ -38,6 +39,7 @@ channel_table = record {
       ∷ record { number = 11; kind = text 127; always = true; needed = false; default = octets [] }
       ∷ [];
   go_together = λ value. true;
+  rules = no_rules;
   is_sampled = false;
 }
 

@@ -2,7 +2,7 @@
 use Rattle.std.specs.Prelude.{ℕ, pos, List, [], ◌∷◌, true, false}
 use Rattle.rm_val.specs.Val.{int, octets}
 use Rattle.rm_model.specs.Journal.{Journal}
-use Rattle.rm_model.specs.ControlTable.{Column, ControlTable, number, text, owner_column}
+use Rattle.rm_model.specs.ControlTable.{Column, ControlTable, no_rules, number, text, owner_column}
 use Rattle.rm_acts.specs.Alarms.{up_from, alarm_column}
 use Rattle.rm_model.specs.declared.row.StatusKind.TheVariants.{EntryStatus}
 use Rattle.rm_acts.specs.declared.sampled.Sampled.{Sampled}
@@ -22,8 +22,10 @@ event_table = record {
   entry = 1 ∷ 3 ∷ 6 ∷ 1 ∷ 2 ∷ 1 ∷ 16 ∷ 9 ∷ 1 ∷ 1 ∷ [];
   status = 7;
   status_kind = EntryStatus;
+  most = 16;
   columns = text_column 2 ∷ type_column ∷ text_column 4 ∷ owner_column 6 ∷ [];
   go_together = λ value. true;
+  rules = no_rules;
   is_sampled = false;
 }
 

@@ -4,7 +4,7 @@ use Rattle.rm_val.specs.Val.{int, octets}
 use Rattle.rm_model.specs.Settings.{Settings}
 use Rattle.rm_model.specs.Journal.{Frame, Journal}
 use Rattle.rm_model.specs.FrameFacts.{frame_facts}
-use Rattle.rm_model.specs.ControlTable.{Column, ControlTable, number, text}
+use Rattle.rm_model.specs.ControlTable.{Column, ControlTable, no_rules, number, text}
 use Rattle.rm_acts.specs.Alarms.{up_from}
 use Rattle.rm_model.specs.declared.row.StatusKind.TheVariants.{EntryStatus}
 use Rattle.rm_acts.specs.Bits.{test_of, pass}
@@ -27,6 +27,7 @@ filter_table = record {
   entry = filter_entry;
   status = 11;
   status_kind = EntryStatus;
+  most = 16;
   columns =
       record { number = 2; kind = number (up_from 1 65535); always = false; needed = true; default = int (pos 0) }
       ∷ natural_column 3 ∷ packet_column 4 ∷ packet_column 5 ∷ packet_column 6
@@ -34,6 +35,7 @@ filter_table = record {
       ∷ record { number = 10; kind = text 127; always = true; needed = false; default = octets [] }
       ∷ [];
   go_together = λ value. true;
+  rules = no_rules;
   is_sampled = false;
 }
 

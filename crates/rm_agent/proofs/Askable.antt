@@ -6,4 +6,4 @@ pub sources_askable : (keeps : Sources) (moment : ℕ) → sources.askable keeps
 sources_askable keeps moment = (tt, tt)
 
 pub groups_askable : (keeps : Groups) (moment : ℕ) → all_groups.askable keeps moment
-groups_askable keeps moment = (tt, (tt, sources_askable keeps.second.second.watched moment))
+groups_askable keeps moment = (tt, (tt, (sources_askable keeps.second.second.first moment, tt)))

@@ -2,7 +2,7 @@
 use Rattle.std.proofs.Common.{◌≡◌, ◌≤◌, ℕ, Bool, true, false, ◌||◌, if◌then◌else◌, List, length, Some, None, refl, ap, arith, bytes_eq}
 use Rattle.std.proofs.lemmas.Slice.Eq.{bytes_eq-Decides}
 use Rattle.rm_pdu.specs.Message.{Message}
-use Rattle.rm_pdu.specs.Verdict.{message}
+use Rattle.rm_pdu.specs.Parse.{message}
 use Rattle.rm_agent.specs.declared.settings.Settings.{Settings}
 use Rattle.rm_agent.specs.declared.answer.Reason.TheVariants.{Community}
 use Rattle.rm_agent.specs.Known.{is_known}

@@ -2,7 +2,7 @@
 use Rattle.std.specs.Prelude.{◌≡◌, ◌≤◌, ℕ, true, List, if◌then◌else◌, Option, Some, None, length, take}
 use Rattle.rm_model.specs.Journal.{Journal}
 use Rattle.rm_pdu.specs.Message.{Message, message_octets}
-use Rattle.rm_pdu.specs.Verdict.{Verdict, too_long, malformed, other_version, not_request, message, IsVerdict}
+use Rattle.rm_pdu.specs.Parse.{Parse, too_long, malformed, other_version, not_request, message, IsParse}
 use Rattle.rm_pdu.specs.declared.message.Fault.{Fault}
 use Rattle.rm_pdu.specs.declared.message.Fault.TheVariants.{TooLong as LongFault, Malformed as MalformedFault, Version as VersionFault, NotRequest as OtherFault}
 use Rattle.rm_agent.specs.declared.settings.Settings.{Settings}
@@ -14,9 +14,9 @@ use Rattle.rm_agent.specs.Known.{is_known, may_write}
 use Rattle.rm_reply.specs.Responses.{IsReplyBy}
 use Rattle.rm_agent.specs.Groups.{cells, objects, alone, together, Reserves}
 
--- Why octets of which that is the verdict get no reply; nothing where they get one. A request is judged whole before
+-- Why octets of which that is the parse get no reply; nothing where they get one. A request is judged whole before
 -- its community is.
-abbrev pub reason_for : Settings → Verdict → Option Reason
+abbrev pub reason_for : Settings → Parse → Option Reason
 reason_for settings too_long = Some TooLong
 reason_for settings (malformed at) = Some (Malformed at)
 reason_for settings (other_version z) = Some Version
@@ -45,7 +45,7 @@ IsReplyAfter settings journal now request reply after =
 -- no reply, the journal stays.
 abbrev pub IsReplied : Settings → Journal → ℕ → List ℕ → Answer → List ℕ → Journal → Type 0
 IsReplied settings journal now datagram (Reply count) out after =
-    (request reply : Message) × IsVerdict true datagram (message request) × (reason_for settings (message request) ≡ None)
+    (request reply : Message) × IsParse true datagram (message request) × (reason_for settings (message request) ≡ None)
     × IsReplyAfter settings journal now request reply after × (count ≡ length (message_octets reply)) × (take count out ≡ message_octets reply)
 IsReplied settings journal now datagram (Drop reason) out after = after ≡ journal
 

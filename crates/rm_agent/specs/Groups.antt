@@ -11,7 +11,7 @@ use Rattle.rm_group.specs.declared.due.Due.{Due}
 use Rattle.rm_event.specs.Firings.{is_set}
 use Rattle.rm_event.specs.Standing.{IsUnderWay as EventsUnderWay}
 use Rattle.rm_agent.specs.declared.settings.Settings.{Settings}
-use Rattle.rm_agent.specs.Members.{Groups, events_of, watched_of, all_groups, sources, with_alarms}
+use Rattle.rm_agent.specs.Members.{Groups, events_of, watched_of, watched, all_groups}
 use Rattle.rm_agent.specs.Known.{counting_by}
 
 -- the variables of all groups that have a value after a journal, at a moment in milliseconds
@@ -43,7 +43,7 @@ GroupsStand = all_groups.stands
 -- alarms, stand for the journal with the act in front already: no firing makes a difference to them.
 abbrev pub AreUnderWay : Groups → Counting → Act → Journal → Type 0
 AreUnderWay groups settings act earlier =
-    ((is_set act ≡ false) × EventsUnderWay (events_of groups) settings act earlier []) × (with_alarms sources).stands (watched_of groups) settings (act ∷ earlier)
+    ((is_set act ≡ false) × EventsUnderWay (events_of groups) settings act earlier []) × watched.stands (watched_of groups) settings (act ∷ earlier)
 
 -- they have the storage of one row of each table whose rows take storage
 abbrev pub AreStocked : Groups → Type 0

@@ -13,6 +13,8 @@ use Rattle.rm_model.specs.Judgement.{Bindings, second_pass, rows_after}
 use Rattle.rm_model.specs.Reserves.{Reserves as ReservesRow}
 use Rattle.rm_group.specs.Alone.{read_only}
 use Rattle.rm_group.specs.System.{system_entry, system_columns, system_table}
+use Rattle.rm_acts.specs.Recurring.{Sampleable}
+use Rattle.rm_group.specs.Both.{StandAsOne}
 use Rattle.rm_group.specs.declared.due.Due.{Due}
 use Rattle.rm_group.specs.declared.both.Both.{Both}
 use Rattle.rm_group.specs.declared.system.System.{System}
@@ -27,35 +29,40 @@ use Rattle.rm_history.specs.declared.history.History.{History}
 use Rattle.rm_alarm.specs.AlarmTable.{alarm_columns, alarms_table}
 use Rattle.rm_alarm.specs.Group.{alarm_alone, alarm_together}
 use Rattle.rm_alarm.specs.Left.{IsSampleDue, samples_left}
-use Rattle.rm_alarm.specs.Watched.{AreWatched}
+use Rattle.rm_alarm.specs.Standing.{AreWhole}
+use Rattle.rm_alarm.specs.Watched.{ReadsFrom}
 use Rattle.rm_alarm.specs.declared.alarms.Alarms.{Alarms}
-use Rattle.rm_alarm.specs.declared.watched.Watched.{Watched}
 use Rattle.rm_event.specs.EventTable.{event_table}
 use Rattle.rm_event.specs.Group.{event_cells, event_objects, event_alone, IsStocked as IsEventStocked}
 use Rattle.rm_event.specs.Standing.{Stands as EventsStand}
 use Rattle.rm_event.specs.declared.events.Events.{Events}
 
--- The groups as they stand in one another: a pair is a group, and so are the alarms over the groups whose variables they sample.
+-- The groups as they stand in one another: a pair is a group, and the alarms stand beside the groups whose variables they sample.
 abbrev pub Sources : Type 0
 Sources = Both Ether History
 
+abbrev pub Watched : Type 0
+Watched = Both Sources Alarms
+
 abbrev pub Groups : Type 0
-Groups = Both System (Both Events (Watched Sources))
+Groups = Both System (Both Events Watched)
 
 -- each group by its name, and the alarms with the groups whose variables they sample
 abbrev pub events_of : Groups → Events
 events_of groups = groups.second.first
 
-abbrev pub watched_of : Groups → Watched Sources
+abbrev pub watched_of : Groups → Watched
 watched_of groups = groups.second.second
 
 abbrev pub alarms_of : Groups → Alarms
-alarms_of groups = (watched_of groups).alarms
+alarms_of groups = (watched_of groups).second
 
 -- A group of objects: what it keeps, and what it answers and refuses after a journal, by what the probe was set to.
 pub record OfObjects (Keeps : Type 0) : Type 1 where
   -- what it keeps is what the journal gives
   pub stands : Keeps → Settings → Journal → Type 0
+  -- what the probe was set to is as it needs it beside another group
+  pub tied : Settings → Type 0
   -- the least moment at which it may be given a Set, in milliseconds
   pub clock : Keeps → ℕ
   -- it may be asked at a moment in milliseconds
@@ -79,10 +86,11 @@ pub record OfObjects (Keeps : Type 0) : Type 1 where
   -- there may be no memory for the row that the binding with that number, from 1, makes valid
   pub reserves : Journal → Bindings → ℕ → Type 0
 
--- Two groups as one. Where both have a variable of a name, or find something wrong with a binding, the first one's counts.
+-- Two groups as one, of which the second stands beside the first. Where both have a variable of a name, or find something wrong with a binding, the first one's counts.
 abbrev pub both : {One Other : Type 0} → OfObjects One → OfObjects Other → OfObjects (Both One Other)
 both one other = record {
-  stands = λ keeps settings journal. one.stands keeps.first settings journal × other.stands keeps.second settings journal;
+  stands = λ keeps settings journal. StandAsOne (one.stands keeps.first settings journal) (other.stands keeps.second settings journal) (other.tied settings);
+  tied = λ settings. Unit {0};
   clock = λ keeps. max (one.clock keeps.first) (other.clock keeps.second);
   askable = λ keeps moment. one.askable keeps.first moment × other.askable keeps.second moment;
   frames = λ keeps. max (one.frames keeps.first) (other.frames keeps.second);
@@ -96,27 +104,10 @@ both one other = record {
   reserves = λ journal bindings index. one.reserves journal bindings index ⊎ other.reserves journal bindings index;
 }
 
--- A group and the alarms that sample its variables. An alarm that becomes valid is judged by what its variable reads then.
-abbrev pub with_alarms : {Keeps : Type 0} → OfObjects Keeps → OfObjects (Watched Keeps)
-with_alarms group = record {
-  stands = λ keeps settings journal. AreWatched group.cells (group.stands keeps.watched settings journal) keeps.alarms settings journal;
-  clock = λ keeps. group.clock keeps.watched;
-  askable = λ keeps moment. group.askable keeps.watched moment;
-  frames = λ keeps. group.frames keeps.watched;
-  stocked = λ keeps. group.stocked keeps.watched;
-  falls_due = λ keeps due. group.falls_due keeps.watched due ⊎ IsSampleDue keeps.alarms due;
-  left = λ keeps latest. group.left keeps.watched latest + samples_left keeps.alarms latest;
-  cells = λ settings journal now name. option_or (group.cells settings journal now name) (cells_of (alarms_table settings journal) name);
-  objects = λ name. group.objects name || is_of_column alarm_entry alarm_columns name;
-  alone = λ name value. option_or (group.alone name value) (alarm_alone name value);
-  together = λ settings journal now bindings place.
-      option_or (group.together settings journal now bindings place) (alarm_together (settings.readings journal now) (rows_after alarm_table no_rows journal) bindings place);
-  reserves = group.reserves;
-}
-
 abbrev pub system : OfObjects System
 system = record {
   stands = λ keeps settings journal. Unit {0};
+  tied = λ settings. Unit {0};
   clock = λ keeps. 0;
   askable = λ keeps moment. Unit {0};
   frames = λ keeps. 0;
@@ -133,6 +124,7 @@ system = record {
 abbrev pub events : OfObjects Events
 events = record {
   stands = EventsStand;
+  tied = λ settings. Unit {0};
   clock = λ keeps. 0;
   askable = λ keeps moment. Unit {0};
   frames = λ keeps. 0;
@@ -149,6 +141,7 @@ events = record {
 abbrev pub ether : OfObjects Ether
 ether = record {
   stands = EtherStands;
+  tied = λ settings. Unit {0};
   clock = ether_last;
   askable = λ keeps moment. Unit {0};
   frames = ether_frames;
@@ -165,6 +158,7 @@ ether = record {
 abbrev pub history : OfObjects History
 history = record {
   stands = HistoryStands;
+  tied = λ settings. Unit {0};
   clock = history_last;
   askable = λ keeps moment. Unit {0};
   frames = history_frames;
@@ -178,10 +172,32 @@ history = record {
   reserves = λ journal. ReservesRow history_control (rows_after history_control no_rows journal);
 }
 
+-- Alarms that sample variables among these cells. An alarm that becomes valid is judged by what its variable reads then.
+abbrev pub alarms : Sampleable → OfObjects Alarms
+alarms sampleable = record {
+  stands = AreWhole;
+  tied = ReadsFrom sampleable;
+  clock = λ keeps. 0;
+  askable = λ keeps moment. Unit {0};
+  frames = λ keeps. 0;
+  stocked = λ keeps. Unit {0};
+  falls_due = IsSampleDue;
+  left = samples_left;
+  cells = λ settings journal now. cells_of (alarms_table settings journal);
+  objects = is_of_column alarm_entry alarm_columns;
+  alone = alarm_alone;
+  together = λ settings journal now. alarm_together (settings.readings journal now) (rows_after alarm_table no_rows journal);
+  reserves = λ journal bindings index. ⊥;
+}
+
 -- those whose variables alarms may sample
 abbrev pub sources : OfObjects Sources
 sources = both ether history
 
+-- these, and the alarms beside them
+abbrev pub watched : OfObjects Watched
+watched = both sources (alarms sources.cells)
+
 -- all groups as one
 abbrev pub all_groups : OfObjects Groups
-all_groups = both system (both events (with_alarms sources))
+all_groups = both system (both events watched)

@@ -40,7 +40,7 @@ impl Agent {
     ghost use Rattle.rm_acts.specs.Alarms.{due_of, IsNextDue};
     ghost use Rattle.rm_model.specs.Journal.{Journal, passes};
     ghost use Rattle.rm_pcap.specs.Progress.{frame_of};
-    ghost use Rattle.rm_pdu.specs.Verdict.{Verdict, IsVerdict};
+    ghost use Rattle.rm_pdu.specs.Parse.{Parse, IsParse};
     ghost use Rattle.rm_agent.specs.Answers.{reason_for, reason_in, IsReplied, IsShort};
     ghost use Rattle.rm_agent.specs.Orderly.{NoneIsDue};
     ghost use Rattle.rm_agent.specs.Agent.{settings_of, last_given, frames_given, due_of_agent, samples_left_of, IsNextMoment, HasSampled, Stands};
@@ -100,7 +100,7 @@ impl Agent {
         out: &mut [u8; MOST_REPLY],
     ) -> Answer
         requires { last_given self.old ≤ now }
-        ensures reason { (v : Verdict) × IsVerdict true datagram.now v × (reason_in result ≡ reason_for (settings_of self.old) v) }
+        ensures reason { (v : Parse) × IsParse true datagram.now v × (reason_in result ≡ reason_for (settings_of self.old) v) }
         ensures reply { (journal : Journal) → Stands self.old journal → (after : Journal) × (NoneIsDue now journal → Stands self.new after)
             × IsReplied (settings_of self.old) journal now datagram.now result out.new after }
         ensures short { IsShort result }

@@ -12,7 +12,7 @@ ghost use Rattle.rm_agent.specs.Watched.{watched_cells};
 ghost use Rattle.rm_agent.specs.Groups.{GroupsStand, AreUnderWay, AreStocked, clock_of, frames_of, left_of, sample_in};
 
 use rm_acts::Firing;
-use rm_alarm::{Alarms, Sampled, Watched, reads_cells};
+use rm_alarm::{Alarms, Sampled, Watched, reads_cells, take_sample};
 use rm_ether::Ether;
 use rm_event::Events;
 use rm_group::{Both, Due, FallsDue, System, sample_begins, take_whole};
@@ -43,12 +43,12 @@ pub(crate) fn all_groups(alloc: Global) -> Result<Groups, NoMemory>
         first: System,
         second: Both {
             first: events,
-            second: Watched {
-                watched: Both {
+            second: Both {
+                first: Both {
                     first: Ether::new(),
                     second: history,
                 },
-                alarms: Alarms::new(),
+                second: Alarms::new(),
             },
         },
     })
@@ -65,7 +65,7 @@ pub(crate) fn events(groups: &Groups) -> &Events
 pub(crate) fn alarms(groups: &Groups) -> &Alarms
     ensures { result.now ≡ alarms_of groups.now }
 {
-    &groups.second.second.alarms
+    &groups.second.second.second
 }
 
 /// What falls due next, which is the sample that is taken next: its moment, in milliseconds, and the number of the alarm. None where
@@ -93,7 +93,7 @@ pub(crate) fn sample(groups: &mut Groups, index: u32, moment: u32) -> Sampled
     ensures fewer { (latest : ℕ) → moment ≤ latest → left_of groups.new latest < left_of groups.old latest }
 {
     sample_begins(&groups.second.first, moment);
-    groups.second.second.sample(index, moment)
+    take_sample(&mut groups.second.second, index, moment)
 }
 
 /// Takes the firings of an act that is under way at a moment, in milliseconds. Alarms take none.
@@ -106,5 +106,5 @@ pub(crate) fn take_each(groups: &mut Groups, firings: &[Firing], moment: u32)
     ensures alarms { alarms_of groups.new ≡ alarms_of groups.old }
 {
     take_whole(&mut groups.second.first, firings, moment);
-    take_whole(&mut groups.second.second.watched, firings, moment);
+    take_whole(&mut groups.second.second.first, firings, moment);
 }

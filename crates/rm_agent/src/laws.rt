@@ -2,7 +2,7 @@
 ghost use Rattle.std.specs.Prelude.{◌≡◌, ℕ, true, List, ◌∷◌, None};
 ghost use Rattle.rm_model.specs.Journal.{Frame, Journal, passes};
 ghost use Rattle.rm_pdu.specs.Message.{Message};
-ghost use Rattle.rm_pdu.specs.Verdict.{IsVerdict, message};
+ghost use Rattle.rm_pdu.specs.Parse.{IsParse, message};
 ghost use Rattle.rm_agent.specs.declared.settings.Settings.{Settings};
 ghost use Rattle.rm_agent.specs.Answers.{reason_for, IsReplyAfter};
 ghost use Rattle.rm_reply.specs.Sets.{given_by};
@@ -28,7 +28,7 @@ pub fn one_reply()
 /// A law: a datagram that isn't dropped has a reply.
 pub fn every_reply()
     ensures { (settings : Settings) (journal : Journal) (now : ℕ) (datagram : List ℕ) (request : Message)
-        → IsVerdict true datagram (message request)
+        → IsParse true datagram (message request)
         → reason_for settings (message request) ≡ None → (reply : Message) × (after : Journal)
         × IsReplyAfter settings journal now request reply after }
 {

@@ -22,7 +22,7 @@ use Rattle.rm_status.proofs.Bound.{fixed_column, not_made_valid}
 use Rattle.rm_alarm.specs.declared.course.Course.{Course}
 use Rattle.rm_alarm.specs.declared.row.AlarmRow.{AlarmRow}
 use Rattle.rm_alarm.specs.Kept.{Keeps, bounds_in, starting, nothing_crossed}
-use Rattle.rm_alarm.specs.Rows.{set_to, with_column, blank_row, settled, course_or_start, interval_kept, variable_with}
+use Rattle.rm_alarm.specs.Rows.{set_to, with_column, blank_row, new_row, settled, course_or_start, interval_kept, variable_with}
 use Rattle.rm_alarm.specs.RowLaws.{blank_alike, set_with}
 use Rattle.rm_alarm.specs.Standing.{IsRunning, IsKept, AreKept, IsBased}
 use Rattle.rm_status.proofs.RowFacts.{row_there}
@@ -41,7 +41,7 @@ pub was_there : (f : Row AlarmRow → Row AlarmRow) (o : Option (Row AlarmRow)) 
 was_there f None row e = absurd (cc)
 was_there f (Some old) row e = (old, refl, in_some (f old) row e)
 
-pub there_is : (r m : Row AlarmRow) → if_there alarm_table with_column blank_row r ≡ Some m → r ≡ m
+pub there_is : (r m : Row AlarmRow) → if_there alarm_table with_column new_row r ≡ Some m → r ≡ m
 there_is r m e =
     elim (is_absent r.state) as (λ t. cond t None (Some r) ≡ Some m → r ≡ m) [
       | true ↦ λ h. absurd (none_some m h)
@@ -76,14 +76,14 @@ module _ (settings : Settings) (journal : Journal) (now : ℕ) (bs : Bindings) (
     (alone : (k : ℕ) → k < length bs → first_pass alarm_table bs k ≡ None)
     (rows middle new : List (Row AlarmRow)) (held : AreControlRows rows)
     (together : (k : ℕ) → k < length bs → second_pass alarm_table (rows_before set_to rows) bs k ≡ None)
-    (after : (i : ℕ) → row_in middle i ≡ row_after alarm_table with_column blank_row bs i (row_in rows i))
+    (after : (i : ℕ) → row_in middle i ≡ row_after alarm_table with_column new_row bs i (row_in rows i))
     (settles : (i : ℕ) → row_in new i ≡ option_map (changed_row (λ index state row. settled now state row)) (row_in middle i))
     (is : AreRowsAfter alarm_table no_rows set_to rows journal) (kept : AreKept rows settings journal) where
   abbrev set : Act
   set = assigns now values
 
   middle_rows : AreRowsAfter alarm_table no_rows set_to middle (set ∷ journal)
-  middle_rows = rows_assigns alarm_table no_rows set_to with_column blank_row set_with blank_alike refl journal now bs values gives (all_fine alarm_table bs alone) rows middle held is after
+  middle_rows = rows_assigns alarm_table no_rows set_to with_column new_row set_with blank_alike refl journal now bs values gives (all_fine alarm_table bs alone) rows middle held is after
 
   settled_keeps : (index : ℕ) (state : State) (row : AlarmRow) (n : ℕ) → set_to (settled now state row) n ≡ set_to row n
   settled_keeps index Valid row n = refl
@@ -98,14 +98,14 @@ module _ (settings : Settings) (journal : Journal) (now : ℕ) (bs : Bindings) (
     old = unwrap_or (columns_seen (row_in rows i)) blank_row
 
     module _ (m : Row AlarmRow) (here : row_in middle i ≡ Some m) where
-      made : record { index = i; state = next_state (set_ask alarm_table bs (i ∷ [])) (state_in rows i); columns = put_all alarm_table with_column blank_row bs i old } ≡ m
+      made : record { index = i; state = next_state (set_ask alarm_table bs (i ∷ [])) (state_in rows i); columns = put_all alarm_table with_column new_row bs i old } ≡ m
       made = there_is _ m (sym (after i) ∙ here)
 
       its_course : m.columns.course ≡ old.course
-      its_course = sym (ap (λ (r : Row AlarmRow). r.columns.course) made) ∙ all_leave alarm_table with_column blank_row (λ c. c.course) (λ c n v. refl) bs i old
+      its_course = sym (ap (λ (r : Row AlarmRow). r.columns.course) made) ∙ all_leave alarm_table with_column new_row (λ c. c.course) (λ c n v. refl) bs i old
 
       its_base : m.columns.base ≡ old.base
-      its_base = sym (ap (λ (r : Row AlarmRow). r.columns.base) made) ∙ all_leave alarm_table with_column blank_row (λ c. c.base) (λ c n v. refl) bs i old
+      its_base = sym (ap (λ (r : Row AlarmRow). r.columns.base) made) ∙ all_leave alarm_table with_column new_row (λ c. c.base) (λ c n v. refl) bs i old
 
       module _ (valid : m.state ≡ Valid) where
         state_now : alarm_state (set ∷ journal) i ≡ Valid
@@ -240,7 +240,7 @@ module _ (settings : Settings) (journal : Journal) (now : ℕ) (bs : Bindings) (
       given_variable m here valid =
           sym (with_given (value_given bs (cell_name alarm_entry 3 (i ∷ []))) m.columns.variable old.variable
           (ap (λ (x : Row AlarmRow). option_map Rattle.rm_val.specs.Val.name x.columns.variable) (sym (made m here))
-          ∙ set_in_all alarm_table with_column blank_row set_to set_with bs i 3 old refl (all_fine alarm_table bs alone)))
+          ∙ set_in_all alarm_table with_column new_row set_to set_with bs i 3 old refl (all_fine alarm_table bs alone)))
           ∙ variable_is middle (set ∷ journal) middle_rows i m here (ap is_absent valid)
 
       base_read : (m : Row AlarmRow) → row_in middle i ≡ Some m → m.state ≡ Valid → is_valid (alarm_state journal i) ≡ false → m.columns.base ≡ settings.readings journal now (variable_of (set ∷ journal) i)

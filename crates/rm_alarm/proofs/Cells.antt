@@ -1,23 +1,22 @@
 -- What the rows show is what the table shows after the journal.
 use Rattle.std.proofs.Common.{◌≡◌, ℕ, List, [], ◌∷◌, refl, sym, ◌∙◌, ap, false, cond, Option, Some, None, nat_eq}
-use Rattle.std.specs.Prelude.{ℤ, pos, unwrap_or, not}
+use Rattle.std.specs.Prelude.{ℤ, pos, unwrap_or}
 use Rattle.std.specs.Option.{option_map_or}
 use Rattle.rm_val.specs.Val.{Val, int}
 use Rattle.rm_model.specs.Settings.{Settings}
 use Rattle.rm_model.specs.Journal.{Journal}
-use Rattle.rm_model.specs.Names.{IsLeastAbove}
-use Rattle.rm_model.specs.Cells.{cells_of, is_cell_name, IsNext}
-use Rattle.rm_model.specs.ControlRows.{no_rows, is_absent, is_valid, state_of}
-use Rattle.rm_acts.specs.Alarms.{alarm_entry, alarm_table, alarm_state, readings_in, values_of_readings, is_delta, is_counted, base_number, base_of, sample_values, newest_or, saturated}
+use Rattle.rm_model.specs.Cells.{cells_of, IsNext}
+use Rattle.rm_model.specs.ControlRows.{no_rows, is_valid}
+use Rattle.rm_acts.specs.Alarms.{alarm_table, alarm_state, readings_in, values_of_readings, is_delta, is_counted, base_number, base_of, sample_values, newest_or, saturated}
 use Rattle.rm_model.specs.declared.row.State.{State}
 use Rattle.rm_model.specs.declared.row.State.TheVariants.{Absent, UnderCreation, Valid}
-use Rattle.rm_model.proofs.Tables.{table_next, table_end}
 use Rattle.rm_status.specs.declared.row.Row.{Row}
 use Rattle.rm_status.specs.Rows.{row_in, AreControlRows}
-use Rattle.rm_status.specs.Indexes.{is_index_in}
+use Rattle.rm_status.specs.RowForm.{with_index}
 use Rattle.rm_status.specs.RowsAfter.{AreRowsAfter}
 use Rattle.rm_status.proofs.KeptCellsLaws.{same_control_cells}
-use Rattle.rm_status.proofs.RowsAfterLemmas.{is_row_after, since_idle}
+use Rattle.rm_status.proofs.RowsAfterLemmas.{since_idle}
+use Rattle.rm_status.proofs.Judged.{same_next}
 use Rattle.rm_alarm.specs.declared.course.Course.{Course}
 use Rattle.rm_alarm.specs.declared.row.AlarmRow.{AlarmRow}
 use Rattle.rm_alarm.specs.Kept.{newest}
@@ -45,21 +44,15 @@ value_is settings journal i Absent row o e k = ap last_value k ∙ sym (ap (newe
 
 module _ (rows : List (Row AlarmRow)) (held : AreControlRows rows) (settings : Settings) (journal : Journal)
     (is : AreRowsAfter alarm_table no_rows set_to rows journal) (kept : AreKept rows settings journal) where
-  same_other : (column i : ℕ) (row : Row AlarmRow) → row_in rows i ≡ Some row → kept_other rows column (i ∷ []) ≡ alarm_other settings journal column (i ∷ [])
+  same_other : (column i : ℕ) (row : Row AlarmRow) → row_in rows i ≡ Some row → with_index (kept_other rows) column (i ∷ []) ≡ with_index (alarm_other settings journal) column (i ∷ [])
   same_other column i row here =
       ap (λ v. cond (nat_eq column 1) (int (pos i)) (int (saturated v)))
       (ap (λ o. option_map_or (λ (r : Row AlarmRow). last_value r.columns.course) o (pos 0)) here
       ∙ value_is settings journal i row.state row.columns row.columns.course (state_is rows journal is i row here) (kept i row here))
 
-  is_row : (index : List ℕ) → not (is_absent (state_of alarm_table no_rows journal index)) ≡ is_index_in rows index
-  is_row index = is_row_after alarm_table no_rows set_to rows journal held is index
-
   pub same_cells : (name : List ℕ) → cells_of (rows_table rows) name ≡ cells_of (alarms_table settings journal) name
-  same_cells = same_control_cells alarm_table no_rows set_to rows held journal is alarm_columns (kept_other rows) (alarm_other settings journal) (λ i row here. row_there rows i row held here) same_other
+  same_cells = same_control_cells alarm_table no_rows set_to rows held journal is alarm_columns (with_index (kept_other rows)) (with_index (alarm_other settings journal)) (λ i row here. row_there rows i row held here) same_other
 
-  -- the cell with the least name above another is next
-  pub next_cell : (asked found : List ℕ) (value : Option Val) → IsLeastAbove (is_cell_name alarm_entry alarm_columns (is_index_in rows)) asked (Some found) → value ≡ cells_of (rows_table rows) found → IsNext (cells_of (alarms_table settings journal)) asked value found
-  next_cell asked found value least shown = table_next (alarms_table settings journal) (is_index_in rows) is_row asked found value least (shown ∙ same_cells found)
-
-  pub no_cell : (asked found : List ℕ) → IsLeastAbove (is_cell_name alarm_entry alarm_columns (is_index_in rows)) asked None → IsNext (cells_of (alarms_table settings journal)) asked None found
-  no_cell asked found none = table_end (alarms_table settings journal) (is_index_in rows) is_row asked found none
+  -- what is next among the cells that are shown is next among those of the journal
+  pub next_cell : (asked found : List ℕ) (value : Option Val) → IsNext (cells_of (rows_table rows)) asked value found → IsNext (cells_of (alarms_table settings journal)) asked value found
+  next_cell = same_next (cells_of (rows_table rows)) (cells_of (alarms_table settings journal)) same_cells

@@ -1,7 +1,7 @@
 -- The alarms after a change of what they remember.
 use Rattle.std.proofs.Common.{◌≡◌, ℕ, ◌<◌, List, [], ◌∷◌, length, Option, Some, None, refl, sym, ap, subst, ◌∙◌, option_map, arith}
 use Rattle.std.specs.Prelude.{unwrap_or}
-use Rattle.std.specs.Option.{option_or, option_and_then}
+use Rattle.std.specs.Option.{option_or}
 use Rattle.rm_val.specs.Val.{Val, name}
 use Rattle.rm_val.specs.Spellable.{IsSpellable, HasSpelling}
 use Rattle.rm_model.specs.Settings.{Settings}
@@ -12,18 +12,17 @@ use Rattle.rm_acts.specs.Alarms.{alarm_entry, alarm_table}
 use Rattle.rm_model.specs.declared.row.State.{State}
 use Rattle.rm_model.specs.declared.row.State.TheVariants.{Absent, UnderCreation, Valid}
 use Rattle.rm_status.specs.declared.row.Row.{Row}
-use Rattle.rm_status.specs.Rows.{row_in, row_number, rows_before, state_seen, columns_seen}
+use Rattle.rm_status.specs.Rows.{row_in, columns_seen}
 use Rattle.rm_status.specs.Change.{changed_row}
 use Rattle.rm_status.specs.Commit.{put_all, row_after}
 use Rattle.rm_status.proofs.Puts.{all_fine, set_in_all}
-use Rattle.rm_status.proofs.RowsAfterLemmas.{state_kept, set_kept}
 use Rattle.rm_status.proofs.Bound.{bound_at}
 use Rattle.rm_alarm.specs.declared.course.Course.{Course}
 use Rattle.rm_alarm.specs.declared.thresholds.Thresholds.{Thresholds}
 use Rattle.rm_alarm.specs.declared.row.AlarmRow.{AlarmRow}
 use Rattle.rm_alarm.specs.Kept.{Keeps}
 use Rattle.rm_alarm.specs.Group.{AreSpelledValues}
-use Rattle.rm_alarm.specs.Rows.{set_to, with_column, blank_row, settled, variable_kept}
+use Rattle.rm_alarm.specs.Rows.{set_to, with_column, blank_row, new_row, settled, variable_kept}
 use Rattle.rm_alarm.specs.RowLaws.{set_with}
 use Rattle.rm_alarm.specs.Spelled.{AreSpelled}
 use Rattle.rm_alarm.specs.Standing.{IsKept, AreKept}
@@ -56,12 +55,6 @@ module _ (change : ℕ → State → AlarmRow → AlarmRow) (sets : (index : ℕ
       let got = was_there (changed_row change) (row_in rows i) row (sym (changed i) ∙ here) in
       based i got.0 course got.1 (sym (courses got.0.index got.0.state got.0.columns) ∙ ap (λ (r : Row AlarmRow). r.columns.course) got.2 ∙ has)
 
-  pub same_before : rows_before set_to new ≡ rows_before set_to rows
-  same_before = λ d. record {
-    state = λ index. (ap state_seen (changed (row_number index)) ∙ state_kept change (row_in rows (row_number index))) d;
-    set = λ index column. (ap (λ o. option_and_then (λ c. set_to c column) (columns_seen o)) (changed (row_number index)) ∙ set_kept set_to change sets (row_in rows (row_number index)) column) d;
-  }
-
 -- A variable that a Set gives has a spelling.
 
 given_spelled : (bs : Bindings) (n : List ℕ) (v : Val) → AreSpelledValues bs → value_given bs n ≡ Some v → HasSpelling v
@@ -80,7 +73,7 @@ blank_spelled = (omega arith, λ _. omega arith, omega arith)
 
 module _ (now : ℕ) (bs : Bindings) (alone : (k : ℕ) → k < length bs → first_pass alarm_table bs k ≡ None) (values : AreSpelledValues bs)
     (rows middle new : List (Row AlarmRow))
-    (after : (i : ℕ) → row_in middle i ≡ row_after alarm_table with_column blank_row bs i (row_in rows i))
+    (after : (i : ℕ) → row_in middle i ≡ row_after alarm_table with_column new_row bs i (row_in rows i))
     (settles : (i : ℕ) → row_in new i ≡ option_map (changed_row (λ index state row. settled now state row)) (row_in middle i)) where
   settled_variable : (s : State) (row : AlarmRow) → (settled now s row).variable ≡ row.variable
   settled_variable Valid row = refl
@@ -96,11 +89,11 @@ module _ (now : ℕ) (bs : Bindings) (alone : (k : ℕ) → k < length bs → fi
       let got = was_there (changed_row (λ index state row. settled now state row)) (row_in middle i) row (sym (settles i) ∙ here) in
       let made = there_is _ got.0 (sym (after i) ∙ got.1) in
       let old : AlarmRow = unwrap_or (columns_seen (row_in rows i)) blank_row in
-      let put : AlarmRow = put_all alarm_table with_column blank_row bs i old in
+      let put : AlarmRow = put_all alarm_table with_column new_row bs i old in
       let variable : put.variable ≡ row.columns.variable =
       ap (λ (r : Row AlarmRow). r.columns.variable) made ∙ sym (settled_variable got.0.state got.0.columns) ∙ ap (λ (r : Row AlarmRow). r.columns.variable) got.2 in
       subst (λ (v : Option (List ℕ)). IsSpellable (unwrap_or v (0 ∷ 0 ∷ []))) variable
       (spelled_by (value_given bs (cell_name alarm_entry 3 (i ∷ []))) put.variable old.variable
-      (set_in_all alarm_table with_column blank_row set_to set_with bs i 3 old refl (all_fine alarm_table bs alone))
+      (set_in_all alarm_table with_column new_row set_to set_with bs i 3 old refl (all_fine alarm_table bs alone))
       (λ v e. given_spelled bs (cell_name alarm_entry 3 (i ∷ [])) v values e)
       (old_spelled spelled i (row_in rows i) refl))

@@ -23,7 +23,7 @@ use Rattle.rm_alarm.specs.declared.row.AlarmRow.{AlarmRow}
 use Rattle.rm_alarm.specs.Due.{due_at}
 use Rattle.rm_alarm.specs.Left.{sum_below, span_to}
 use Rattle.rm_alarm.specs.Paced.{is_paced, ArePaced}
-use Rattle.rm_alarm.specs.Rows.{set_to, with_column, blank_row, settled, interval_kept}
+use Rattle.rm_alarm.specs.Rows.{set_to, with_column, blank_row, new_row, settled, interval_kept}
 use Rattle.rm_alarm.specs.RowLaws.{set_with}
 use Rattle.rm_alarm.specs.Taking.{with_course, HasTaken}
 use Rattle.rm_alarm.proofs.AfterSets.{was_there, there_is}
@@ -111,7 +111,7 @@ settled_paced now s row range needed = by_interval s row.interval refl needed
 
 module _ (now : ℕ) (bs : Bindings) (alone : (k : ℕ) → k < length bs → first_pass alarm_table bs k ≡ None)
     (rows middle new : List (Row AlarmRow)) (together : (k : ℕ) → k < length bs → second_pass alarm_table (rows_before set_to rows) bs k ≡ None)
-    (after : (i : ℕ) → row_in middle i ≡ row_after alarm_table with_column blank_row bs i (row_in rows i))
+    (after : (i : ℕ) → row_in middle i ≡ row_after alarm_table with_column new_row bs i (row_in rows i))
     (settles : (i : ℕ) → row_in new i ≡ option_map (changed_row (λ index state row. settled now state row)) (row_in middle i))
     (paced : ArePaced rows) where
   module _ (i : ℕ) where
@@ -151,10 +151,10 @@ module _ (now : ℕ) (bs : Bindings) (alone : (k : ℕ) → k < length bs → fi
     old = unwrap_or (columns_seen (row_in rows i)) blank_row
 
     abbrev put : AlarmRow
-    put = put_all alarm_table with_column blank_row bs i old
+    put = put_all alarm_table with_column new_row bs i old
 
     set : option_map int put.interval ≡ option_or (given 2) (option_map int old.interval)
-    set = set_in_all alarm_table with_column blank_row set_to set_with bs i 2 old refl (all_fine alarm_table bs alone)
+    set = set_in_all alarm_table with_column new_row set_to set_with bs i 2 old refl (all_fine alarm_table bs alone)
 
     put_in_range : (z : ℤ) → put.interval ≡ Some z → nat_le 1 (nat_abs z) ≡ true
     put_in_range = interval_by (given 2) put.interval old.interval set (given_seconds bs alone i) (was_in_range (row_in rows i) refl)

@@ -64,6 +64,10 @@ blank_row = record {
   course = None;
 }
 
+-- whatever its index
+abbrev pub new_row : ℕ → AlarmRow
+new_row index = blank_row
+
 -- how many seconds are between two samples, which variable they read, and whether they take a difference
 abbrev pub interval_kept : AlarmRow → ℕ
 interval_kept row = nat_abs (unwrap_or row.interval (pos 0))

@@ -1,29 +1,26 @@
 -- What the rows that are kept show.
-use Rattle.std.specs.Prelude.{ℕ, ℤ, pos, List, nat_eq, if◌then◌else◌, Option, Some, None, unwrap_or}
+use Rattle.std.specs.Prelude.{ℕ, ℤ, pos, List, Option, Some, None, unwrap_or}
 use Rattle.std.specs.Option.{option_map_or}
 use Rattle.rm_val.specs.Val.{Val, int}
 use Rattle.rm_model.specs.Cells.{Table}
-use Rattle.rm_model.specs.ControlRows.{index_value}
-use Rattle.rm_acts.specs.Alarms.{alarm_table, saturated}
+use Rattle.rm_acts.specs.Alarms.{saturated}
 use Rattle.rm_status.specs.declared.row.Row.{Row}
-use Rattle.rm_status.specs.KeptCells.{kept_cells}
+use Rattle.rm_status.specs.RowForm.{rows_shown}
 use Rattle.rm_status.specs.Rows.{row_in, row_number}
 use Rattle.rm_alarm.specs.declared.course.Course.{Course}
 use Rattle.rm_alarm.specs.declared.row.AlarmRow.{AlarmRow}
-use Rattle.rm_alarm.specs.Rows.{set_to}
-use Rattle.rm_alarm.specs.AlarmTable.{alarm_columns}
+use Rattle.rm_alarm.specs.RowLaws.{alarm_rows}
 
 -- the value of the last sample, 0 where there is none
 abbrev pub last_value : Option Course → ℤ
 last_value (Some course) = unwrap_or course.hysteresis.last (pos 0)
 last_value None = pos 0
 
--- what the columns show that can't be set
+-- what the column shows beside the index that can't be set
 abbrev pub kept_other : List (Row AlarmRow) → ℕ → List ℕ → Val
 kept_other rows column index =
-    if nat_eq column 1 then index_value index
-    else int (saturated (option_map_or (λ row. last_value row.columns.course) (row_in rows (row_number index)) (pos 0)))
+    int (saturated (option_map_or (λ row. last_value row.columns.course) (row_in rows (row_number index)) (pos 0)))
 
 -- the table with these rows
 abbrev pub rows_table : List (Row AlarmRow) → Table
-rows_table rows = kept_cells alarm_table set_to alarm_columns (kept_other rows) rows
+rows_table rows = rows_shown alarm_rows (kept_other rows) rows

@@ -43,8 +43,7 @@ pub record IsBased (settings : Settings) (journal : Journal) (alarm : ℕ) (cour
   pub counter : course.counter ≡ is_counted (base_of settings journal alarm)
   pub reading : course.reading ≡ newest_or (base_number (base_of settings journal alarm)) (readings_of journal alarm)
 
--- The alarms of the group have read what a journal gives. This depends on what their variables read, which a group alone
--- can't tell, so it is no part of what the group stands for.
+-- the alarms of the group have read what a journal gives
 abbrev pub AreBased : Alarms → Settings → Journal → Type 0
 AreBased alarms settings journal =
     (alarm : ℕ) (row : Row AlarmRow) (course : Course) → row_in alarms.rows alarm ≡ Some row → row.columns.course ≡ Some course → IsBased settings journal alarm course
@@ -54,3 +53,8 @@ abbrev pub AreRead : Alarms → Settings → Journal → ℕ → Bindings → Ty
 AreRead alarms settings journal now bindings =
     (alarm : ℕ) (row : Row AlarmRow) → row_in alarms.rows alarm ≡ Some row → row.state ≡ UnderCreation
     → row.columns.base ≡ settings.readings journal now (variable_with bindings alarm row.columns)
+
+-- all that is kept of alarms is what a journal gives
+pub record AreWhole (alarms : Alarms) (settings : Settings) (journal : Journal) : Type 0 where
+  pub stand : Stands alarms settings journal
+  pub based : AreBased alarms settings journal

@@ -7,25 +7,16 @@ use Rattle.rm_model.specs.Judgement.{Bindings}
 use Rattle.rm_acts.specs.Alarms.{variable_of}
 use Rattle.rm_acts.specs.Recurring.{Sampleable, read}
 use Rattle.rm_alarm.specs.declared.alarms.Alarms.{Alarms}
-use Rattle.rm_alarm.specs.Standing.{Stands, AreBased, AreRead}
+use Rattle.rm_alarm.specs.Standing.{AreRead}
 use Rattle.rm_alarm.specs.Group.{AreFine}
 
 -- what alarms may sample are the cells of a group
 abbrev pub ReadsFrom : Sampleable → Settings → Type 0
 ReadsFrom cells settings = (journal : Journal) (now : ℕ) (name : List ℕ) → settings.readings journal now name ≡ read (cells settings journal now) name
 
--- The group and the alarms stand for a journal: alarms may sample the group's cells, each of the two stands for it, and the
--- alarms have read what it gives.
-pub record AreWatched (cells : Sampleable) (stands : Type 0) (alarms : Alarms) (settings : Settings) (journal : Journal) : Type 0 where
-  pub readings : ReadsFrom cells settings
-  pub watched : stands
-  pub stand : Stands alarms settings journal
-  pub based : AreBased alarms settings journal
-
--- Both are ready for a Set at a moment: with the alarms nothing is wrong, and where the group may be asked they remember what
--- their variables read after each journal that it stands for.
-pub record ArePrepared (cells : Sampleable) (stands : Settings → Journal → Type 0) (askable prepared : Type 0) (alarms : Alarms) (now : ℕ) (bindings : Bindings) : Type 0 where
-  pub watched : prepared
+-- The alarms are ready for a Set at a moment, beside a group whose variables they sample: nothing is wrong with it, and where the
+-- group may be asked they remember what their variables read after each journal that it stands for.
+pub record AreReady (cells : Sampleable) (stands : Settings → Journal → Type 0) (askable : Type 0) (alarms : Alarms) (now : ℕ) (bindings : Bindings) : Type 0 where
   pub fine : AreFine alarms bindings
   pub read : (settings : Settings) (journal : Journal) → ReadsFrom cells settings → stands settings journal → last_moment journal ≤ now → askable → AreRead alarms settings journal now bindings
 

@@ -6,11 +6,12 @@ ghost use Rattle.rm_alarm.specs.Group.{AreFine, HasForgotten};
 ghost use Rattle.rm_alarm.specs.Standing.{Stands, AreBased, AreRead};
 
 use crate::alarms::Alarms;
-use crate::cell::entry;
 use crate::change::{Forgetting, ReadingBase, Settling};
 use crate::column::STATUS;
 use crate::due::earliest;
+use crate::row::AlarmRow;
 use rm_group::{Assigns, Look};
+use rm_status::ControlRow;
 
 impl Alarms {
     /// Remembers for a Set, with which nothing is wrong, what the variables of the alarms read that it may make valid, at its
@@ -42,8 +43,8 @@ impl Alarms {
             → AreBased self.new settings (assigns now values ∷ journal) }
         ensures forgotten { HasForgotten self.new }
     {
-        prove!(self.rows.len() <= 16);
-        self.rows.commit(set, &entry(), STATUS);
+        prove!(self.rows.len() <= 32);
+        self.rows.commit(set, &AlarmRow::entry(), STATUS);
         self.rows.change_each(&Settling { now });
         self.next = earliest(&self.rows);
     }

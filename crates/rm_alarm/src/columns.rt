@@ -1,9 +1,9 @@
 // The columns of a row of alarmTable.
-ghost use Rattle.std.specs.Prelude.{◌≡◌, refl};
+ghost use Rattle.std.specs.Prelude.{◌≡◌};
 
 use crate::column::{
-    FALLING_EVENT_INDEX, FALLING_THRESHOLD, INTERVAL, OWNER, RISING_EVENT_INDEX, RISING_THRESHOLD,
-    SAMPLE_TYPE, STARTUP_ALARM, VARIABLE,
+    FALLING_EVENT_INDEX, FALLING_THRESHOLD, INDEX, INTERVAL, OWNER, RISING_EVENT_INDEX,
+    RISING_THRESHOLD, SAMPLE_TYPE, STARTUP_ALARM, STATUS, VALUE, VARIABLE,
 };
 use crate::row::AlarmRow;
 use crate::sample_type::SampleType;
@@ -11,22 +11,42 @@ use crate::startup_alarm::StartupAlarm;
 use crate::thresholds::Thresholds;
 use arrayvec::ArrayVec;
 use rm_model::Setting::{Empty, NoName, Number};
-use rm_model::{ColumnKind, ColumnSheet, column, numbers};
-use rm_status::{Columns, name_in, number_in, put_text, same_text};
+use rm_model::{ColumnKind, StatusKind, column, numbers};
+use rm_status::{ControlRow, ControlSheet, Numbered, name_in, number_in, put_text, same_text};
 use rm_val::{Oid, Value};
 
-/// The columns that can be set, beside alarmStatus.
-const SHEET: &[ColumnSheet] = &[
-    column!(INTERVAL, numbers!(1, i32::MAX), Number(0), needed),
-    column!(VARIABLE, ColumnKind::AnyName, NoName, needed),
-    column!(SAMPLE_TYPE, numbers!(1, 2), Number(1)),
-    column!(STARTUP_ALARM, numbers!(1, 3), Number(3)),
-    column!(RISING_THRESHOLD, numbers!(i32::MIN, i32::MAX), Number(0)),
-    column!(FALLING_THRESHOLD, numbers!(i32::MIN, i32::MAX), Number(0)),
-    column!(RISING_EVENT_INDEX, numbers!(0, 65535), Number(0)),
-    column!(FALLING_EVENT_INDEX, numbers!(0, 65535), Number(0)),
-    column!(OWNER, ColumnKind::Text(127), Empty, always),
-];
+/// alarmTable (RFC 1757, section 5)
+const TABLE: ControlSheet = ControlSheet {
+    entry: &[1, 3, 6, 1, 2, 1, 16, 3, 1, 1],
+    shown: &[
+        INDEX,
+        INTERVAL,
+        VARIABLE,
+        SAMPLE_TYPE,
+        VALUE,
+        STARTUP_ALARM,
+        RISING_THRESHOLD,
+        FALLING_THRESHOLD,
+        RISING_EVENT_INDEX,
+        FALLING_EVENT_INDEX,
+        OWNER,
+        STATUS,
+    ],
+    status: STATUS,
+    kind: StatusKind::EntryStatus,
+    most: 16,
+    columns: &[
+        column!(INTERVAL, numbers!(1, i32::MAX), Number(0), needed),
+        column!(VARIABLE, ColumnKind::AnyName, NoName, needed),
+        column!(SAMPLE_TYPE, numbers!(1, 2), Number(1)),
+        column!(STARTUP_ALARM, numbers!(1, 3), Number(3)),
+        column!(RISING_THRESHOLD, numbers!(i32::MIN, i32::MAX), Number(0)),
+        column!(FALLING_THRESHOLD, numbers!(i32::MIN, i32::MAX), Number(0)),
+        column!(RISING_EVENT_INDEX, numbers!(0, 65535), Number(0)),
+        column!(FALLING_EVENT_INDEX, numbers!(0, 65535), Number(0)),
+        column!(OWNER, ColumnKind::Text(127), Empty, always),
+    ],
+};
 
 impl Default for AlarmRow {
     ghost use Rattle.rm_alarm.specs.Rows.{blank_row};
@@ -34,41 +54,6 @@ impl Default for AlarmRow {
     ghost is_default = { λ row. row ≡ blank_row };
 
     fn default() -> Self {
-        AlarmRow::blank()
-    }
-}
-
-impl Columns for AlarmRow {
-    ghost use Rattle.rm_val.specs.Spellable.{IsSpellable};
-    ghost use Rattle.rm_acts.specs.Alarms.{alarm_table};
-    ghost use Rattle.rm_alarm.specs.Rows.{set_to, with_column, blank_row, variable_kept};
-    ghost use Rattle.rm_alarm.specs.RowLaws.{blank_alike, set_with};
-
-    ghost table = { alarm_table };
-
-    ghost set_to = { set_to };
-
-    ghost blank_row = { blank_row };
-
-    ghost with_column = { with_column };
-
-    ghost spelled = { λ row. IsSpellable (variable_kept row) };
-
-    ghost default_is_blank = { λ row is. is };
-
-    ghost blank_alike = { blank_alike };
-
-    ghost set_with = { set_with };
-
-    ghost sound = { refl };
-
-    ghost apart = { refl };
-
-    fn sheet() -> &'static [ColumnSheet] {
-        SHEET
-    }
-
-    fn blank() -> Self {
         AlarmRow {
             interval: None,
             variable: None,
@@ -84,6 +69,34 @@ impl Columns for AlarmRow {
             base: None,
             course: None,
         }
+    }
+}
+
+impl ControlRow for AlarmRow {
+    ghost use Rattle.rm_val.specs.Spellable.{IsSpellable};
+    ghost use Rattle.rm_alarm.specs.Rows.{variable_kept};
+    ghost use Rattle.rm_alarm.specs.RowLaws.{alarm_rows};
+
+    ghost form = { alarm_rows };
+
+    ghost spelled = { λ row. IsSpellable (variable_kept row) };
+
+    ghost default_is_blank = { λ row is. is };
+
+    fn table() -> ControlSheet {
+        TABLE
+    }
+
+    fn is_fixed(_index: u32, _column: u32) -> bool {
+        false
+    }
+
+    fn stays(_index: u32) -> bool {
+        false
+    }
+
+    fn blank(_index: u32) -> Self {
+        AlarmRow::default()
     }
 
     fn put(&mut self, column: u32, value: &Value<'_>) {

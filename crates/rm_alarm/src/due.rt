@@ -12,7 +12,7 @@ use rm_status::Controls;
 pub(crate) fn earliest(rows: &Controls<AlarmRow>) -> Option<(u64, u32)>
     ensures { IsNextDue (due_at rows.now) result }
 {
-    prove!(rows.len() <= 16);
+    prove!(rows.len() <= 32);
     let mut next = None;
     let mut last = 0;
     while let Some(index) = rows.after(last) {

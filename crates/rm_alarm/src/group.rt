@@ -1,23 +1,27 @@
 // The group alarm, as a group of objects.
+ghost use Rattle.rm_model.specs.Cells.{cells_of};
+ghost use Rattle.rm_model.specs.ControlRows.{no_rows};
+ghost use Rattle.rm_model.specs.Judgement.{rows_after};
+ghost use Rattle.rm_acts.specs.Alarms.{alarm_table};
+ghost use Rattle.rm_alarm.specs.AlarmTable.{alarms_table};
+ghost use Rattle.rm_alarm.specs.Standing.{AreWhole};
+ghost use Rattle.rm_alarm.specs.Group.{alarm_alone, alarm_together, AreFine, HasForgotten, alarms_finite};
+
 use crate::alarms::Alarms;
-use crate::cell::{COLUMNS, cell_of, entry};
+use crate::cell::LastValue;
 use crate::column::STATUS;
 use crate::judging::judge_variables;
-use rm_group::{Assigns, Denied, Group, Look, Objects, is_of_column, lower_verdict, next_name};
+use crate::laws::frames_pass;
+use crate::row::AlarmRow;
+use rm_acts::Firing;
+use rm_group::{Assigns, Denied, Group, Look, Objects, Passing, Steps, lower_verdict};
 use rm_model::Verdict;
+use rm_status::{ControlRow, Controls};
 use rm_val::{Oid, Value};
 use std::alloc::Global;
 
 impl Group for Alarms {
-    ghost use Rattle.rm_model.specs.Cells.{cells_of};
-    ghost use Rattle.rm_model.specs.ControlRows.{no_rows};
-    ghost use Rattle.rm_model.specs.Judgement.{rows_after};
-    ghost use Rattle.rm_acts.specs.Alarms.{alarm_table};
-    ghost use Rattle.rm_alarm.specs.AlarmTable.{alarms_table};
-    ghost use Rattle.rm_alarm.specs.Standing.{Stands};
-    ghost use Rattle.rm_alarm.specs.Group.{alarm_alone, alarm_together, AreFine, HasForgotten, alarms_finite};
-
-    ghost stands = { Stands };
+    ghost stands = { AreWhole };
 
     ghost clock = { λ s. 0 };
 
@@ -45,22 +49,21 @@ impl Group for Alarms {
     ghost finite = { λ settings journal now. alarms_finite settings journal };
 
     fn cell(&self, name: &Oid, _now: u32) -> Option<Value<'_>> {
-        prove!(self.rows.len() <= 16);
-        cell_of(&self.rows, name)
+        prove!(self.rows.len() <= 32);
+        self.rows.cell(&LastValue, name)
     }
 
-    fn after(&self, name: &Oid, now: u32, out: &mut Oid) -> Option<Value<'_>> {
-        prove!(self.rows.len() <= 16);
-        *out = next_name(&self.rows, &entry(), &COLUMNS, name, now)?;
-        cell_of(&self.rows, out)
+    fn after(&self, name: &Oid, _now: u32, out: &mut Oid) -> Option<Value<'_>> {
+        prove!(self.rows.len() <= 32);
+        self.rows.next_cell(&LastValue, name, out)
     }
 
     fn judge_alone<A: Assigns>(&self, set: &A) -> Verdict {
-        self.rows.judge_alone(set, &entry(), STATUS)
+        self.rows.judge_alone(set, &AlarmRow::entry(), STATUS)
     }
 
     fn judge_rows<A: Assigns, L: Look>(&self, set: &A, now: u32, look: &L) -> Verdict {
-        let rows = self.rows.judge_rows(set, &entry(), STATUS);
+        let rows = self.rows.judge_rows(set, &AlarmRow::entry(), STATUS);
         let variables = judge_variables(&self.rows, set, now, look);
         lower_verdict(rows, variables)
     }
@@ -74,10 +77,6 @@ impl Group for Alarms {
     ) -> Result<(), Denied> {
         self.remember(set, now, look);
         Ok(())
-    }
-
-    fn commit<A: Assigns>(&mut self, set: &A, now: u32) {
-        self.assign(set, now);
     }
 
     fn discard(&mut self) {
@@ -100,6 +99,21 @@ impl Objects for Alarms {
     ghost refused = { control_refused alarm_table alarm_columns };
 
     fn has_object(name: &Oid) -> bool {
-        is_of_column(name, &entry(), &COLUMNS)
+        Controls::<AlarmRow>::has_object(name)
     }
+}
+
+// Alarms take part in an act as it begins: a frame makes no difference to them, and no firing does.
+impl Steps for Alarms {
+    ghost use Rattle.std.specs.Prelude.{◌∷◌};
+
+    ghost under_way = { λ s settings act earlier some. AreWhole s settings (act ∷ earlier) };
+
+    fn pass(&mut self, _passing: &Passing<'_>) {
+        frames_pass();
+    }
+
+    fn take(&mut self, _firing: &Firing, _moment: u32) {}
+
+    ghost ends = { λ s settings act earlier under. under };
 }

@@ -7,13 +7,12 @@ ghost use Rattle.rm_status.specs.Rows.{rows_before, state_in};
 ghost use Rattle.rm_alarm.specs.Group.{makes_valid, is_under_creation, variable_then, variable_fault, AreSpelledValues};
 ghost use Rattle.rm_alarm.specs.Rows.{set_to};
 
-use crate::cell::entry;
 use crate::change::variable_with;
 use crate::column::STATUS;
 use crate::row::AlarmRow;
 use rm_group::{Assigns, Look};
 use rm_model::{Place, State, Verdict};
-use rm_status::{Controls, place_under};
+use rm_status::{ControlRow, Controls, place_under};
 use rm_val::{ErrorStatus, Value};
 
 /// Names the first binding that makes an alarm valid of whose variable there is no reading at a moment, in milliseconds.
@@ -52,7 +51,7 @@ fn variable_fault<A: Assigns, L: Look>(
 {
     let name = set.name(place);
     let value = set.value(place);
-    match place_under(&name, &entry()) {
+    match place_under(&name, &AlarmRow::entry()) {
         Place::Cell(column, row) => {
             if column == STATUS && makes_valid(&value) && is_unread(rows, set, now, look, row) {
                 Some(ErrorStatus::InconsistentValue)

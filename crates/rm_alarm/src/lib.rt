@@ -3,6 +3,7 @@
 
 mod alarms;
 mod assigning;
+mod beside;
 mod cell;
 mod change;
 pub mod column;
@@ -34,4 +35,4 @@ pub use row::AlarmRow;
 pub use sample_type::SampleType;
 pub use startup_alarm::StartupAlarm;
 pub use thresholds::Thresholds;
-pub use watched::Watched;
+pub use watched::{Watched, take_sample};

@@ -51,7 +51,7 @@ impl Alarms {
             result ≡ sampled settings journal moment index number }
         ensures fewer { (latest : ℕ) → moment ≤ latest → samples_left self.new latest < samples_left self.old latest }
     {
-        prove!(self.rows.len() <= 16);
+        prove!(self.rows.len() <= 32);
         match read(&self.rows, index, moment, look) {
             Some(reading) => {
                 let sampled = take(&mut self.rows, index, moment, reading.value);

@@ -9,7 +9,7 @@ use Rattle.rm_model.proofs.ExampleSettings.{plain}
 use Rattle.rm_ether.specs.declared.counter.Counter.{Counter}
 use Rattle.rm_ether.specs.declared.counter.Counter.TheVariants.{Octets, Pkts, UndersizePkts, OversizePkts, Pkts64Octets, Pkts1024to1518Octets}
 use Rattle.rm_ether.specs.EtherStats.{ether_table, counter_sum}
-use Rattle.rm_ether.specs.Columns.{column_of}
+use Rattle.rm_ether.specs.Columns.{counter_numbered}
 
 -- short frames count as they were captured
 abbrev kept : Settings
@@ -52,7 +52,7 @@ no_second_row = refl
 -- etherStatsDataSource.1, etherStatsOctets.1, whose sum is above 2 ^ 32, etherStatsOwner.1 and etherStatsStatus.1
 row_shown : shown journal 1 (2 ∷ 4 ∷ 20 ∷ 21 ∷ [])
     ≡ Some (name (1 ∷ 3 ∷ 6 ∷ 1 ∷ 2 ∷ 1 ∷ 2 ∷ 2 ∷ 1 ∷ 1 ∷ 1 ∷ [])) ∷ Some (counter 3101) ∷ Some (octets (codes "monitor")) ∷ Some (int (pos 1)) ∷ []
-unfolding column_of
+unfolding counter_numbered
 row_shown = refl
 
 -- Row 2 is made, set up and made valid, and counts from then on. Row 1 counts all frames.
@@ -77,11 +77,9 @@ packets_of_1 : counter_sum plain two_rows (1 ∷ []) Pkts ≡ 4
 packets_of_1 = refl
 
 owner_of_2 : shown two_rows 2 (20 ∷ []) ≡ Some (octets (codes "ops")) ∷ []
-unfolding column_of
 owner_of_2 = refl
 
 under_creation : shown (status_2 3 ∷ two_rows) 2 (21 ∷ []) ≡ Some (int (pos 3)) ∷ []
-unfolding column_of
 under_creation = refl
 
 removed : shown (status_2 4 ∷ two_rows) 2 (21 ∷ []) ≡ None ∷ []
@@ -99,7 +97,6 @@ octets_of_interface_1 : counter_sum two journal (1 ∷ []) Octets ≡ 64 + 1518 
 octets_of_interface_1 = refl
 
 source_of_2 : cells_of (ether_table two []) (1 ∷ 3 ∷ 6 ∷ 1 ∷ 2 ∷ 1 ∷ 16 ∷ 1 ∷ 1 ∷ 1 ∷ 2 ∷ 2 ∷ []) ≡ Some (name (1 ∷ 3 ∷ 6 ∷ 1 ∷ 2 ∷ 1 ∷ 2 ∷ 2 ∷ 1 ∷ 1 ∷ 2 ∷ []))
-unfolding column_of
 source_of_2 = refl
 
 no_row_3 : cells_of (ether_table two []) (1 ∷ 3 ∷ 6 ∷ 1 ∷ 2 ∷ 1 ∷ 16 ∷ 1 ∷ 1 ∷ 1 ∷ 20 ∷ 3 ∷ []) ≡ None

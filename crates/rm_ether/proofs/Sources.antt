@@ -1,6 +1,7 @@
 -- Frames of a data source, and sums over frames.
 use Rattle.std.proofs.Common.{◌≡◌, ℕ, ◌+◌, List, ◌∷◌, refl, Bool, true, false, cond, ◌&&◌, nat_eq, filter, arith}
 use Rattle.std.specs.List.{sum_by}
+use Rattle.std.proofs.Math.Bool.{and-true}
 use Rattle.std.proofs.lemmas.List.Sums.{sum_by-cons}
 use Rattle.rm_val.specs.Val.{name}
 use Rattle.rm_model.specs.Journal.{Frame}
@@ -14,10 +15,6 @@ sum_more f test frame frames =
       | false ↦ omega arith
     ]
 
-and_true : (b : Bool) → (b && true) ≡ b
-and_true true = refl
-and_true false = refl
-
 -- a data source is the interface whose name it is
 pub is_source : (source number : ℕ) → is_interface (name (interface_name source)) number ≡ nat_eq source number
-is_source source number = and_true (nat_eq source number)
+is_source source number = and-true (nat_eq source number)

@@ -2,20 +2,20 @@
 use Rattle.std.proofs.Common.{◌≡◌, ℕ, ◌+◌, ◌%◌, ◌^◌, ◌<◌, List, [], ◌∷◌, length, refl, sym, ◌∙◌, ap, Bool, true, false, cond, ◌&&◌, Option, Some, None, nat_eq, option_map, arith}
 use Rattle.std.specs.Prelude.{filter, unwrap_or}
 use Rattle.std.specs.List.{sum_by}
-use Rattle.std.specs.Option.{option_or, option_and_then}
+use Rattle.std.specs.Option.{option_and_then}
 use Rattle.std.proofs.lemmas.Bool.{and_parts}
 use Rattle.std.proofs.Math.Nat.{mod-add-mod}
-use Rattle.rm_val.specs.Val.{Val, name}
+use Rattle.rm_val.specs.Val.{name}
 use Rattle.rm_proto.specs.declared.known.Facts.{Facts}
 use Rattle.rm_model.specs.Settings.{Settings}
 use Rattle.rm_model.specs.Journal.{Frame, Assignments, Journal, passes, assigns, frames_in, value_given}
 use Rattle.rm_model.specs.FrameFacts.{frame_facts}
 use Rattle.rm_model.specs.Interfaces.{interface_name, is_interface, frames_of}
 use Rattle.rm_model.specs.ControlTable.{default_of}
-use Rattle.rm_model.specs.ControlRows.{cell_name, set_ask, next_state, is_absent, is_valid, set_value, since, stays_valid}
+use Rattle.rm_model.specs.ControlRows.{set_ask, next_state, is_absent, is_valid, since, stays_valid}
 use Rattle.rm_model.specs.Judgement.{Bindings, second_pass}
 use Rattle.rm_model.specs.declared.row.State.{State}
-use Rattle.rm_model.specs.declared.row.State.TheVariants.{Absent, UnderCreation, Valid}
+use Rattle.rm_model.specs.declared.row.State.TheVariants.{Absent, Valid}
 use Rattle.rm_status.specs.declared.row.Row.{Row}
 use Rattle.rm_status.specs.Rows.{row_in, rows_before, state_seen, columns_seen, AreControlRows}
 use Rattle.rm_status.specs.Change.{changed_row}
@@ -23,7 +23,8 @@ use Rattle.rm_status.specs.Commit.{put_all, row_after}
 use Rattle.rm_status.specs.RowsAfter.{AreRowsAfter}
 use Rattle.rm_status.proofs.Puts.{AllFine}
 use Rattle.rm_status.proofs.RowsAfterLemmas.{rows_passes, rows_changed, rows_assigns, since_idle, since_starts, frames_kept, all_leave, is_after}
-use Rattle.rm_status.proofs.Bound.{fixed_column}
+use Rattle.rm_status.proofs.RowFacts.{valid_is, valid_there}
+use Rattle.rm_status.proofs.RowsThen.{column_stays}
 use Rattle.rm_ether.specs.declared.counter.Counter.{Counter}
 use Rattle.rm_ether.specs.declared.counter.Counter.TheVariants.{DropEvents}
 use Rattle.rm_ether.specs.declared.statistics.Statistics.{Statistics}
@@ -31,7 +32,7 @@ use Rattle.rm_ether.specs.declared.row.StatisticsRow.{StatisticsRow}
 use Rattle.rm_ether.specs.Counted.{counted}
 use Rattle.rm_ether.specs.EtherStats.{ether_stats, ether_beginning, ether_state, ether_column, counted_frames, counter_sum}
 use Rattle.rm_ether.specs.Standing.{counter_of, no_sums, with_frame}
-use Rattle.rm_ether.specs.StatisticsRows.{set_to, with_column, blank_row, blank_alike, set_with, counting, resting}
+use Rattle.rm_ether.specs.StatisticsRows.{set_to, with_column, blank_row, new_row, statistics_rows, counting, resting}
 use Rattle.rm_ether.specs.Group.{AreCounted}
 use Rattle.rm_ether.proofs.Sources.{sum_more, is_source}
 
@@ -56,24 +57,16 @@ idle_sum : (settings : Settings) (journal : Journal) (index : List ℕ) (each : 
 idle_sum settings journal index each none = ap (λ acts. of_frames settings each (frames_of (ether_column settings journal index 2) (frames_in acts))) none
 
 module _ (settings : Settings) (rows : List (Row StatisticsRow)) (journal : Journal) (is : AreRowsAfter ether_stats (ether_beginning settings) set_to rows journal) (i : ℕ) (row : Row StatisticsRow) (here : row_in rows i ≡ Some row) where
-  pub state_is : row.state ≡ ether_state settings journal (i ∷ [])
+  state_is : row.state ≡ ether_state settings journal (i ∷ [])
   state_is = ap state_seen (sym here) ∙ is.alike.states i
 
   module _ (there : is_absent row.state ≡ false) where
     shown_at : is_absent (state_seen (row_in rows i)) ≡ false
     shown_at = ap (λ o. is_absent (state_seen o)) here ∙ there
 
-    -- what the row shows as its data source and its owner
-    pub source_is : name (interface_name row.columns.source) ≡ ether_column settings journal (i ∷ []) 2
+    -- what the row shows as its data source
+    source_is : name (interface_name row.columns.source) ≡ ether_column settings journal (i ∷ []) 2
     source_is = ap (λ o. unwrap_or (option_and_then (λ c. set_to c 2) (columns_seen o)) (default_of ether_stats 2)) (sym here) ∙ (is.alike.columns i shown_at).0.shown
-
-    pub owner_is : Rattle.rm_val.specs.Val.octets row.columns.owner.items ≡ ether_column settings journal (i ∷ []) 20
-    owner_is = ap (λ o. unwrap_or (option_and_then (λ c. set_to c 20) (columns_seen o)) (default_of ether_stats 20)) (sym here) ∙ (is.alike.columns i shown_at).1.0.shown
-
-there_is : (s : State) → is_valid s ≡ true → is_absent s ≡ false
-there_is Absent h = cc
-there_is UnderCreation h = refl
-there_is Valid h = refl
 
 -- One more frame.
 module _ (settings : Settings) (journal : Journal) (frame : Frame) (facts : Facts) (known : facts ≡ frame_facts settings frame) (rows new : List (Row StatisticsRow))
@@ -120,7 +113,7 @@ module _ (settings : Settings) (journal : Journal) (frame : Frame) (facts : Fact
         let valid : is_valid (ether_state settings journal index) ≡ true = ap is_valid (sym state) ∙ e in
         let f : Frame → ℕ = λ other. counted each (frame_facts settings other) in
         let more : counted_frames settings longer index ≡ filter of_source (frame ∷ frames_before) = rw valid refl in
-        let source : of_source frame ≡ nat_eq row.columns.source frame.interface = ap (λ source. is_interface source frame.interface) (sym (source_is settings rows journal is i row here (there_is row.state e))) ∙ is_source row.columns.source frame.interface in
+        let source : of_source frame ≡ nat_eq row.columns.source frame.interface = ap (λ source. is_interface source frame.interface) (sym (source_is settings rows journal is i row here (valid_there row.state e))) ∙ is_source row.columns.source frame.interface in
         ap (sum_by f) more ∙ sum_more f of_source frame frames_before
         ∙ ap (λ counts. counter_sum settings journal index each + cond counts (f frame) 0) source
         ∙ ap (λ (facts : Facts). counter_sum settings journal index each + cond (nat_eq row.columns.source facts.interface) (counted each facts) 0) (sym known)
@@ -145,10 +138,6 @@ module _ (settings : Settings) (journal : Journal) (frame : Frame) (facts : Fact
 
 -- A Set with which nothing is wrong.
 
-valid_is : (s : State) → is_valid s ≡ true → s ≡ Valid
-valid_is Valid h = refl
-valid_is s h = cc
-
 not_first : (a b : Bool) → b ≡ true → (a && b) ≡ false → a ≡ false
 not_first true b is h = absurd (cc)
 not_first false b is h = refl
@@ -158,7 +147,7 @@ module _ (settings : Settings) (journal : Journal) (moment : ℕ) (bs : Bindings
     (fine : AllFine ether_stats bs)
     (rows middle new : List (Row StatisticsRow)) (held : AreControlRows rows)
     (together : (k : ℕ) → k < length bs → second_pass ether_stats (rows_before set_to rows) bs k ≡ None)
-    (after : (i : ℕ) → row_in middle i ≡ row_after ether_stats with_column blank_row bs i (row_in rows i))
+    (after : (i : ℕ) → row_in middle i ≡ row_after ether_stats with_column new_row bs i (row_in rows i))
     (rested : (i : ℕ) → row_in new i ≡ option_map (changed_row (λ index state row. resting state row)) (row_in middle i))
     (is : AreRowsAfter ether_stats (ether_beginning settings) set_to rows journal) (sums : AreCounted rows settings journal) where
   abbrev with_set : Journal
@@ -168,7 +157,7 @@ module _ (settings : Settings) (journal : Journal) (moment : ℕ) (bs : Bindings
   resting_keeps number state row n = elim (is_valid state) as (λ b. set_to (cond b row (record row { statistics = no_sums })) n ≡ set_to row n) [ true ↦ refl | false ↦ refl ]
 
   middle_rows : AreRowsAfter ether_stats (ether_beginning settings) set_to middle with_set
-  middle_rows = rows_assigns ether_stats (ether_beginning settings) set_to with_column blank_row set_with blank_alike refl journal moment bs values gives fine rows middle held is after
+  middle_rows = rows_assigns ether_stats (ether_beginning settings) set_to with_column new_row statistics_rows.set_with statistics_rows.blank_alike refl journal moment bs values gives fine rows middle held is after
 
   pub rows_with_set : AreRowsAfter ether_stats (ether_beginning settings) set_to new with_set
   rows_with_set = rows_changed ether_stats (ether_beginning settings) set_to (λ index state row. resting state row) resting_keeps middle new rested with_set middle_rows
@@ -180,14 +169,14 @@ module _ (settings : Settings) (journal : Journal) (moment : ℕ) (bs : Bindings
     abbrev was : Option (Row StatisticsRow)
     was = row_in rows i
 
-    next : (mid.state ≡ next_state (set_ask ether_stats bs place) (state_seen was)) × (mid.columns ≡ put_all ether_stats with_column blank_row bs i (unwrap_or (columns_seen was) blank_row))
-    next = is_after ether_stats with_column blank_row bs i was mid (sym (after i) ∙ here)
+    next : (mid.state ≡ next_state (set_ask ether_stats bs place) (state_seen was)) × (mid.columns ≡ put_all ether_stats with_column new_row bs i (unwrap_or (columns_seen was) blank_row))
+    next = is_after ether_stats with_column new_row bs i was mid (sym (after i) ∙ here)
 
     new_state : mid.state ≡ ether_state settings with_set place
     new_state = state_is settings middle with_set middle_rows i mid here
 
     sums_left : mid.columns.statistics ≡ (unwrap_or (columns_seen was) blank_row).statistics
-    sums_left = ap (λ c. c.statistics) next.1 ∙ all_leave ether_stats with_column blank_row (λ c. c.statistics) (λ c n v. refl) bs i (unwrap_or (columns_seen was) blank_row)
+    sums_left = ap (λ c. c.statistics) next.1 ∙ all_leave ether_stats with_column new_row (λ c. c.statistics) (λ c n v. refl) bs i (unwrap_or (columns_seen was) blank_row)
 
     -- a row that wasn't valid had counted nothing
     none_before : (o : Option (Row StatisticsRow)) → was ≡ o → is_valid (ether_state settings journal place) ≡ false → counter_of (unwrap_or (columns_seen o) blank_row).statistics each ≡ 0
@@ -207,9 +196,7 @@ module _ (settings : Settings) (journal : Journal) (moment : ℕ) (bs : Bindings
     same_source old valid =
         let was_valid : state_seen was ≡ Valid = is.alike.states i ∙ valid_is (ether_state settings journal place) old in
         let stays : is_valid (next_state (set_ask ether_stats bs place) Valid) ≡ true = ap (λ s. is_valid (next_state (set_ask ether_stats bs place) s)) (sym was_valid) ∙ sym (ap is_valid next.0) ∙ valid in
-        let unbound : value_given values (cell_name ether_stats.entry 2 place) ≡ None = gives (cell_name ether_stats.entry 2 place) ∙ fixed_column ether_stats (rows_before set_to rows) bs together i 2 refl refl was_valid stays in
-        ap (λ o. unwrap_or (option_or o (cond (is_absent (ether_state settings journal place)) None (set_value ether_stats (ether_beginning settings) journal place 2))) (default_of ether_stats 2)) unbound
-        ∙ ap (λ b. unwrap_or (cond b None (set_value ether_stats (ether_beginning settings) journal place 2)) (default_of ether_stats 2)) (there_is (ether_state settings journal place) old)
+        column_stays ether_stats (ether_beginning settings) set_to journal moment bs values gives rows together is i 2 refl refl old stays
 
     valid_with_set : is_valid mid.state ≡ true → (b : Bool) → stays_valid ether_stats (ether_beginning settings) (assigns moment values) journal place ≡ b → counter_of mid.columns.statistics each ≡ counter_sum settings with_set place each % 2 ^ 64
     valid_with_set valid true stays =

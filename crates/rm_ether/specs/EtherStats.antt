@@ -1,22 +1,22 @@
 -- The table etherStats (RFC 1757, section 5), and what it shows after a journal.
-use Rattle.std.specs.Prelude.{ℕ, ◌%◌, ◌^◌, List, [], ◌∷◌, Bool, true, false, ◌&&◌, nat_eq, nat_le, not, if◌then◌else◌, Option, Some, None, codes}
+use Rattle.std.specs.Prelude.{ℕ, ◌%◌, ◌^◌, List, [], ◌∷◌, Bool, true, false, ◌&&◌, nat_eq, nat_le, if◌then◌else◌, Option, Some, None, codes}
 use Rattle.std.specs.List.{sum_by}
-use Rattle.rm_val.specs.Val.{Val, int, name, octets, counter}
+use Rattle.rm_val.specs.Val.{Val, name, octets, counter}
 use Rattle.rm_model.specs.Settings.{Settings}
 use Rattle.rm_model.specs.Journal.{Frame, Journal, frames_in}
 use Rattle.rm_model.specs.Interfaces.{interface_name, frames_of}
 use Rattle.rm_model.specs.Cells.{Table}
-use Rattle.rm_model.specs.ControlTable.{ControlTable, source_column, owner_column}
-use Rattle.rm_model.specs.ControlRows.{Beginning, is_absent, state_of, value_of, since, index_value, entry_status}
+use Rattle.rm_model.specs.ControlTable.{ControlTable, no_rules, source_column, owner_column}
+use Rattle.rm_model.specs.ControlCells.{control_cells}
+use Rattle.rm_model.specs.ControlRows.{Beginning, state_of, value_of, since}
 use Rattle.rm_model.specs.declared.row.StatusKind.TheVariants.{EntryStatus}
 use Rattle.rm_model.specs.declared.row.State.{State}
 use Rattle.rm_model.specs.declared.row.State.TheVariants.{Absent, Valid}
 use Rattle.rm_ether.specs.declared.counter.Counter.{Counter}
-use Rattle.rm_ether.specs.declared.column.Column.{Column}
-use Rattle.rm_ether.specs.declared.column.Column.TheVariants.{Index, DataSource, Counts, Owner, Status}
 use Rattle.rm_model.specs.FrameFacts.{frame_facts}
+use Rattle.rm_status.specs.RowForm.{with_index}
 use Rattle.rm_ether.specs.Counted.{counted}
-use Rattle.rm_ether.specs.Columns.{ether_columns, column_of}
+use Rattle.rm_ether.specs.Columns.{ether_columns, counter_numbered}
 
 -- the identifier of etherStatsEntry
 abbrev pub ether_entry : List ℕ
@@ -28,8 +28,10 @@ ether_stats = record {
   entry = ether_entry;
   status = 21;
   status_kind = EntryStatus;
+  most = 16;
   columns = source_column 2 ∷ owner_column 20 ∷ [];
   go_together = λ value. true;
+  rules = no_rules;
   is_sampled = false;
 }
 
@@ -71,19 +73,10 @@ abbrev pub counter_sum : Settings → Journal → List ℕ → Counter → ℕ
 counter_sum settings journal index each =
     sum_by (λ frame. counted each (frame_facts settings frame)) (counted_frames settings journal index)
 
--- what a column of a row shows; a Counter32 is shown modulo 2 ^ 32
-abbrev pub ether_value : Settings → Journal → List ℕ → Column → Val
-ether_value settings journal index Index = index_value index
-ether_value settings journal index DataSource = ether_column settings journal index 2
-ether_value settings journal index (Counts each) = counter (counter_sum settings journal index each % 2 ^ 32)
-ether_value settings journal index Owner = ether_column settings journal index 20
-ether_value settings journal index Status = int (entry_status (ether_state settings journal index))
+-- what the columns show beside the index that can't be set, which are counters; a Counter32 is shown modulo 2 ^ 32
+abbrev pub ether_other : Settings → Journal → ℕ → List ℕ → Val
+ether_other settings journal column index = counter (counter_sum settings journal index (counter_numbered column) % 2 ^ 32)
 
 -- the table after a journal
 abbrev pub ether_table : Settings → Journal → Table
-ether_table settings journal = record {
-  entry = ether_entry;
-  columns = ether_columns;
-  is_row = λ index. not (is_absent (ether_state settings journal index));
-  value = λ column index. ether_value settings journal index (column_of column);
-}
+ether_table settings journal = control_cells ether_stats (ether_beginning settings) ether_columns (with_index (ether_other settings journal)) journal

@@ -1,16 +1,16 @@
 -- The columns of a row of etherStats, as they are kept.
-use Rattle.std.specs.Prelude.{◌≡◌, ℕ, [], nat_eq, Option, Some, None, refl, ◌&&◌, if◌then◌else◌, codes}
+use Rattle.std.specs.Prelude.{ℕ, [], nat_eq, Option, Some, None, refl, ◌&&◌, if◌then◌else◌, codes}
 use Rattle.rm_val.specs.Val.{Val}
 use Rattle.rm_model.specs.ControlTable.{source_column, owner_column}
 use Rattle.rm_model.specs.ControlRows.{is_valid}
-use Rattle.rm_model.specs.Alike.{HasSameColumns}
-use Rattle.rm_model.specs.Judgement.{column_kind, value_fault}
 use Rattle.rm_model.specs.declared.row.State.{State}
 use Rattle.rm_proto.specs.declared.known.Facts.{Facts}
 use Rattle.rm_status.specs.Kinds.{sources, texts}
-use Rattle.rm_status.specs.SheetLaws.{row_begins}
-use Rattle.rm_status.proofs.ColumnLaws.{no_columns, one_more, set_of}
+use Rattle.rm_status.specs.RowForm.{RowForm}
+use Rattle.rm_status.proofs.ColumnLaws.{no_columns, one_more}
+use Rattle.rm_status.proofs.RowForms.{row_form}
 use Rattle.rm_ether.specs.declared.row.StatisticsRow.{StatisticsRow}
+use Rattle.rm_ether.specs.Columns.{ether_columns}
 use Rattle.rm_ether.specs.EtherStats.{ether_stats}
 use Rattle.rm_ether.specs.Standing.{no_sums, with_frame}
 
@@ -30,19 +30,22 @@ with_column row n value = record {
 abbrev pub blank_row : StatisticsRow
 blank_row = record { source = 1; owner = record { items = [] }; statistics = no_sums }
 
+-- whatever its index
+abbrev pub new_row : ℕ → StatisticsRow
+new_row index = blank_row
+
 -- the row that is there from before the first act
 abbrev pub monitor_row : StatisticsRow
 monitor_row = record { source = 1; owner = record { items = codes "monitor" }; statistics = no_sums }
 
-pub blank_alike : HasSameColumns ether_stats (set_to blank_row) (λ column. None)
-blank_alike = row_begins ether_stats (set_to blank_row) (λ n. refl) refl
-
-pub set_with : (row : StatisticsRow) (n other : ℕ) (value : Val) → value_fault (column_kind ether_stats n) value ≡ None → set_to (with_column row n value) other ≡ (if nat_eq n other then Some value else set_to row other)
-set_with row n other value fine =
-    set_of ether_stats.columns n other value (set_to row) (set_to (with_column row n value))
-    (one_more sources (source_column 2) refl _ n value row.source _ _
+-- the form of the rows
+abbrev pub statistics_rows : RowForm StatisticsRow
+statistics_rows =
+    row_form ether_stats ether_columns set_to blank_row with_column (λ n. refl)
+    (λ row n value.
+    one_more sources (source_column 2) refl _ n value row.source _ _
     (one_more (texts 127) (owner_column 20) refl [] n value row.owner _ _ (no_columns n value)))
-    fine
+    refl refl refl refl refl
 
 -- a row with one more frame counted, where it is valid and the frame is of its interface
 abbrev pub counting : Facts → State → StatisticsRow → StatisticsRow

@@ -1,26 +1,22 @@
 // The group statistics.
 ghost use Rattle.std.specs.Prelude.{◌≡◌, ◌+◌, ◌<◌, ◌≤◌, [], ◌∷◌};
 
-use crate::cell::{cell_of, entry};
+use crate::cell::Counters;
 use crate::change::{Counting, Resting};
-use crate::column::COLUMNS;
-use crate::row::StatisticsRow;
+use crate::row::{STATUS, StatisticsRow};
 use rm_acts::Firing;
 use rm_group::{
-    Assigns, Denied, Due, FallsDue, Group, Look, MOST_FRAMES, Objects, Passing, Readable, Steps,
-    Unsampled, is_of_column, next_name,
+    Assigns, Commits, Denied, Due, FallsDue, Group, Look, MOST_FRAMES, Objects, Passing, Readable,
+    Steps, Unsampled,
 };
 use rm_model::{State, StatusKind, Verdict};
 use rm_proto::Facts;
-use rm_status::Controls;
+use rm_status::{ControlRow, Controls};
 use rm_val::{Oid, Value};
 use std::alloc::Global;
 
 /// The index of the row of the monitor.
 const ROW: u32 = 1;
-
-/// The number of etherStatsStatus.
-const STATUS: u32 = 21;
 
 /// The statistics of interfaces: etherStatsTable (RFC 1757, section 5). Each interface has a row that is valid from before the
 /// first act.
@@ -104,22 +100,21 @@ impl Group for Ether {
     ghost finite = { λ settings journal now. ether_finite settings journal };
 
     fn cell(&self, name: &Oid, _now: u32) -> Option<Value<'_>> {
-        prove!(self.rows.len() <= 16);
-        cell_of(&self.rows, name)
+        prove!(self.rows.len() <= 32);
+        self.rows.cell(&Counters, name)
     }
 
-    fn after(&self, name: &Oid, now: u32, out: &mut Oid) -> Option<Value<'_>> {
-        prove!(self.rows.len() <= 16);
-        *out = next_name(&self.rows, &entry(), &COLUMNS, name, now)?;
-        cell_of(&self.rows, out)
+    fn after(&self, name: &Oid, _now: u32, out: &mut Oid) -> Option<Value<'_>> {
+        prove!(self.rows.len() <= 32);
+        self.rows.next_cell(&Counters, name, out)
     }
 
     fn judge_alone<A: Assigns>(&self, set: &A) -> Verdict {
-        self.rows.judge_alone(set, &entry(), STATUS)
+        self.rows.judge_alone(set, &StatisticsRow::entry(), STATUS)
     }
 
     fn judge_rows<A: Assigns, L: Look>(&self, set: &A, _now: u32, _look: &L) -> Verdict {
-        self.rows.judge_rows(set, &entry(), STATUS)
+        self.rows.judge_rows(set, &StatisticsRow::entry(), STATUS)
     }
 
     fn prepare<A: Assigns, L: Look>(
@@ -132,14 +127,16 @@ impl Group for Ether {
         Ok(())
     }
 
+    fn discard(&mut self) {}
+}
+
+impl Commits for Ether {
     fn commit<A: Assigns>(&mut self, set: &A, now: u32) {
-        prove!(self.rows.len() <= 16);
-        self.rows.commit(set, &entry(), STATUS);
+        prove!(self.rows.len() <= 32);
+        self.rows.commit(set, &StatisticsRow::entry(), STATUS);
         self.rows.change_each(&Resting);
         self.last = now;
     }
-
-    fn discard(&mut self) {}
 }
 
 impl Objects for Ether {
@@ -157,7 +154,7 @@ impl Objects for Ether {
     ghost refused = { control_refused ether_stats ether_columns };
 
     fn has_object(name: &Oid) -> bool {
-        is_of_column(name, &entry(), &COLUMNS)
+        Controls::<StatisticsRow>::has_object(name)
     }
 }
 
@@ -172,11 +169,11 @@ impl Readable for Ether {
     ghost shown = { λ s now. cells_of (rows_table s.rows) };
 
     fn value(&self, name: &Oid, _now: u32) -> Option<Value<'_>> {
-        cell_of(&self.rows, name)
+        self.rows.cell(&Counters, name)
     }
 
     fn shows(&self, _now: u32) {
-        prove!(self.rows.len() <= 16);
+        prove!(self.rows.len() <= 32);
     }
 
     ghost recurring = { λ settings one other journal alike now name. refl };

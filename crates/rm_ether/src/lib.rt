@@ -4,7 +4,6 @@
 mod added;
 mod cell;
 mod change;
-mod column;
 mod counter;
 mod ether;
 mod row;

@@ -1,21 +1,33 @@
 // A row of etherStats.
-ghost use Rattle.std.specs.Prelude.{◌≡◌, refl};
+ghost use Rattle.std.specs.Prelude.{◌≡◌};
 
 use crate::statistics::Statistics;
 use arrayvec::ArrayVec;
 use rm_model::Setting::{Empty, Interface};
-use rm_model::{ColumnKind, ColumnSheet, column};
-use rm_status::{Columns, interface_in, interface_name, put_text, same_text};
+use rm_model::{ColumnKind, StatusKind, column};
+use rm_status::{ControlRow, ControlSheet, interface_in, interface_name, put_text, same_text};
 use rm_val::Value;
 
 /// How many octets an owner has at most.
 const MOST_OWNER: usize = 127;
 
-/// etherStatsDataSource and etherStatsOwner (RFC 1757, section 5).
-const SHEET: &[ColumnSheet] = &[
-    column!(2, ColumnKind::Source, Interface(1)),
-    column!(20, ColumnKind::Text(127), Empty, always),
-];
+/// The number of etherStatsStatus.
+pub(crate) const STATUS: u32 = 21;
+
+/// etherStats (RFC 1757, section 5). Its data source and its owner can be set.
+const TABLE: ControlSheet = ControlSheet {
+    entry: &[1, 3, 6, 1, 2, 1, 16, 1, 1, 1],
+    shown: &[
+        1, 2, 3, 4, 5, 6, 7, 8, 9, 10, 11, 12, 13, 14, 15, 16, 17, 18, 19, 20, 21,
+    ],
+    status: STATUS,
+    kind: StatusKind::EntryStatus,
+    most: 16,
+    columns: &[
+        column!(2, ColumnKind::Source, Interface(1)),
+        column!(20, ColumnKind::Text(127), Empty, always),
+    ],
+};
 
 /// The columns of a row of etherStats, with what it counted since it became valid.
 #[derive(Drop)]
@@ -35,7 +47,7 @@ impl StatisticsRow {
     pub fn of_monitor() -> StatisticsRow
         ensures { result ≡ monitor_row }
     {
-        let mut row = StatisticsRow::blank();
+        let mut row = StatisticsRow::default();
         row.owner.try_extend_from_slice(b"monitor").unwrap();
         row
     }
@@ -47,44 +59,35 @@ impl Default for StatisticsRow {
     ghost is_default = { λ row. row ≡ blank_row };
 
     fn default() -> Self {
-        StatisticsRow::blank()
-    }
-}
-
-impl Columns for StatisticsRow {
-    ghost use Rattle.rm_ether.specs.EtherStats.{ether_stats};
-    ghost use Rattle.rm_ether.specs.StatisticsRows.{set_to, with_column, blank_row, blank_alike, set_with};
-
-    ghost table = { ether_stats };
-
-    ghost set_to = { set_to };
-
-    ghost blank_row = { blank_row };
-
-    ghost with_column = { with_column };
-
-    ghost spelled = { λ row. Unit {0} };
-
-    ghost default_is_blank = { λ row is. is };
-
-    ghost blank_alike = { blank_alike };
-
-    ghost set_with = { set_with };
-
-    ghost sound = { refl };
-
-    ghost apart = { refl };
-
-    fn sheet() -> &'static [ColumnSheet] {
-        SHEET
-    }
-
-    fn blank() -> Self {
         StatisticsRow {
             source: 1,
             owner: ArrayVec::new(),
             statistics: Statistics::new(),
         }
+    }
+}
+
+impl ControlRow for StatisticsRow {
+    ghost use Rattle.rm_ether.specs.StatisticsRows.{statistics_rows};
+
+    ghost form = { statistics_rows };
+
+    ghost default_is_blank = { λ row is. is };
+
+    fn table() -> ControlSheet {
+        TABLE
+    }
+
+    fn is_fixed(_index: u32, _column: u32) -> bool {
+        false
+    }
+
+    fn stays(_index: u32) -> bool {
+        false
+    }
+
+    fn blank(_index: u32) -> Self {
+        StatisticsRow::default()
     }
 
     fn put(&mut self, column: u32, value: &Value<'_>) {

@@ -1,67 +1,56 @@
 -- What is kept of events after a Set with which nothing is wrong.
 use Rattle.std.proofs.Common.{◌≡◌, ℕ, ◌<◌, List, [], ◌∷◌, length, Bool, true, false, cond, ◌&&◌, Option, Some, None, refl, sym, ap, subst, ◌∙◌}
-use Rattle.std.specs.Prelude.{unwrap_or, is_some}
-use Rattle.std.specs.Option.{option_or}
+use Rattle.std.specs.Prelude.{is_some}
+use Rattle.std.proofs.lemmas.Bool.{and_parts}
 use Rattle.rm_model.specs.Settings.{Settings}
 use Rattle.rm_model.specs.Journal.{Assignments, Journal, assigns, value_given}
-use Rattle.rm_model.specs.ControlTable.{default_of}
-use Rattle.rm_model.specs.ControlRows.{no_rows, cell_name, value_ask, set_ask, next_state, is_absent, is_valid, set_value, stays_valid}
+use Rattle.rm_model.specs.ControlRows.{no_rows, cell_name, value_ask, set_ask, next_state, is_valid, stays_valid}
 use Rattle.rm_model.specs.Judgement.{Bindings, count_below, first_pass, second_pass}
 use Rattle.rm_model.specs.Reserves.{count_valid_after}
-use Rattle.rm_model.specs.declared.row.State.{State}
-use Rattle.rm_model.specs.declared.row.State.TheVariants.{Absent, UnderCreation, Valid}
+use Rattle.rm_model.specs.declared.row.State.TheVariants.{Valid}
 use Rattle.rm_status.specs.declared.row.Row.{Row}
 use Rattle.rm_status.specs.Rows.{row_in, rows_before, state_in, state_seen, AreControlRows}
 use Rattle.rm_status.specs.Commit.{row_after}
 use Rattle.rm_status.specs.RowsAfter.{AreRowsAfter}
 use Rattle.rm_status.proofs.Bares.{state_then}
 use Rattle.rm_status.proofs.Puts.{all_fine}
+use Rattle.rm_status.proofs.RowFacts.{valid_is}
 use Rattle.rm_status.proofs.RowsAfterLemmas.{rows_assigns}
-use Rattle.rm_status.proofs.Bound.{fixed_column}
+use Rattle.rm_status.proofs.RowsThen.{column_stays}
 use Rattle.rm_event.specs.declared.log.Log.{Log}
 use Rattle.rm_pool.specs.declared.slot.Slot.{Slot}
 use Rattle.rm_event.specs.EventType.{type_in}
 use Rattle.rm_event.specs.EventTable.{event_table, event_state, type_of}
 use Rattle.rm_event.specs.declared.event_row.EventRow.{EventRow}
-use Rattle.rm_event.specs.EventRows.{set_to, with_column, blank_row, blank_alike, set_with}
+use Rattle.rm_event.specs.EventRows.{set_to, with_column, new_row, event_rows}
 use Rattle.rm_acts.specs.Fired.{firings}
 use Rattle.rm_event.specs.Log.{IsLog}
 use Rattle.rm_event.specs.Log.{IsNew}
 use Rattle.rm_pool.specs.Slots.{part_in, has_part}
 use Rattle.rm_pool.specs.Pools.{valid_in, IsOfValid, IsThere}
 use Rattle.rm_event.specs.Standing.{IsLogOf, AreLogs}
-use Rattle.rm_status.proofs.RowFacts.{valid_there}
 use Rattle.rm_pool.proofs.Spares.{not_there}
-
-valid_is : (s : State) → is_valid s ≡ true → s ≡ Valid
-valid_is Absent h = cc
-valid_is UnderCreation h = cc
-valid_is Valid h = refl
-
-both : (a b : Bool) → (a && b) ≡ true → (a ≡ true) × (b ≡ true)
-both true b h = (refl, h)
-both false b h = absurd (cc)
 
 not_first : (a b : Bool) → b ≡ true → (a && b) ≡ false → a ≡ false
 not_first true b is h = absurd (cc)
 not_first false b is h = refl
 
 -- the valid rows after a Set
-pub valid_after : (bs : Bindings) (rows new : List (Row EventRow)) → ((i : ℕ) → row_in new i ≡ row_after event_table with_column blank_row bs i (row_in rows i)) → count_below (valid_in new) 65536 ≡ count_valid_after event_table (rows_before set_to rows) bs
-valid_after bs rows new after = ap (λ p. count_below p 65536) (λ d i. (ap is_valid (ap state_seen (after i) ∙ state_then event_table with_column blank_row bs i (row_in rows i))) d)
+pub valid_after : (bs : Bindings) (rows new : List (Row EventRow)) → ((i : ℕ) → row_in new i ≡ row_after event_table with_column new_row bs i (row_in rows i)) → count_below (valid_in new) 65536 ≡ count_valid_after event_table (rows_before set_to rows) bs
+valid_after bs rows new after = ap (λ p. count_below p 65536) (λ d i. (ap is_valid (ap state_seen (after i) ∙ state_then event_table with_column new_row bs i (row_in rows i))) d)
 
 module _ (settings : Settings) (journal : Journal) (moment : ℕ) (bs : Bindings) (values : Assignments)
     (gives : (name : List ℕ) → value_given values name ≡ value_given bs name)
     (alone : (k : ℕ) → k < length bs → first_pass event_table bs k ≡ None)
     (rows new : List (Row EventRow)) (held : AreControlRows rows)
     (together : (k : ℕ) → k < length bs → second_pass event_table (rows_before set_to rows) bs k ≡ None)
-    (after : (i : ℕ) → row_in new i ≡ row_after event_table with_column blank_row bs i (row_in rows i))
+    (after : (i : ℕ) → row_in new i ≡ row_after event_table with_column new_row bs i (row_in rows i))
     (is : AreRowsAfter event_table no_rows set_to rows journal) where
   abbrev with_set : Journal
   with_set = assigns moment values ∷ journal
 
   pub rows_with_set : AreRowsAfter event_table no_rows set_to new with_set
-  rows_with_set = rows_assigns event_table no_rows set_to with_column blank_row set_with blank_alike refl journal moment bs values gives (all_fine event_table bs alone) rows new held is after
+  rows_with_set = rows_assigns event_table no_rows set_to with_column new_row event_rows.set_with event_rows.blank_alike refl journal moment bs values gives (all_fine event_table bs alone) rows new held is after
 
   module _ (logs logs_new : List (Slot Log)) (of_valid : IsOfValid logs rows) (of_valid_new : IsOfValid logs_new new)
       (stays : (row : ℕ) → valid_in new row ≡ true → has_part logs row ≡ true → part_in logs_new row ≡ part_in logs row)
@@ -82,22 +71,19 @@ module _ (settings : Settings) (journal : Journal) (moment : ℕ) (bs : Bindings
     -- the type of an event that stays valid is as it was
     same_type : is_valid (event_state journal place) ≡ true → is_valid (event_state with_set place) ≡ true → type_of with_set event ≡ type_of journal event
     same_type old valid =
-        let was_valid : state_in rows event ≡ Valid = was ∙ valid_is (event_state journal place) old in
         let asked : set_ask event_table values place ≡ set_ask event_table bs place = ap (value_ask event_table.status_kind) (gives (cell_name event_table.entry event_table.status place)) in
         let remains : is_valid (next_state (set_ask event_table bs place) Valid) ≡ true =
         ap (λ s. is_valid (next_state (set_ask event_table bs place) s)) (sym (valid_is (event_state journal place) old)) ∙ ap (λ a. is_valid (next_state a (event_state journal place))) (sym asked) ∙ valid in
-        let unbound : value_given values (cell_name event_table.entry 3 place) ≡ None = gives (cell_name event_table.entry 3 place) ∙ fixed_column event_table (rows_before set_to rows) bs together event 3 refl refl was_valid remains in
-        ap (λ o. type_in (unwrap_or (option_or o (cond (is_absent (event_state journal place)) None (set_value event_table no_rows journal place 3))) (default_of event_table 3))) unbound
-        ∙ ap (λ b. type_in (unwrap_or (cond b None (set_value event_table no_rows journal place 3)) (default_of event_table 3))) (valid_there (event_state journal place) old)
+        ap type_in (column_stays event_table no_rows set_to journal moment bs values gives rows together is event 3 refl refl old remains)
 
     -- one that stays valid
     goes_on : stays_valid event_table no_rows (assigns moment values) journal place ≡ true → (o : Option Log) → part_in logs event ≡ o → IsLogOf (event_state journal place) (type_of journal event) (firings settings journal event) o → IsIt (part_in logs_new event)
     goes_on remains None here idle =
-        let old : is_valid (event_state journal place) ≡ true = (both (is_valid (event_state journal place)) (is_valid (event_state with_set place)) remains).0 in
+        let old : is_valid (event_state journal place) ≡ true = (and_parts (is_valid (event_state journal place)) (is_valid (event_state with_set place)) remains).0 in
         let no : ◌≡◌ {A = Bool} true false = sym old ∙ idle in
         absurd (cc)
     goes_on remains (Some log) here held_log =
-        let each = both (is_valid (event_state journal place)) (is_valid (event_state with_set place)) remains in
+        let each = and_parts (is_valid (event_state journal place)) (is_valid (event_state with_set place)) remains in
         let right : valid_in new event ≡ true = ap is_valid now ∙ each.1 in
         let same : firings settings journal event ≡ firings settings with_set event = sym (ap (λ b. cond b (firings settings journal event) []) remains) in
         subst IsIt (sym (stays event right (ap is_some here) ∙ here))

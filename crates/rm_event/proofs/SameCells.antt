@@ -1,23 +1,22 @@
 -- What the rows and the logs show is what the tables show after the journal.
 use Rattle.std.proofs.Common.{◌≡◌, ℕ, zero, suc, ◌+◌, ◌-◌, ◌<◌, ◌≤◌, List, [], ◌∷◌, length, take, map, refl, sym, ◌∙◌, ap, subst, Bool, true, false, cond, ◌&&◌, Option, Some, None, nat_eq, arith}
-use Rattle.std.specs.Prelude.{pos, is_some, slice_get, unwrap_or}
+use Rattle.std.specs.Prelude.{pos, slice_get, unwrap_or}
 use Rattle.std.specs.Option.{option_or, option_map_or}
 use Rattle.std.proofs.lemmas.Bool.Decides.{nat_tests}
 use Rattle.rm_val.specs.Val.{Val, int, octets, ticks, null}
 use Rattle.rm_model.specs.Settings.{Settings}
 use Rattle.rm_model.specs.Journal.{Journal}
 use Rattle.rm_model.specs.Cells.{cells_of, cell_at, instance_of, IsNext}
-use Rattle.rm_model.specs.ControlRows.{no_rows, is_absent, is_valid}
+use Rattle.rm_model.specs.ControlRows.{no_rows, is_valid}
 use Rattle.rm_model.specs.declared.instance.Instance.{Instance}
 use Rattle.rm_status.specs.declared.row.Row.{Row}
 use Rattle.rm_status.specs.Rows.{row_in, state_in, AreControlRows}
+use Rattle.rm_status.specs.RowForm.{with_index}
 use Rattle.rm_status.specs.RowsAfter.{AreRowsAfter}
 use Rattle.rm_status.proofs.KeptCellsLaws.{same_control_cells}
-use Rattle.rm_event.specs.declared.log_column.LogColumn.{LogColumn}
-use Rattle.rm_event.specs.declared.log_column.LogColumn.TheVariants as log
 use Rattle.rm_event.specs.declared.log.Log.{Log}
 use Rattle.rm_pool.specs.declared.slot.Slot.{Slot}
-use Rattle.rm_event.specs.Columns.{event_columns, log_columns, log_column}
+use Rattle.rm_event.specs.Columns.{event_columns, log_columns}
 use Rattle.rm_event.specs.EventTable.{event_table, event_state, event_set, type_of}
 use Rattle.rm_event.specs.declared.event_row.EventRow.{EventRow}
 use Rattle.rm_event.specs.EventRows.{set_to}
@@ -26,10 +25,11 @@ use Rattle.rm_event.specs.Firings.{last_sent, tick_of, most_shown}
 use Rattle.rm_event.specs.Tables.{event_other, events_table, log_entry, log_of, is_shown, time_at, is_entry, log_value, log_table}
 use Rattle.rm_event.specs.Log.{IsLog, kept_time}
 use Rattle.rm_pool.specs.Slots.{part_in}
-use Rattle.rm_pool.specs.Pools.{IsOfValid}
 use Rattle.rm_event.specs.Standing.{IsLogOf, AreLogs}
-use Rattle.rm_event.specs.Shown.{sent_in, kept_other, rows_table, description_in, is_kept, entry_value, entry_in, logs_table, cells_shown}
-use Rattle.rm_status.proofs.RowFacts.{found_there, valid_there, valid_columns, valid_fits}
+use Rattle.rm_event.specs.Shown.{sent_in, kept_other, rows_table, description_in, is_kept_of, entry_value, entry_in, logs_table, cells_shown}
+use Rattle.rm_status.proofs.Judged.{same_next}
+use Rattle.rm_status.proofs.RowFacts.{row_there, valid_there, valid_columns}
+use Rattle.rm_event.specs.Group.{event_cells}
 use Rattle.rm_event.specs.Moments.{idle_firings}
 use Rattle.rm_event.proofs.Fires.{description_is}
 
@@ -44,14 +44,11 @@ module _ (rows : List (Row EventRow)) (held : AreControlRows rows) (logs : List 
       of_log None idle = sym (ap last_sent (idle_firings settings journal i idle))
       of_log (Some log) it = it.1.sent
 
-  there : (i : ℕ) (row : Row EventRow) → row_in rows i ≡ Some row → is_absent row.state ≡ false
-  there i row here = (found_there rows i row held.1 here).1
-
-  same_other : (column i : ℕ) (row : Row EventRow) → row_in rows i ≡ Some row → kept_other logs column (i ∷ []) ≡ event_other settings journal column (i ∷ [])
+  same_other : (column i : ℕ) (row : Row EventRow) → row_in rows i ≡ Some row → with_index (kept_other logs) column (i ∷ []) ≡ with_index (event_other settings journal) column (i ∷ [])
   same_other column i row here = ap (λ s. cond (nat_eq column 1) (int (pos i)) (ticks s)) (sent_is i)
 
   same_events : (name : List ℕ) → cells_of (rows_table rows logs) name ≡ cells_of (events_table settings journal) name
-  same_events = same_control_cells event_table no_rows set_to rows held journal is event_columns (kept_other logs) (event_other settings journal) there same_other
+  same_events = same_control_cells event_table no_rows set_to rows held journal is event_columns (with_index (kept_other logs)) (with_index (event_other settings journal)) (λ i row here. row_there rows i row held here) same_other
 
   -- The entries of a log.
 
@@ -78,20 +75,17 @@ module _ (rows : List (Row EventRow)) (held : AreControlRows rows) (logs : List 
         near : (entries : ℕ) → is_shown entries number ≡ true → entries - number < 32
         near entries h = let low : entries < number + 32 = grind (arith, nat_tests) in let high : number ≤ entries = grind (arith, nat_tests) in omega (arith, low, high)
 
-    entry_shows : (number : ℕ) → is_shown kept.added number ≡ true → (column : LogColumn) → entry_value i kept (description_in rows i) number column ≡ log_value settings journal i number column
-    entry_shows number shown log.EventIndex = refl
-    entry_shows number shown log.Index = refl
-    entry_shows number shown log.Time = ap ticks (time_is number shown)
-    entry_shows number shown log.Description = description_there
+    entry_shows : (number : ℕ) → is_shown kept.added number ≡ true → (column : ℕ) → entry_value i kept (description_in rows i) number column ≡ log_value settings journal i number column
+    entry_shows number shown column = λ d. cond (nat_eq column 1) (int (pos i)) (cond (nat_eq column 2) (int (pos number)) (cond (nat_eq column 3) (ticks (time_is number shown d)) (description_there d)))
 
-  abbrev shown_after : ℕ → ℕ → LogColumn → Option Val
+  abbrev shown_after : ℕ → ℕ → ℕ → Option Val
   shown_after i number column = cond (is_entry settings journal (i ∷ number ∷ [])) (Some (log_value settings journal i number column)) None
 
-  of_shown : (i number : ℕ) (column : LogColumn) (kept : Log) → is_valid (event_state journal (i ∷ [])) ≡ true → IsLog kept (type_of journal i) (firings settings journal i) → (b : Bool) → is_shown kept.added number ≡ b → cond b (Some (entry_value i kept (description_in rows i) number column)) None ≡ cond b (Some (log_value settings journal i number column)) None
+  of_shown : (i number : ℕ) (column : ℕ) (kept : Log) → is_valid (event_state journal (i ∷ [])) ≡ true → IsLog kept (type_of journal i) (firings settings journal i) → (b : Bool) → is_shown kept.added number ≡ b → cond b (Some (entry_value i kept (description_in rows i) number column)) None ≡ cond b (Some (log_value settings journal i number column)) None
   of_shown i number column kept valid it true shown = ap Some (entry_shows i kept valid it number shown column)
   of_shown i number column kept valid it false shown = refl
 
-  of_log : (i number : ℕ) (column : LogColumn) (o : Option Log) → IsLogOf (event_state journal (i ∷ [])) (type_of journal i) (firings settings journal i) o
+  of_log : (i number : ℕ) (column : ℕ) (o : Option Log) → IsLogOf (event_state journal (i ∷ [])) (type_of journal i) (firings settings journal i) o
       → cond (option_map_or (λ kept. is_shown kept.added number) o false) (Some (entry_in i o (description_in rows i) number column)) None ≡ shown_after i number column
   of_log i number column None idle = sym (ap (λ b. cond (b && is_shown (length (log_of settings journal i)) number) (Some (log_value settings journal i number column)) None) idle)
   of_log i number column (Some kept) it =
@@ -101,7 +95,7 @@ module _ (rows : List (Row EventRow)) (held : AreControlRows rows) (logs : List 
       entry_is : is_entry settings journal (i ∷ number ∷ []) ≡ is_shown kept.added number
       entry_is = ap (λ b. b && is_shown (length (log_of settings journal i)) number) it.0 ∙ ap (λ n. is_shown n number) (sym it.1.added)
 
-  of_pair : (i number : ℕ) (column : LogColumn) → cond (is_kept logs (i ∷ number ∷ [])) (Some (entry_in i (part_in logs i) (description_in rows i) number column)) None ≡ shown_after i number column
+  of_pair : (i number : ℕ) (column : ℕ) → cond (is_kept_of logs i (number ∷ [])) (Some (entry_in i (part_in logs i) (description_in rows i) number column)) None ≡ shown_after i number column
   of_pair i number column = of_log i number column (part_in logs i) (are i)
 
   entry_cell_at : (at : Option Instance) → cell_at (logs_table rows logs) at ≡ cell_at (log_table settings journal) at
@@ -111,19 +105,15 @@ module _ (rows : List (Row EventRow)) (held : AreControlRows rows) (logs : List 
       by_index : (index : List ℕ) → cell_at (logs_table rows logs) (Some (record { column = at.column; index = index })) ≡ cell_at (log_table settings journal) (Some (record { column = at.column; index = index }))
       by_index [] = refl
       by_index (i ∷ []) = refl
-      by_index (i ∷ number ∷ []) = of_pair i number (log_column at.column)
+      by_index (i ∷ number ∷ []) = of_pair i number at.column
       by_index (i ∷ number ∷ next ∷ more) = refl
 
   same_entries : (name : List ℕ) → cells_of (logs_table rows logs) name ≡ cells_of (log_table settings journal) name
   same_entries name = entry_cell_at (instance_of log_entry log_columns name)
 
-  pub same_cells : (name : List ℕ) → cells_shown rows logs name ≡ option_or (cells_of (events_table settings journal) name) (cells_of (log_table settings journal) name)
+  pub same_cells : (name : List ℕ) → cells_shown rows logs name ≡ event_cells settings journal name
   same_cells name = λ d. option_or (same_events name d) (same_entries name d)
 
   -- what is next among the cells that are shown is next among those of the journal
-  pub next_cell : (asked found : List ℕ) (value : Option Val) → IsNext (cells_shown rows logs) asked value found → IsNext (λ name. option_or (cells_of (events_table settings journal) name) (cells_of (log_table settings journal) name)) asked value found
-  next_cell asked found value next = subst (λ (cells : List ℕ → Option Val). IsNext cells asked value found) (λ d name. same_cells name d) next
-
--- no log is of a row above the greatest index
-pub logs_fit : (rows : List (Row EventRow)) (held : AreControlRows rows) (logs : List (Slot Log)) → IsOfValid logs rows → (row : ℕ) → is_some (part_in logs row) ≡ true → row ≤ 65535
-logs_fit rows held logs of_valid row has = (valid_fits rows row held.1 (sym (of_valid row) ∙ has)).1
+  pub next_cell : (asked found : List ℕ) (value : Option Val) → IsNext (cells_shown rows logs) asked value found → IsNext (event_cells settings journal) asked value found
+  next_cell = same_next (cells_shown rows logs) (event_cells settings journal) same_cells

@@ -1,13 +1,13 @@
 -- What is kept of the columns of a row of eventTable.
-use Rattle.std.specs.Prelude.{◌≡◌, ℕ, [], nat_eq, if◌then◌else◌, Option, Some, None, refl}
+use Rattle.std.specs.Prelude.{ℕ, [], nat_eq, if◌then◌else◌, Option, Some, None, refl}
 use Rattle.rm_val.specs.Val.{Val}
 use Rattle.rm_model.specs.ControlTable.{owner_column}
-use Rattle.rm_model.specs.Alike.{HasSameColumns}
-use Rattle.rm_model.specs.Judgement.{column_kind, value_fault}
 use Rattle.rm_acts.specs.Events.{text_column, type_column}
 use Rattle.rm_status.specs.Kinds.{texts}
-use Rattle.rm_status.specs.SheetLaws.{row_begins}
-use Rattle.rm_status.proofs.ColumnLaws.{no_columns, one_more, set_of}
+use Rattle.rm_status.specs.RowForm.{RowForm}
+use Rattle.rm_status.proofs.ColumnLaws.{no_columns, one_more}
+use Rattle.rm_status.proofs.RowForms.{row_form}
+use Rattle.rm_event.specs.Columns.{event_columns}
 use Rattle.rm_event.specs.declared.event_row.EventRow.{EventRow}
 use Rattle.rm_event.specs.declared.event_type.EventType.TheVariants as kind
 use Rattle.rm_event.specs.EventTable.{event_table}
@@ -31,6 +31,10 @@ blank_row = record {
   owner = record { items = [] };
 }
 
+-- whatever its index
+abbrev pub new_row : ℕ → EventRow
+new_row index = blank_row
+
 -- a row with one of its columns set
 abbrev pub with_column : EventRow → ℕ → Val → EventRow
 with_column row n value = record {
@@ -40,14 +44,13 @@ with_column row n value = record {
   owner = if nat_eq 6 n then (texts 127).taken value else row.owner;
 }
 
-pub blank_alike : HasSameColumns event_table (set_to blank_row) (λ column. None)
-blank_alike = row_begins event_table (set_to blank_row) (λ n. refl) refl
-
-pub set_with : (row : EventRow) (n other : ℕ) (value : Val) → value_fault (column_kind event_table n) value ≡ None → set_to (with_column row n value) other ≡ (if nat_eq n other then Some value else set_to row other)
-set_with row n other value fine =
-    set_of event_table.columns n other value (set_to row) (set_to (with_column row n value))
-    (one_more (texts 127) (text_column 2) refl _ n value row.description _ _
+-- the form of the rows
+abbrev pub event_rows : RowForm EventRow
+event_rows =
+    row_form event_table event_columns set_to blank_row with_column (λ n. refl)
+    (λ row n value.
+    one_more (texts 127) (text_column 2) refl _ n value row.description _ _
     (one_more types type_column refl _ n value row.event_type _ _
     (one_more (texts 127) (text_column 4) refl _ n value row.community _ _
     (one_more (texts 127) (owner_column 6) refl [] n value row.owner _ _ (no_columns n value)))))
-    fine
+    refl refl refl refl refl

@@ -1,6 +1,7 @@
 -- The moments of firings after an act.
 use Rattle.std.proofs.Common.{◌≡◌, ℕ, List, [], ◌∷◌, ◌++◌, Bool, true, false, cond, ◌&&◌, Some, None, refl, sym, ap, ◌∙◌, nat_eq}
 use Rattle.std.specs.Prelude.{map, filter}
+use Rattle.std.proofs.Math.Bool.{and-false, and_self}
 use Rattle.rm_model.specs.Settings.{Settings}
 use Rattle.rm_model.specs.Journal.{Act, passes, assigns, samples, Journal, moment_of}
 use Rattle.rm_model.specs.ControlRows.{no_rows, is_valid, stays_valid}
@@ -27,14 +28,6 @@ moments_more moment event (x ∷ some) index =
     both true = refl
     both false = refl
 
-and_same : (b : Bool) → (b && b) ≡ b
-and_same true = refl
-and_same false = refl
-
-and_false : (b : Bool) → (b && false) ≡ false
-and_false true = refl
-and_false false = refl
-
 -- an act that is no Set leaves the rows
 pub same_state : (act : Act) (earlier : Journal) (index : List ℕ) → is_set act ≡ false → event_state (act ∷ earlier) index ≡ event_state earlier index
 same_state (passes frame) earlier index unset = refl
@@ -59,14 +52,14 @@ same_rows_after rows (samples moment alarm None) earlier unset is = record { ali
 same_rows_after rows (samples moment alarm (Some reading)) earlier unset is = record { alike = record { states = is.alike.states; columns = is.alike.columns }; others = is.others }
 
 pub stays_as : (act : Act) (earlier : Journal) (index : List ℕ) → is_set act ≡ false → stays_valid event_table no_rows act earlier index ≡ is_valid (event_state earlier index)
-stays_as act earlier index unset = ap (λ s. is_valid (event_state earlier index) && is_valid s) (same_state act earlier index unset) ∙ and_same (is_valid (event_state earlier index))
+stays_as act earlier index unset = ap (λ s. is_valid (event_state earlier index) && is_valid s) (same_state act earlier index unset) ∙ and_self (is_valid (event_state earlier index))
 
 -- an event whose row isn't valid hasn't fired
 pub idle_firings : (settings : Settings) (journal : Journal) (event : ℕ) → is_valid (event_state journal (event ∷ [])) ≡ false → firings settings journal event ≡ []
 idle_firings settings [] event idle = refl
 idle_firings settings (act ∷ earlier) event idle =
     ap (λ b. cond b (moments_in (moment_of act) event (act_fires settings act earlier (fired settings earlier)) ++ firings settings earlier event) [])
-    (ap (λ b. is_valid (event_state earlier (event ∷ [])) && b) idle ∙ and_false (is_valid (event_state earlier (event ∷ []))))
+    (ap (λ b. is_valid (event_state earlier (event ∷ [])) && b) idle ∙ and-false (is_valid (event_state earlier (event ∷ []))))
 
 -- the firings in an act that is no Set, of an event whose row is valid, and of any other one
 module _ (act : Act) (earlier : Journal) (unset : is_set act ≡ false) (event : ℕ) (some : List Firing) (before : List ℕ) where

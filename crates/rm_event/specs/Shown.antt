@@ -4,19 +4,16 @@ use Rattle.std.specs.Prelude.{ℕ, pos, List, [], ◌∷◌, ◌≡◌, Bool, fa
 use Rattle.std.specs.Option.{option_or, option_map_or}
 use Rattle.rm_val.specs.Val.{Val, int, octets, ticks, null}
 use Rattle.rm_model.specs.Cells.{Cells, Table, cells_of}
-use Rattle.rm_model.specs.ControlRows.{index_value}
-use Rattle.rm_status.specs.KeptCells.{kept_cells}
+use Rattle.rm_status.specs.RowForm.{rows_shown}
 use Rattle.rm_status.specs.declared.row.Row.{Row}
 use Rattle.rm_status.specs.Rows.{columns_in, row_number}
-use Rattle.rm_nested.specs.Nested.{is_nested, is_number}
-use Rattle.rm_event.specs.declared.log_column.LogColumn.{LogColumn}
-use Rattle.rm_event.specs.declared.log_column.LogColumn.TheVariants as log
+use Rattle.rm_nested.specs.InnerTable.{inner_table}
+use Rattle.rm_nested.specs.Nested.{is_number}
 use Rattle.rm_event.specs.declared.event_row.EventRow.{EventRow}
-use Rattle.rm_event.specs.EventRows.{set_to}
+use Rattle.rm_event.specs.EventRows.{event_rows}
 use Rattle.rm_event.specs.declared.log.Log.{Log}
 use Rattle.rm_pool.specs.declared.slot.Slot.{Slot}
-use Rattle.rm_event.specs.Columns.{event_columns, log_columns, log_column}
-use Rattle.rm_event.specs.EventTable.{event_table}
+use Rattle.rm_event.specs.Columns.{log_columns}
 use Rattle.rm_event.specs.Tables.{log_entry, is_shown}
 use Rattle.rm_event.specs.Log.{kept_time}
 use Rattle.rm_pool.specs.Slots.{part_in, has_part}
@@ -25,13 +22,13 @@ use Rattle.rm_pool.specs.Slots.{part_in, has_part}
 abbrev pub sent_in : List (Slot Log) → ℕ → ℕ
 sent_in logs row = option_map_or (λ log. log.sent) (part_in logs row) 0
 
--- what the columns of eventTable show that can't be set
+-- what the column of eventTable shows beside the index that can't be set
 abbrev pub kept_other : List (Slot Log) → ℕ → List ℕ → Val
-kept_other logs column index = if nat_eq column 1 then index_value index else ticks (sent_in logs (row_number index))
+kept_other logs column index = ticks (sent_in logs (row_number index))
 
 -- eventTable with these rows and logs
 abbrev pub rows_table : List (Row EventRow) → List (Slot Log) → Table
-rows_table rows logs = kept_cells event_table set_to event_columns (kept_other logs) rows
+rows_table rows logs = rows_shown event_rows (kept_other logs) rows
 
 -- the description of an event, if there is a row of it
 abbrev pub description_in : List (Row EventRow) → ℕ → Val
@@ -45,35 +42,27 @@ shows logs event number = option_map_or (λ log. is_shown log.added number) (par
 abbrev pub is_kept_of : List (Slot Log) → ℕ → List ℕ → Bool
 is_kept_of logs event index = is_number (shows logs event) index
 
--- whether these numbers are those of an event that has a log and of an entry that the log shows
-abbrev pub is_kept : List (Slot Log) → List ℕ → Bool
-is_kept logs index = is_nested (is_kept_of logs) index
-
 -- what a column of an entry shows, by its log and the event's description
-abbrev pub entry_value : ℕ → Log → Val → ℕ → LogColumn → Val
-entry_value event kept description number log.EventIndex = int (pos event)
-entry_value event kept description number log.Index = int (pos number)
-entry_value event kept description number log.Time = ticks (kept_time kept number)
-entry_value event kept description number log.Description = description
+abbrev pub entry_value : ℕ → Log → Val → ℕ → ℕ → Val
+entry_value event kept description number column =
+    if nat_eq column 1 then int (pos event)
+    else if nat_eq column 2 then int (pos number)
+    else if nat_eq column 3 then ticks (kept_time kept number)
+    else description
 
 -- the same for a log that there may be
-abbrev pub entry_in : ℕ → Option Log → Val → ℕ → LogColumn → Val
+abbrev pub entry_in : ℕ → Option Log → Val → ℕ → ℕ → Val
 entry_in event None description number column = null
 entry_in event (Some kept) description number column = entry_value event kept description number column
 
 -- the same by the numbers of an index
-abbrev pub entry_at : List (Row EventRow) → List (Slot Log) → List ℕ → LogColumn → Val
+abbrev pub entry_at : List (Row EventRow) → List (Slot Log) → List ℕ → ℕ → Val
 entry_at rows logs (event ∷ number ∷ []) column = entry_in event (part_in logs event) (description_in rows event) number column
 entry_at rows logs index column = null
 
 -- logTable with these rows and logs
 abbrev pub logs_table : List (Row EventRow) → List (Slot Log) → Table
-logs_table rows logs = record {
-  entry = log_entry;
-  columns = log_columns;
-  is_row = is_kept logs;
-  value = λ column index. entry_at rows logs index (log_column column);
-}
+logs_table rows logs = inner_table log_entry log_columns (is_kept_of logs) (λ column index. entry_at rows logs index column)
 
 -- the cells of both
 abbrev pub cells_shown : List (Row EventRow) → List (Slot Log) → Cells

@@ -5,23 +5,22 @@ use Rattle.rm_val.specs.Val.{Val, int, ticks, null}
 use Rattle.rm_model.specs.Settings.{Settings}
 use Rattle.rm_model.specs.Journal.{Journal}
 use Rattle.rm_model.specs.Cells.{Table}
-use Rattle.rm_model.specs.ControlRows.{no_rows, is_valid, index_value}
+use Rattle.rm_model.specs.ControlRows.{no_rows, is_valid}
 use Rattle.rm_model.specs.ControlCells.{control_cells}
+use Rattle.rm_status.specs.RowForm.{with_index}
 use Rattle.rm_status.specs.Rows.{row_number}
-use Rattle.rm_event.specs.declared.log_column.LogColumn.{LogColumn}
-use Rattle.rm_event.specs.declared.log_column.LogColumn.TheVariants as log
-use Rattle.rm_event.specs.Columns.{event_columns, log_columns, log_column}
+use Rattle.rm_event.specs.Columns.{event_columns, log_columns}
 use Rattle.rm_event.specs.EventTable.{event_table, event_state, event_set, type_of}
 use Rattle.rm_acts.specs.Fired.{firings}
 use Rattle.rm_event.specs.Firings.{last_sent, logged, tick_of, most_shown}
 
--- what the columns show that can't be set: 1 is eventIndex, 5 eventLastTimeSent
+-- what the column shows beside the index that can't be set: eventLastTimeSent
 abbrev pub event_other : Settings → Journal → ℕ → List ℕ → Val
-event_other settings journal column index = if nat_eq column 1 then index_value index else ticks (last_sent (firings settings journal (row_number index)))
+event_other settings journal column index = ticks (last_sent (firings settings journal (row_number index)))
 
 -- eventTable after a journal
 abbrev pub events_table : Settings → Journal → Table
-events_table settings journal = control_cells event_table no_rows event_columns (event_other settings journal) journal
+events_table settings journal = control_cells event_table no_rows event_columns (with_index (event_other settings journal)) journal
 
 -- the identifier of logEntry
 abbrev pub log_entry : List ℕ
@@ -46,14 +45,15 @@ is_entry settings journal (event ∷ number ∷ []) =
 is_entry settings journal index = false
 
 -- what a column of an entry shows
-abbrev pub log_value : Settings → Journal → ℕ → ℕ → LogColumn → Val
-log_value settings journal event number log.EventIndex = int (pos event)
-log_value settings journal event number log.Index = int (pos number)
-log_value settings journal event number log.Time = ticks (time_at (log_of settings journal event) number)
-log_value settings journal event number log.Description = event_set journal (event ∷ []) 2
+abbrev pub log_value : Settings → Journal → ℕ → ℕ → ℕ → Val
+log_value settings journal event number column =
+    if nat_eq column 1 then int (pos event)
+    else if nat_eq column 2 then int (pos number)
+    else if nat_eq column 3 then ticks (time_at (log_of settings journal event) number)
+    else event_set journal (event ∷ []) 2
 
 -- the same by the numbers of an index
-abbrev pub log_at : Settings → Journal → List ℕ → LogColumn → Val
+abbrev pub log_at : Settings → Journal → List ℕ → ℕ → Val
 log_at settings journal (event ∷ number ∷ []) column = log_value settings journal event number column
 log_at settings journal index column = null
 
@@ -63,5 +63,5 @@ log_table settings journal = record {
   entry = log_entry;
   columns = log_columns;
   is_row = is_entry settings journal;
-  value = λ column index. log_at settings journal index (log_column column);
+  value = λ column index. log_at settings journal index column;
 }

@@ -9,11 +9,11 @@ ghost use Rattle.rm_event.specs.EventRows.{set_to};
 ghost use Rattle.rm_event.specs.Group.{AreFine, IsStocked, HasRoom, IsPrepared, IsReleased};
 ghost use Rattle.rm_event.specs.Standing.{Stands};
 
-use crate::event_cell::event_entry;
-use crate::event_row::EVENT_STATUS;
+use crate::event_row::{EVENT_STATUS, EventRow};
 use crate::events::Events;
 use crate::log::NoEntries;
 use rm_group::{Assigns, Denied};
+use rm_status::ControlRow;
 use std::alloc::Global;
 
 impl Events {
@@ -62,7 +62,7 @@ impl Events {
         ensures { result ≡ count_valid_after event_table (rows_before set_to self.now.rows) (A.bindings set.now) }
     {
         self.rows
-            .rows_after(set, &event_entry(), EVENT_STATUS)
+            .rows_after(set, &EventRow::entry(), EVENT_STATUS)
             .count_valid()
     }
 
@@ -73,10 +73,10 @@ impl Events {
         requires few { length self.now.logs < count_valid_after event_table (rows_before set_to self.now.rows) (A.bindings set.now) }
         ensures { Reserves event_table (rows_before set_to self.now.rows) (A.bindings set.now) result }
     {
-        prove!(self.rows.len() <= 16);
+        prove!(self.rows.len() <= 32);
         prove!(self.logs.len() >= 1);
         self.rows
-            .first_activated(set, &event_entry(), EVENT_STATUS)
+            .first_activated(set, &EventRow::entry(), EVENT_STATUS)
             .unwrap()
     }
 
@@ -86,7 +86,7 @@ impl Events {
         ensures stocked { IsStocked self.old → IsStocked self.new }
         ensures released { IsReleased self.new }
     {
-        prove!(self.rows.len() <= 16);
+        prove!(self.rows.len() <= 32);
         let needed = self.rows.count_valid().max(1);
         self.logs.trim(needed);
     }
@@ -99,8 +99,8 @@ impl Events {
             → Stands self.new settings (assigns now values ∷ journal) }
         ensures stocked { IsStocked self.old → IsStocked self.new }
     {
-        prove!(self.rows.len() <= 16);
-        self.rows.commit(set, &event_entry(), EVENT_STATUS);
+        prove!(self.rows.len() <= 32);
+        self.rows.commit(set, &EventRow::entry(), EVENT_STATUS);
         self.logs.follow(&self.rows, &NoEntries);
     }
 }

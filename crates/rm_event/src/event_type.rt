@@ -1,11 +1,9 @@
 // What an event does where it fires.
-ghost use Rattle.std.specs.Prelude.{◌≡◌, pos};
-ghost use Rattle.rm_val.specs.Val.{val_of};
-ghost use Rattle.rm_event.specs.EventType.{numbered, number_of, type_in, is_logged, fired_as};
+ghost use Rattle.std.specs.Prelude.{◌≡◌};
+ghost use Rattle.rm_event.specs.EventType.{numbered, number_of, is_logged, fired_as};
 
 use crate::fired::Fired;
-use rm_status::natural_in;
-use rm_val::Value;
+use rm_status::Numbered;
 
 /// What an event does where it fires (RFC 1757, eventType).
 #[derive(Clone, Copy, Debug, PartialEq, Eq)]
@@ -16,18 +14,21 @@ pub enum EventType {
     LogAndTrap,
 }
 
-impl EventType {
-    /// The type that a value is. None for every value that isn't one of the others'.
-    pub fn given(value: &Value<'_>) -> EventType
-        ensures { result ≡ type_in (val_of value.now) }
-    {
-        EventType::numbered(natural_in(value))
+impl Numbered for EventType {
+    ghost number_of = { number_of };
+
+    ghost variant = { numbered };
+
+    fn number(self) -> i32 {
+        match self {
+            EventType::None => 1,
+            EventType::Log => 2,
+            EventType::SnmpTrap => 3,
+            EventType::LogAndTrap => 4,
+        }
     }
 
-    // The type with that number.
-    fn numbered(number: u32) -> EventType
-        ensures { result ≡ numbered number }
-    {
+    fn numbered(number: u32) -> EventType {
         if number == 2 {
             EventType::Log
         } else if number == 3 {
@@ -38,19 +39,9 @@ impl EventType {
             EventType::None
         }
     }
+}
 
-    /// The number of the type, 1 to 4.
-    pub fn number(self) -> i32
-        ensures { result ≡ pos (number_of self) }
-    {
-        match self {
-            EventType::None => 1,
-            EventType::Log => 2,
-            EventType::SnmpTrap => 3,
-            EventType::LogAndTrap => 4,
-        }
-    }
-
+impl EventType {
     /// Whether an event of the type is logged where it fires.
     pub fn is_logged(self) -> bool
         ensures { result ≡ is_logged self }

@@ -99,7 +99,7 @@ impl Events {
             → option_map (λ text. octets text.now) result ≡ community_of journal index }
         ensures short { IfSome result (λ text. length text.now ≤ 127) }
     {
-        prove!(self.rows.len() <= 16);
+        prove!(self.rows.len() <= 32);
         match self.rows.get(index) {
             Some(row) => Some(row.community.as_slice()),
             None => None,

@@ -1,15 +1,15 @@
 // The group event, as a group of objects.
 
-use crate::cells::{cell_of, next_of};
-use crate::event_cell::event_entry;
-use crate::event_row::{EVENT_SHOWN, EVENT_STATUS};
+use crate::entries::Entries;
+use crate::event_cell::Sent;
+use crate::event_row::{EVENT_STATUS, EventRow};
 use crate::events::Events;
-use crate::log_cell::log_entry;
-use crate::log_column::LOG_COLUMNS;
 use rm_group::{
-    Assigns, Denied, Group, Look, Objects, is_of_column, judge_read_only, lower_verdict,
+    Assigns, Commits, Denied, Group, Look, Objects, is_of_column, judge_read_only, lower_verdict,
 };
 use rm_model::Verdict;
+use rm_nested::{InnerCells, cell_of_both, next_of_both};
+use rm_status::{ControlRow, Controls};
 use rm_val::{Oid, Value};
 use std::alloc::Global;
 
@@ -48,24 +48,26 @@ impl Group for Events {
 
     ghost finite = { λ settings journal now. event_finite settings journal };
 
-    fn cell(&self, name: &Oid, _now: u32) -> Option<Value<'_>> {
-        prove!(self.rows.len() <= 16);
-        cell_of(&self.rows, &self.logs, name)
+    fn cell(&self, name: &Oid, now: u32) -> Option<Value<'_>> {
+        prove!(self.rows.len() <= 32);
+        let (rows, logs) = (&self.rows, &self.logs);
+        cell_of_both(rows, &Sent { logs }, &Entries { rows, logs }, name, now)
     }
 
     fn after(&self, name: &Oid, now: u32, out: &mut Oid) -> Option<Value<'_>> {
-        prove!(self.rows.len() <= 16);
-        next_of(&self.rows, &self.logs, name, now, out)
+        prove!(self.rows.len() <= 32);
+        let (rows, logs) = (&self.rows, &self.logs);
+        next_of_both(rows, &Sent { logs }, Entries { rows, logs }, name, now, out)
     }
 
     fn judge_alone<A: Assigns>(&self, set: &A) -> Verdict {
-        let rows = self.rows.judge_alone(set, &event_entry(), EVENT_STATUS);
-        let entries = judge_read_only(set, &log_entry(), &LOG_COLUMNS);
+        let rows = self.rows.judge_alone(set, &EventRow::entry(), EVENT_STATUS);
+        let entries = judge_read_only(set, &Entries::entry(), Entries::columns());
         lower_verdict(rows, entries)
     }
 
     fn judge_rows<A: Assigns, L: Look>(&self, set: &A, _now: u32, _look: &L) -> Verdict {
-        self.rows.judge_rows(set, &event_entry(), EVENT_STATUS)
+        self.rows.judge_rows(set, &EventRow::entry(), EVENT_STATUS)
     }
 
     fn prepare<A: Assigns, L: Look>(
@@ -78,12 +80,14 @@ impl Group for Events {
         self.make_room(alloc, set)
     }
 
-    fn commit<A: Assigns>(&mut self, set: &A, _now: u32) {
-        self.assign(set);
+    fn discard(&mut self) {
         self.give_back();
     }
+}
 
-    fn discard(&mut self) {
+impl Commits for Events {
+    fn commit<A: Assigns>(&mut self, set: &A, _now: u32) {
+        self.assign(set);
         self.give_back();
     }
 }
@@ -110,7 +114,7 @@ impl Objects for Events {
         (λ name value. alone_fault event_table (place_of event_entry name) value) (control_refused event_table event_columns) };
 
     fn has_object(name: &Oid) -> bool {
-        is_of_column(name, &event_entry(), &EVENT_SHOWN)
-            || is_of_column(name, &log_entry(), &LOG_COLUMNS)
+        Controls::<EventRow>::has_object(name)
+            || is_of_column(name, &Entries::entry(), Entries::columns())
     }
 }

@@ -3,7 +3,6 @@
 
 mod acts;
 mod assigning;
-mod cells;
 mod entries;
 mod event_cell;
 mod event_row;
@@ -13,8 +12,6 @@ mod fired;
 mod firing;
 mod group;
 mod log;
-mod log_cell;
-mod log_column;
 #[cfg(test)]
 mod tests;
 

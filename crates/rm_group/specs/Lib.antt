@@ -6,3 +6,4 @@ pub mod Passing
 pub mod Due
 pub mod ColumnLemmas
 pub mod Listed
+pub mod Both

@@ -4,8 +4,10 @@ ghost use Rattle.rm_model.specs.Settings.{Settings};
 ghost use Rattle.rm_model.specs.Journal.{Act, Frame, Journal, passes, samples, last_moment, moment_of};
 ghost use Rattle.rm_acts.specs.Fired.{act_fires, fired};
 ghost use Rattle.rm_acts.specs.declared.firing.Firing.{Firing as Fires};
+ghost use Rattle.rm_group.specs.Both.{StandAsOne};
 ghost use Rattle.rm_group.specs.Passing.{IsOf};
 
+use crate::beside::Beside;
 use crate::both::Both;
 use crate::bounds::{MOST_FRAMES, MOST_OCTETS};
 use crate::group::Group;
@@ -68,9 +70,9 @@ impl Unsampled for System {
     ghost begins = { λ s settings earlier moment alarm reading stands later. tt };
 }
 
-impl<G: Steps, H: Steps> Steps for Both<G, H> {
+impl<G: Steps, H: Steps + Beside<G>> Steps for Both<G, H> {
     ghost under_way = { λ s settings act earlier some.
-        G.under_way s.first settings act earlier some × H.under_way s.second settings act earlier some };
+        StandAsOne (G.under_way s.first settings act earlier some) (H.under_way s.second settings act earlier some) (H.tied settings) };
 
     fn pass(&mut self, passing: &Passing<'_>) {
         self.first.pass(passing);
@@ -83,12 +85,16 @@ impl<G: Steps, H: Steps> Steps for Both<G, H> {
     }
 
     ghost ends = { λ s settings act earlier under.
-        (G.ends s.first settings act earlier under.0, H.ends s.second settings act earlier under.1) };
+        record { first = G.ends s.first settings act earlier under.first; second = H.ends s.second settings act earlier under.second; tied = under.tied } };
 }
 
-impl<G: Unsampled, H: Unsampled> Unsampled for Both<G, H> {
+impl<G: Unsampled, H: Unsampled + Beside<G>> Unsampled for Both<G, H> {
     ghost begins = { λ s settings earlier moment alarm reading stands later.
-        (G.begins s.first settings earlier moment alarm reading stands.0 later, H.begins s.second settings earlier moment alarm reading stands.1 later) };
+        record {
+          first = G.begins s.first settings earlier moment alarm reading stands.first later;
+          second = H.begins s.second settings earlier moment alarm reading stands.second later;
+          tied = stands.tied;
+        } };
 }
 
 /// A frame passes, and these are its firings.

@@ -2,9 +2,12 @@
 ghost use Rattle.std.specs.Prelude.{◌||◌, ◌⊎◌, max};
 ghost use Rattle.std.specs.Option.{option_or};
 ghost use Rattle.rm_model.proofs.Finite.{both_finite};
+ghost use Rattle.rm_group.specs.Both.{StandAsOne};
 ghost use Rattle.rm_group.specs.Listed.{both_of_objects, both_refused};
 
 use crate::assigns::Assigns;
+use crate::beside::Beside;
+use crate::commits::Commits;
 use crate::denied::Denied;
 use crate::group::Group;
 use crate::look::Look;
@@ -15,8 +18,8 @@ use rm_model::Verdict;
 use rm_val::{Oid, Value};
 use std::alloc::Global;
 
-/// Two groups as one. Where both have a variable of a name, the first one's counts. A judgement names the lower of the
-/// bindings that theirs name, by the first one where both name the same.
+/// Two groups as one, of which the second stands beside the first. Where both have a variable of a name, the first one's counts.
+/// A judgement names the lower of the bindings that theirs name, by the first one where both name the same.
 #[derive(Drop)]
 pub struct Both<G, H> {
     /// The group whose variables count where both have one of a name.
@@ -25,8 +28,8 @@ pub struct Both<G, H> {
     pub second: H,
 }
 
-impl<G: Group, H: Group> Group for Both<G, H> {
-    ghost stands = { λ s settings journal. G.stands s.first settings journal × H.stands s.second settings journal };
+impl<G: Group, H: Beside<G>> Group for Both<G, H> {
+    ghost stands = { λ s settings journal. StandAsOne (G.stands s.first settings journal) (H.stands s.second settings journal) (H.tied settings) };
 
     ghost clock = { λ s. max (G.clock s.first) (H.clock s.second) };
 
@@ -41,13 +44,13 @@ impl<G: Group, H: Group> Group for Both<G, H> {
     ghost alone = { λ name value. option_or (G.alone name value) (H.alone name value) };
 
     ghost together = { λ settings journal now readings bindings place.
-        option_or (G.together settings journal now readings bindings place) (H.together settings journal now readings bindings place) };
+        option_or (G.together settings journal now readings bindings place) (H.together_beside settings journal now readings bindings place) };
 
     ghost reserves = { λ settings journal bindings index. G.reserves settings journal bindings index ⊎ H.reserves settings journal bindings index };
 
     ghost accepts = { λ s now readings bindings. G.accepts s.first now readings bindings × H.accepts s.second now readings bindings };
 
-    ghost prepared = { λ s now bindings. G.prepared s.first now bindings × H.prepared s.second now bindings };
+    ghost prepared = { λ s now bindings. G.prepared s.first now bindings × H.ready s.second s.first now bindings };
 
     ghost released = { λ s. G.released s.first × H.released s.second };
 
@@ -74,7 +77,7 @@ impl<G: Group, H: Group> Group for Both<G, H> {
 
     fn judge_rows<A: Assigns, L: Look>(&self, set: &A, now: u32, look: &L) -> Verdict {
         let first = self.first.judge_rows(set, now, look);
-        let second = self.second.judge_rows(set, now, look);
+        let second = self.second.judge_beside(&self.first, set, now, look);
         lower_verdict(first, second)
     }
 
@@ -86,16 +89,13 @@ impl<G: Group, H: Group> Group for Both<G, H> {
         look: &L,
     ) -> Result<(), Denied> {
         self.first.prepare(alloc, set, now, look)?;
-        let second = self.second.prepare(alloc, set, now, look);
+        let second = self
+            .second
+            .prepare_beside(&self.first, alloc, set, now, look);
         if second.is_err() {
             self.first.discard();
         }
         second
-    }
-
-    fn commit<A: Assigns>(&mut self, set: &A, now: u32) {
-        self.first.commit(set, now);
-        self.second.commit(set, now);
     }
 
     fn discard(&mut self) {
@@ -104,7 +104,15 @@ impl<G: Group, H: Group> Group for Both<G, H> {
     }
 }
 
-impl<G: Objects, H: Objects> Objects for Both<G, H> {
+impl<G: Commits, H: Beside<G>> Commits for Both<G, H> {
+    fn commit<A: Assigns>(&mut self, set: &A, now: u32) {
+        self.second.begin(&self.first, set, now);
+        self.first.commit(set, now);
+        self.second.complete(&self.first, now);
+    }
+}
+
+impl<G: Objects, H: Objects + Beside<G>> Objects for Both<G, H> {
     ghost objects = { λ name. G.objects name || H.objects name };
 
     ghost settable = { λ name. G.settable name || H.settable name };

@@ -1,11 +1,11 @@
 // A group of objects.
-ghost use Rattle.std.specs.Prelude.{◌≡◌, ℕ, ◌≤◌, List, ◌∷◌, length, Option, IfSome, OnSome, IfNone, OnOk, OnErr, IfErr};
+ghost use Rattle.std.specs.Prelude.{◌≡◌, ℕ, ◌≤◌, List, length, Option, IfSome, OnSome, IfNone, OnOk, OnErr, IfErr};
 ghost use Rattle.std.specs.Option.{option_map};
 ghost use Rattle.rm_val.specs.Val.{Val, val_of};
 ghost use Rattle.rm_val.specs.declared.error.ErrorStatus.{ErrorStatus as Fault};
 ghost use Rattle.rm_val.specs.Spellable.{IsSpellable, HasSpelling};
 ghost use Rattle.rm_model.specs.Settings.{Settings};
-ghost use Rattle.rm_model.specs.Journal.{Assignments, Journal, assigns, last_moment, value_given};
+ghost use Rattle.rm_model.specs.Journal.{Journal, last_moment};
 ghost use Rattle.rm_model.specs.Cells.{Cells, IsNext};
 ghost use Rattle.rm_model.specs.Finite.{AreFinite};
 ghost use Rattle.rm_model.specs.Judgement.{Bindings, IsFirstFault};
@@ -22,7 +22,7 @@ use std::alloc::Global;
 /// A group of objects. It stands for a journal where all that it keeps is what that journal gives.
 ///
 /// A Set is judged in two passes, prepared and then committed, all at one moment. Until it is committed or discarded, the
-/// group is given nothing else.
+/// group is given nothing else. A group commits it by itself (`Commits`), or beside another one (`Beside`).
 pub trait Group {
     /// What the group keeps is what a journal gives, by what the probe was set to.
     ghost stands: { Self → Settings → Journal → Type 0 };
@@ -116,19 +116,6 @@ pub trait Group {
         ensures denied { IfErr result (λ denied. (settings : Settings) (journal : Journal) → stands self.old settings journal
             → reserves settings journal (A.bindings set.now) denied.index) }
         ensures within { IfErr result (λ denied. denied.index ≤ length (A.bindings set.now)) };
-
-    /// Does a Set at a moment in milliseconds, for which it was made ready, and at which the group may be asked. The values act all at once: of each variable the
-    /// first binding counts. No memory is taken.
-    fn commit<A: Assigns>(&mut self, set: &A, now: u32)
-        requires later { clock self.old ≤ now }
-        requires ready { prepared self.old now (A.bindings set.now) }
-        requires stocked { stocked self.old }
-        ensures clock { clock self.new ≤ now }
-        ensures frames { frames self.new ≡ frames self.old }
-        ensures stocked { stocked self.new }
-        ensures stands { (settings : Settings) (journal : Journal) (values : Assignments) → stands self.old settings journal → last_moment journal ≤ now
-            → askable self.old now → ((name : List ℕ) → value_given values name ≡ value_given (A.bindings set.now) name) → stands self.new settings (assigns now values ∷ journal) }
-        ensures released { released self.new };
 
     /// Gives back what was made ready for a Set that isn't committed. No variable changes.
     fn discard(&mut self)

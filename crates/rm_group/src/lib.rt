@@ -4,8 +4,10 @@
 
 mod acts;
 mod assigns;
+mod beside;
 mod both;
 mod bounds;
+mod commits;
 mod denied;
 mod due;
 mod group;
@@ -28,8 +30,10 @@ mod wrong;
 
 pub use acts::{Steps, Unsampled, pass_whole, sample_begins, take_whole};
 pub use assigns::Assigns;
+pub use beside::Beside;
 pub use both::Both;
 pub use bounds::{MOST_FRAMES, MOST_OCTETS};
+pub use commits::Commits;
 pub use denied::Denied;
 pub use due::{Due, FallsDue, SAMPLES, sooner};
 pub use group::Group;

@@ -10,6 +10,7 @@ ghost use Rattle.rm_acts.proofs.ShownLaws.{both_before};
 ghost use Rattle.rm_acts.specs.Recurring.{reading_of};
 ghost use Rattle.rm_group.specs.System.{system_table};
 
+use crate::beside::Beside;
 use crate::both::Both;
 use crate::group::Group;
 use crate::look::Look;
@@ -55,7 +56,7 @@ impl Readable for System {
     ghost recurring = { λ settings one other journal alike now name. refl };
 }
 
-impl<G: Readable, H: Readable> Readable for Both<G, H> {
+impl<G: Readable, H: Readable + Beside<G>> Readable for Both<G, H> {
     ghost sampleable = { λ settings journal now name. option_or (G.sampleable settings journal now name) (H.sampleable settings journal now name) };
 
     ghost shown = { λ s now name. option_or (G.shown s.first now name) (H.shown s.second now name) };

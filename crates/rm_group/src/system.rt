@@ -10,6 +10,7 @@ ghost use Rattle.rm_group.specs.Listed.{of_columns, read_only_refused};
 ghost use Rattle.rm_group.specs.System.{system_entry, system_columns, system_table};
 
 use crate::assigns::Assigns;
+use crate::commits::Commits;
 use crate::denied::Denied;
 use crate::group::Group;
 use crate::instance::instance_of;
@@ -91,9 +92,11 @@ impl Group for System {
         Ok(())
     }
 
-    fn commit<A: Assigns>(&mut self, _set: &A, _now: u32) {}
-
     fn discard(&mut self) {}
+}
+
+impl Commits for System {
+    fn commit<A: Assigns>(&mut self, _set: &A, _now: u32) {}
 }
 
 impl Objects for System {

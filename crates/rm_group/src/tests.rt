@@ -3,14 +3,16 @@ ghost use Rattle.std.specs.Prelude.{◌≤◌};
 mod given;
 mod readings;
 mod seen;
+mod shared;
 mod slot;
 mod sparse;
 
 use crate::tests::given::{Two, Unread};
 use crate::tests::seen::Seen;
+use crate::tests::shared::{First, Set, Stamp};
 use crate::tests::slot::Slot;
 use crate::tests::sparse::Sparse;
-use crate::{Both, Group, Objects, System, next_name};
+use crate::{Both, Commits, Group, Objects, System, next_name};
 use rm_model::Verdict;
 use rm_val::{ErrorStatus, Oid, Value};
 use std::alloc::Global;
@@ -248,5 +250,24 @@ fn a_denied_group_holds_nothing(rt: HostRuntime) -> Result<(), Fail> {
         groups.discard();
         assert!(rt; !groups.first.held && !groups.second.held);
     }
+    Ok(())
+}
+
+#[test]
+fn a_set_is_completed_beside_the_first_group(rt: HostRuntime) -> Result<(), Fail> {
+    let mut groups = Both {
+        first: Stamp { last: 0, from: Set },
+        second: Stamp {
+            last: 0,
+            from: First,
+        },
+    };
+    let set = Two {
+        first: 4,
+        second: 6,
+    };
+    assert_eq!(rt; prepare(rt.alloc(), &mut groups, &set), Outcome::Ready);
+    groups.commit(&set, 2000);
+    assert_eq!(rt; (groups.first.last, groups.second.last), (2000, 2000));
     Ok(())
 }

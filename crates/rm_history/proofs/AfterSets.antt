@@ -1,34 +1,33 @@
 -- The rows and the histories after a Set with which nothing is wrong.
 use Rattle.std.proofs.Common.{◌≡◌, ℕ, ◌<◌, ◌≤◌, List, [], ◌∷◌, length, Bool, true, false, cond, Option, Some, None, refl, sym, ◌∙◌, ap, subst, nat_eq, arith}
 use Rattle.std.specs.Prelude.{pos, is_some, unwrap_or}
-use Rattle.std.specs.Option.{option_or, option_and_then}
+use Rattle.std.specs.Option.{option_and_then}
 use Rattle.std.proofs.lemmas.Bool.{and_from, and_left}
 use Rattle.rm_val.specs.Val.{Val, int, name}
 use Rattle.rm_model.specs.Settings.{Settings}
 use Rattle.rm_model.specs.Journal.{Assignments, Journal, assigns, frames_in, last_moment, value_given}
 use Rattle.rm_model.specs.Interfaces.{interface_name, frames_of}
 use Rattle.rm_model.specs.ControlTable.{default_of}
-use Rattle.rm_model.specs.ControlRows.{no_rows, cell_name, set_ask, next_state, is_absent, is_valid, set_value, stays_valid, since, activated}
+use Rattle.rm_model.specs.ControlRows.{no_rows, set_ask, next_state, is_absent, is_valid, stays_valid, since, activated}
 use Rattle.rm_model.specs.Judgement.{Bindings, count_below, second_pass, is_always}
 use Rattle.rm_model.specs.Reserves.{count_valid, count_valid_after}
-use Rattle.rm_model.specs.declared.row.State.{State}
-use Rattle.rm_model.specs.declared.row.State.TheVariants.{Absent, UnderCreation, Valid}
+use Rattle.rm_model.specs.declared.row.State.TheVariants.{Absent, Valid}
 use Rattle.rm_status.specs.declared.row.Row.{Row}
 use Rattle.rm_status.specs.Rows.{row_in, rows_before, state_seen, columns_seen, state_in, AreControlRows}
 use Rattle.rm_status.specs.Commit.{row_after}
 use Rattle.rm_status.specs.RowsAfter.{AreRowsAfter}
 use Rattle.rm_status.proofs.Bares.{state_then}
 use Rattle.rm_status.proofs.Puts.{AllFine}
+use Rattle.rm_status.proofs.RowFacts.{valid_is, valid_there}
 use Rattle.rm_status.proofs.RowsAfterLemmas.{rows_assigns, since_starts, frames_kept, is_after}
-use Rattle.rm_status.proofs.Bound.{fixed_column}
+use Rattle.rm_status.proofs.RowsThen.{column_stays}
 use Rattle.rm_history.specs.declared.control_columns.ControlColumns.{ControlColumns}
 use Rattle.rm_history.specs.declared.plan.Plan.{Plan}
 use Rattle.rm_history.specs.declared.run.Run.{Run}
 use Rattle.rm_history.specs.Buckets.{end_of, bucket_sum}
 use Rattle.rm_history.specs.HistoryControl.{history_control, control_state, control_set, granted, plan_of, counted_frames}
 use Rattle.rm_status.specs.Values.{natural_in}
-use Rattle.rm_history.specs.ControlColumns.{set_to, blank_columns, with_column}
-use Rattle.rm_history.specs.ColumnLaws.{blank_alike, set_with}
+use Rattle.rm_history.specs.ControlColumns.{set_to, new_row, with_column, control_rows}
 use Rattle.rm_history.specs.Run.{Keeps}
 use Rattle.rm_pool.specs.declared.slot.Slot.{Slot}
 use Rattle.rm_pool.specs.Slots.{part_in, has_part}
@@ -37,16 +36,6 @@ use Rattle.rm_history.specs.Runs.{Fits, AllFit, IsBegun}
 use Rattle.rm_history.specs.Standing.{IsRun, IsHistory, AreHistories}
 use Rattle.rm_history.specs.Begun.{plan_from, if_valid, valid_columns, Begins}
 
-valid_is : (s : State) → is_valid s ≡ true → s ≡ Valid
-valid_is Absent h = cc
-valid_is UnderCreation h = cc
-valid_is Valid h = refl
-
-there_is : (s : State) → is_valid s ≡ true → is_absent s ≡ false
-there_is Absent h = cc
-there_is UnderCreation h = refl
-there_is Valid h = refl
-
 -- what a plan has of the columns of a row
 abbrev planned : ℕ → Val → Val → Plan
 planned start interval requested = record { start = start; seconds = natural_in interval; kept = granted (natural_in requested) }
@@ -54,7 +43,7 @@ planned start interval requested = record { start = start; seconds = natural_in 
 -- what the rows show that are kept
 module _ (rows : List (Row ControlColumns)) (journal : Journal) (is : AreRowsAfter history_control no_rows set_to rows journal) (i : ℕ) (row : Row ControlColumns) (here : row_in rows i ≡ Some row) (valid : is_valid row.state ≡ true) where
   shown_at : is_absent (state_seen (row_in rows i)) ≡ false
-  shown_at = ap (λ o. is_absent (state_seen o)) here ∙ there_is row.state valid
+  shown_at = ap (λ o. is_absent (state_seen o)) here ∙ valid_there row.state valid
 
   source_is : name (interface_name row.columns.source) ≡ control_set journal (i ∷ []) 2
   source_is = ap (λ o. unwrap_or (option_and_then (λ c. set_to c 2) (columns_seen o)) (default_of history_control 2)) (sym here) ∙ (is.alike.columns i shown_at).0.shown
@@ -71,13 +60,13 @@ module _ (settings : Settings) (journal : Journal) (now : ℕ) (bs : Bindings) (
     (fine : AllFine history_control bs)
     (rows new : List (Row ControlColumns)) (held : AreControlRows rows)
     (together : (k : ℕ) → k < length bs → second_pass history_control (rows_before set_to rows) bs k ≡ None)
-    (after : (i : ℕ) → row_in new i ≡ row_after history_control with_column blank_columns bs i (row_in rows i))
+    (after : (i : ℕ) → row_in new i ≡ row_after history_control with_column new_row bs i (row_in rows i))
     (is : AreRowsAfter history_control no_rows set_to rows journal) where
   abbrev with_set : Journal
   with_set = assigns now values ∷ journal
 
   pub rows_with_set : AreRowsAfter history_control no_rows set_to new with_set
-  rows_with_set = rows_assigns history_control no_rows set_to with_column blank_columns set_with blank_alike refl journal now bs values gives fine rows new held is after
+  rows_with_set = rows_assigns history_control no_rows set_to with_column new_row control_rows.set_with control_rows.blank_alike refl journal now bs values gives fine rows new held is after
 
   module _ (i : ℕ) where
     abbrev place : List ℕ
@@ -100,16 +89,13 @@ module _ (settings : Settings) (journal : Journal) (now : ℕ) (bs : Bindings) (
       next_is : (o p : Option (Row ControlColumns)) → row_in rows i ≡ o → row_in new i ≡ p → is_valid (next_state (set_ask history_control bs place) Valid) ≡ true
       next_is o None e k = let no : is_valid Absent ≡ true = ap (λ x. is_valid (state_seen x)) (sym k) ∙ valid in absurd (cc)
       next_is o (Some row) e k =
-          let next = is_after history_control with_column blank_columns bs i (row_in rows i) row (sym (after i) ∙ k) in
+          let next = is_after history_control with_column new_row bs i (row_in rows i) row (sym (after i) ∙ k) in
           ap (λ s. is_valid (next_state (set_ask history_control bs place) s)) (sym was_valid) ∙ sym (ap is_valid next.0) ∙ ap (λ x. is_valid (state_seen x)) (sym k) ∙ valid
 
       -- its columns are as they were, but for the owner
       same_column : (n : ℕ) → nat_eq n 7 ≡ false → is_always history_control n ≡ false → control_set with_set place n ≡ control_set journal place n
       same_column n column fixed =
-          let unbound : value_given values (cell_name history_control.entry n place) ≡ None = gives (cell_name history_control.entry n place)
-          ∙ fixed_column history_control (rows_before set_to rows) bs together i n column fixed was_valid (next_is (row_in rows i) (row_in new i) refl refl) in
-          ap (λ o. unwrap_or (option_or o (cond (is_absent (control_state journal place)) None (set_value history_control no_rows journal place n))) (default_of history_control n)) unbound
-          ∙ ap (λ b. unwrap_or (cond b None (set_value history_control no_rows journal place n)) (default_of history_control n)) (there_is (control_state journal place) old)
+          column_stays history_control no_rows set_to journal now bs values gives rows together is i n column fixed old (next_is (row_in rows i) (row_in new i) refl refl)
 
       same_plan : plan_of with_set place ≡ plan_of journal place
       same_plan =
@@ -223,5 +209,5 @@ module _ (last now frames : ℕ) (later : last ≤ now) where
       fit_at (part_in runs row) (part_in then row) (row_in rows row) (valid_in rows row) refl (of_valid row) (fits row) (kept row) (begun row)
 
 -- as many rows are valid after a Set as it says
-pub count_then : (bs : Bindings) (rows new : List (Row ControlColumns)) → ((i : ℕ) → row_in new i ≡ row_after history_control with_column blank_columns bs i (row_in rows i)) → count_valid (rows_before set_to new) ≡ count_valid_after history_control (rows_before set_to rows) bs
-count_then bs rows new after = ap (λ p. count_below p 65536) (λ d row. ap is_valid (ap state_seen (after row) ∙ state_then history_control with_column blank_columns bs row (row_in rows row)) d)
+pub count_then : (bs : Bindings) (rows new : List (Row ControlColumns)) → ((i : ℕ) → row_in new i ≡ row_after history_control with_column new_row bs i (row_in rows i)) → count_valid (rows_before set_to new) ≡ count_valid_after history_control (rows_before set_to rows) bs
+count_then bs rows new after = ap (λ p. count_below p 65536) (λ d row. ap is_valid (ap state_seen (after row) ∙ state_then history_control with_column new_row bs row (row_in rows row)) d)

@@ -5,7 +5,7 @@ use Rattle.rm_val.specs.Val.{Val, int, counter, ticks}
 use Rattle.rm_model.specs.Journal.{Act, Assignment, passes, assigns, Journal}
 use Rattle.rm_model.specs.Cells.{cells_of}
 use Rattle.rm_model.proofs.ExampleSettings.{plain}
-use Rattle.rm_history.specs.Columns.{control_column, sample_column}
+use Rattle.rm_ether.specs.Columns.{counter_numbered}
 use Rattle.rm_history.specs.Buckets.{utilization}
 use Rattle.rm_history.specs.HistoryControl.{control_entry, control_table}
 use Rattle.rm_history.specs.EtherHistory.{sample_entry, sample_table}
@@ -42,7 +42,7 @@ control j columns = map (λ column. cells_of (control_table j) (control_entry ++
 
 -- start, octets, packets and utilization of the first bucket
 first_bucket : bucket_shown journal 12000 1 (3 ∷ 5 ∷ 6 ∷ 15 ∷ []) ≡ Some (ticks 200) ∷ Some (counter 64) ∷ Some (counter 1) ∷ Some (int (pos 0)) ∷ []
-unfolding sample_column
+unfolding counter_numbered
 first_bucket = refl
 
 -- the first bucket is complete at 12000
@@ -50,21 +50,20 @@ none_complete : packets journal 11999 ≡ None ∷ None ∷ None ∷ []
 none_complete = refl
 
 first_complete : packets journal 12000 ≡ Some (counter 1) ∷ None ∷ None ∷ []
-unfolding sample_column
+unfolding counter_numbered
 first_complete = refl
 
 -- at 31999 the first two are shown, and a millisecond later the second and the third
 two_complete : packets journal 31999 ≡ Some (counter 1) ∷ Some (counter 1) ∷ None ∷ []
-unfolding sample_column
+unfolding counter_numbered
 two_complete = refl
 
 first_gone : packets journal 32000 ≡ None ∷ Some (counter 1) ∷ Some (counter 0) ∷ []
-unfolding sample_column
+unfolding counter_numbered
 first_gone = refl
 
 -- the control row: two buckets are granted, and it is valid
 granted_two : control journal (4 ∷ 7 ∷ []) ≡ Some (int (pos 2)) ∷ Some (int (pos 1)) ∷ []
-unfolding control_column
 granted_two = refl
 
 -- a new row shows the defaults, nothing is granted to it, and it is under creation
@@ -72,17 +71,15 @@ abbrev made : Journal
 made = assigns 1100 (set 7 2 ∷ []) ∷ []
 
 just_made : control made (3 ∷ 4 ∷ 5 ∷ 7 ∷ []) ≡ Some (int (pos 50)) ∷ Some (int (pos 0)) ∷ Some (int (pos 1800)) ∷ Some (int (pos 3)) ∷ []
-unfolding control_column
 just_made = refl
 
 -- 65535 buckets are more than are granted
 granted_most : control (assigns 1200 (set 7 1 ∷ []) ∷ assigns 1150 (set 3 65535 ∷ []) ∷ made) (4 ∷ []) ≡ Some (int (pos 1024)) ∷ []
-unfolding control_column
 granted_most = refl
 
 -- a row that is valid again, and not anew, keeps its history; under creation it has none
 kept_on : packets (assigns 12500 (set 7 1 ∷ []) ∷ journal) 13000 ≡ Some (counter 1) ∷ None ∷ None ∷ []
-unfolding sample_column
+unfolding counter_numbered
 kept_on = refl
 
 ended : packets (assigns 12500 (set 7 3 ∷ []) ∷ journal) 13000 ≡ None ∷ None ∷ None ∷ []

@@ -17,7 +17,7 @@ use Rattle.rm_status.proofs.RowsAfterLemmas.{is_after}
 use Rattle.rm_status.proofs.Puts.{AllFine}
 use Rattle.rm_history.specs.declared.control_columns.ControlColumns.{ControlColumns}
 use Rattle.rm_history.specs.HistoryControl.{history_control}
-use Rattle.rm_history.specs.ControlColumns.{blank_columns, with_column, AreInRange, AreAllInRange}
+use Rattle.rm_history.specs.ControlColumns.{blank_columns, new_row, with_column, AreInRange, AreAllInRange}
 use Rattle.rm_history.proofs.Rings.{eq_is, le_is}
 
 between : (a b c : ℕ) → unless ((nat_le a b && nat_le b c) || false) WrongValue ≡ None → (a ≤ b) × (b ≤ c)
@@ -63,7 +63,7 @@ no_first : (o p : Option ErrorStatus) → option_or o p ≡ None → o ≡ None
 no_first None p e = refl
 no_first (Some x) p e = cc
 
-put_in_range : (i : ℕ) (p : Place) (v : Val) (c : ControlColumns) → alone_fault history_control p v ≡ None → AreInRange c → AreInRange (put_at history_control with_column blank_columns i p v c)
+put_in_range : (i : ℕ) (p : Place) (v : Val) (c : ControlColumns) → alone_fault history_control p v ≡ None → AreInRange c → AreInRange (put_at history_control with_column new_row i p v c)
 put_in_range i Outside v c fine is = is
 put_in_range i Entry v c fine is = is
 put_in_range i (Column n) v c fine is = is
@@ -79,9 +79,9 @@ put_in_range i (Cell n k) v c fine is =
       | false ↦ is
     ]
 
-all_put : (bs : Bindings) (i : ℕ) (c : ControlColumns) → AllFine history_control bs → AreInRange c → AreInRange (put_all history_control with_column blank_columns bs i c)
+all_put : (bs : Bindings) (i : ℕ) (c : ControlColumns) → AllFine history_control bs → AreInRange c → AreInRange (put_all history_control with_column new_row bs i c)
 all_put [] i c fine is = is
-all_put (b ∷ more) i c fine is = put_in_range i (place_of history_control.entry b.name) b.value (put_all history_control with_column blank_columns more i c) fine.0 (all_put more i c fine.1 is)
+all_put (b ∷ more) i c fine is = put_in_range i (place_of history_control.entry b.name) b.value (put_all history_control with_column new_row more i c) fine.0 (all_put more i c fine.1 is)
 
 blank_in_range : AreInRange blank_columns
 blank_in_range = record {
@@ -92,9 +92,9 @@ blank_in_range = record {
 }
 
 -- so are the rows after a Set
-pub rows_in_range : (bs : Bindings) (rows new : List (Row ControlColumns)) → AllFine history_control bs → ((i : ℕ) → row_in new i ≡ row_after history_control with_column blank_columns bs i (row_in rows i)) → AreAllInRange rows → AreAllInRange new
+pub rows_in_range : (bs : Bindings) (rows new : List (Row ControlColumns)) → AllFine history_control bs → ((i : ℕ) → row_in new i ≡ row_after history_control with_column new_row bs i (row_in rows i)) → AreAllInRange rows → AreAllInRange new
 rows_in_range bs rows new fine after are i row here =
-    let next = is_after history_control with_column blank_columns bs i (row_in rows i) row (sym (after i) ∙ here) in
+    let next = is_after history_control with_column new_row bs i (row_in rows i) row (sym (after i) ∙ here) in
     subst AreInRange (sym next.1) (all_put bs i (unwrap_or (columns_seen (row_in rows i)) blank_columns) fine (was (row_in rows i) refl))
   where
     was : (o : Option (Row ControlColumns)) → row_in rows i ≡ o → AreInRange (unwrap_or (columns_seen o) blank_columns)

@@ -1,6 +1,5 @@
 -- How much storage there is, by how many rows are valid.
-use Rattle.std.proofs.Common.{◌≡◌, ℕ, ◌<◌, ◌≤◌, List, [], ◌∷◌, length, true, ◌&&◌, Option, Some, None, refl, sym, ◌∙◌, ap, nat_eq}
-use Rattle.std.specs.Prelude.{is_some}
+use Rattle.std.proofs.Common.{◌≡◌, ℕ, ◌<◌, List, [], ◌∷◌, length, ◌&&◌, Option, Some, None, refl, ap, nat_eq}
 use Rattle.std.specs.Option.{option_or}
 use Rattle.rm_val.specs.declared.error.ErrorStatus.{ErrorStatus}
 use Rattle.rm_model.specs.ControlTable.{ControlTable}
@@ -10,15 +9,13 @@ use Rattle.rm_model.specs.Reserves.{makes_valid, activates_at, activates, count_
 use Rattle.rm_model.specs.declared.place.Place.{Place}
 use Rattle.rm_model.specs.declared.place.Place.TheVariants.{Outside, Entry, Column, Cell}
 use Rattle.rm_status.specs.declared.row.Row.{Row}
-use Rattle.rm_status.specs.Rows.{rows_before, AreControlRows}
+use Rattle.rm_status.specs.Rows.{rows_before}
 use Rattle.rm_group.specs.Alone.{AreFineAlone}
-use Rattle.rm_status.proofs.RowFacts.{valid_fits}
 use Rattle.rm_history.specs.declared.control_columns.ControlColumns.{ControlColumns}
 use Rattle.rm_history.specs.declared.run.Run.{Run}
 use Rattle.rm_history.specs.HistoryControl.{history_control}
 use Rattle.rm_history.specs.ControlColumns.{set_to}
 use Rattle.rm_pool.specs.declared.slot.Slot.{Slot}
-use Rattle.rm_pool.specs.Slots.{part_in}
 use Rattle.rm_pool.specs.Pools.{in_use, IsOfValid}
 use Rattle.rm_history.specs.Group.{history_alone}
 
@@ -50,7 +47,3 @@ module _ (t : ControlTable) (before others : Beginning) (bs : Bindings) (same : 
 
   pub count_after_alike : count_valid_after t before bs ≡ count_valid_after t others bs
   count_after_alike = ap (λ p. count_below p 65536) (λ d row. ap (λ s. is_valid (next_state (set_ask t bs (row ∷ [])) s)) (same row) d)
-
--- the rows that have a history are 65535 at most
-pub numbered : (rows : List (Row ControlColumns)) → AreControlRows rows → (runs : List (Slot Run)) → IsOfValid runs rows → (row : ℕ) → is_some (part_in runs row) ≡ true → row ≤ 65535
-numbered rows there runs held row some = (valid_fits rows row there.1 (sym (held row) ∙ some)).1

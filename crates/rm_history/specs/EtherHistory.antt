@@ -1,5 +1,5 @@
 -- The table etherHistory (RFC 1757, section 5): the last complete buckets of each row of historyControl.
-use Rattle.std.specs.Prelude.{ℕ, pos, ◌/◌, ◌%◌, ◌^◌, List, [], ◌∷◌, Bool, false, ◌&&◌}
+use Rattle.std.specs.Prelude.{ℕ, pos, ◌/◌, ◌%◌, ◌^◌, List, [], ◌∷◌, Bool, false, ◌&&◌, nat_eq, if◌then◌else◌}
 use Rattle.rm_val.specs.Val.{Val, int, counter, ticks}
 use Rattle.rm_model.specs.Settings.{Settings}
 use Rattle.rm_model.specs.Journal.{Journal}
@@ -7,9 +7,7 @@ use Rattle.rm_model.specs.Cells.{Table}
 use Rattle.rm_model.specs.ControlRows.{is_valid}
 use Rattle.rm_ether.specs.declared.counter.Counter.{Counter}
 use Rattle.rm_ether.specs.declared.counter.Counter.TheVariants.{Octets, Pkts}
-use Rattle.rm_history.specs.declared.sample_column.SampleColumn.{SampleColumn}
-use Rattle.rm_history.specs.declared.sample_column.SampleColumn.TheVariants.{Index, SampleIndex, IntervalStart, Counts, Utilization}
-use Rattle.rm_history.specs.Columns.{sample_columns, sample_column}
+use Rattle.rm_history.specs.Columns.{sample_columns, counter_in}
 use Rattle.rm_history.specs.Buckets.{begin_of, bucket_sum, is_shown, utilization}
 use Rattle.rm_history.specs.HistoryControl.{control_state, plan_of, counted_frames}
 
@@ -30,16 +28,16 @@ sample_sum settings journal row bucket each =
 
 -- What a column of a bucket of a control row shows. It began at a moment in hundredths of a second, and a Counter32 is shown
 -- modulo 2 ^ 32; the utilization is that of the exact sums.
-abbrev pub sample_value : Settings → Journal → ℕ → ℕ → SampleColumn → Val
-sample_value settings journal row bucket Index = int (pos row)
-sample_value settings journal row bucket SampleIndex = int (pos bucket)
-sample_value settings journal row bucket IntervalStart = ticks (begin_of (plan_of journal (row ∷ [])) bucket / 10)
-sample_value settings journal row bucket (Counts each) = counter (sample_sum settings journal row bucket each % 2 ^ 32)
-sample_value settings journal row bucket Utilization =
-    int (pos (utilization (sample_sum settings journal row bucket Pkts) (sample_sum settings journal row bucket Octets) (plan_of journal (row ∷ [])).seconds))
+abbrev pub sample_value : Settings → Journal → ℕ → ℕ → ℕ → Val
+sample_value settings journal row bucket column =
+    if nat_eq column 1 then int (pos row)
+    else if nat_eq column 2 then int (pos bucket)
+    else if nat_eq column 3 then ticks (begin_of (plan_of journal (row ∷ [])) bucket / 10)
+    else if nat_eq column 15 then int (pos (utilization (sample_sum settings journal row bucket Pkts) (sample_sum settings journal row bucket Octets) (plan_of journal (row ∷ [])).seconds))
+    else counter (sample_sum settings journal row bucket (counter_in column) % 2 ^ 32)
 
 -- the same by the numbers of an index
-abbrev pub sample_at : Settings → Journal → List ℕ → SampleColumn → Val
+abbrev pub sample_at : Settings → Journal → List ℕ → ℕ → Val
 sample_at settings journal (row ∷ bucket ∷ []) column = sample_value settings journal row bucket column
 sample_at settings journal index column = int (pos 0)
 
@@ -49,5 +47,5 @@ sample_table settings journal now = record {
   entry = sample_entry;
   columns = sample_columns;
   is_row = is_sample journal now;
-  value = λ column index. sample_at settings journal index (sample_column column);
+  value = λ column index. sample_at settings journal index column;
 }

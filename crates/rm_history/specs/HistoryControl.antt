@@ -1,16 +1,16 @@
 -- The table historyControl (RFC 1757, section 5), and what it shows after a journal.
-use Rattle.std.specs.Prelude.{ℕ, pos, min, List, [], ◌∷◌, true, false, not, if◌then◌else◌}
+use Rattle.std.specs.Prelude.{ℕ, pos, min, List, [], ◌∷◌, true, false, if◌then◌else◌}
 use Rattle.rm_val.specs.Val.{Val, int}
 use Rattle.rm_model.specs.Journal.{Frame, Journal, frames_in}
 use Rattle.rm_model.specs.Interfaces.{frames_of}
 use Rattle.rm_model.specs.Cells.{Table}
-use Rattle.rm_model.specs.ControlTable.{Column, ControlTable, number, source_column, owner_column}
-use Rattle.rm_model.specs.ControlRows.{no_rows, is_absent, is_valid, state_of, value_of, since, activated, index_value, entry_status}
+use Rattle.rm_model.specs.ControlTable.{Column, ControlTable, no_rules, number, source_column, owner_column}
+use Rattle.rm_model.specs.ControlCells.{control_cells}
+use Rattle.rm_model.specs.ControlRows.{no_rows, is_valid, state_of, value_of, since, activated}
 use Rattle.rm_model.specs.declared.row.StatusKind.TheVariants.{EntryStatus}
 use Rattle.rm_model.specs.declared.row.State.{State}
-use Rattle.rm_history.specs.declared.control_column.ControlColumn.{ControlColumn}
-use Rattle.rm_history.specs.declared.control_column.ControlColumn.TheVariants.{Index, DataSource, BucketsRequested, BucketsGranted, Interval, Owner, Status}
-use Rattle.rm_history.specs.Columns.{control_columns, control_column}
+use Rattle.rm_history.specs.Columns.{control_columns}
+use Rattle.rm_status.specs.RowForm.{with_index}
 use Rattle.rm_status.specs.Values.{natural_in}
 use Rattle.rm_history.specs.declared.plan.Plan.{Plan}
 
@@ -31,8 +31,10 @@ history_control = record {
   entry = control_entry;
   status = 7;
   status_kind = EntryStatus;
+  most = 16;
   columns = source_column 2 ∷ requested_column ∷ interval_column ∷ owner_column 6 ∷ [];
   go_together = λ value. true;
+  rules = no_rules;
   is_sampled = false;
 }
 
@@ -61,21 +63,10 @@ abbrev pub counted_frames : Journal → List ℕ → List Frame
 counted_frames journal index =
     frames_of (control_set journal index 2) (frames_in (since history_control no_rows journal index))
 
--- what a column of a row shows; nothing is granted to a row that isn't valid
-abbrev pub control_value : Journal → List ℕ → ControlColumn → Val
-control_value journal index Index = index_value index
-control_value journal index DataSource = control_set journal index 2
-control_value journal index BucketsRequested = control_set journal index 3
-control_value journal index BucketsGranted = int (pos (if is_valid (control_state journal index) then (plan_of journal index).kept else 0))
-control_value journal index Interval = control_set journal index 5
-control_value journal index Owner = control_set journal index 6
-control_value journal index Status = int (entry_status (control_state journal index))
+-- what the column shows beside the index that can't be set: historyControlBucketsGranted; nothing is granted to a row that isn't valid
+abbrev pub control_other : Journal → ℕ → List ℕ → Val
+control_other journal column index = int (pos (if is_valid (control_state journal index) then (plan_of journal index).kept else 0))
 
 -- the table after a journal
 abbrev pub control_table : Journal → Table
-control_table journal = record {
-  entry = control_entry;
-  columns = control_columns;
-  is_row = λ index. not (is_absent (control_state journal index));
-  value = λ column index. control_value journal index (control_column column);
-}
+control_table journal = control_cells history_control no_rows control_columns (with_index (control_other journal)) journal

@@ -4,7 +4,6 @@ pub mod Columns
 pub mod EtherHistory
 pub mod Run
 pub mod ControlColumns
-pub mod ColumnLaws
 pub mod Standing
 pub mod Runs
 pub mod Shown

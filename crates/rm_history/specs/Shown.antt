@@ -1,58 +1,40 @@
 -- What the rows and the histories that are kept show.
 use Rattle.std.proofs.Common.{refl, ap, cond}
-use Rattle.std.specs.Prelude.{◌≡◌, ℕ, pos, ◌/◌, ◌%◌, ◌^◌, List, [], ◌∷◌, Bool, false, is_some, if◌then◌else◌, Option, Some, None}
+use Rattle.std.specs.Prelude.{◌≡◌, ℕ, pos, ◌/◌, ◌%◌, ◌^◌, List, [], ◌∷◌, Bool, false, is_some, nat_eq, if◌then◌else◌, Option, Some, None}
 use Rattle.std.specs.Option.{option_map_or, option_or}
-use Rattle.rm_val.specs.Val.{Val, int, octets, name, counter, ticks, null}
+use Rattle.rm_val.specs.Val.{Val, int, counter, ticks, null}
 use Rattle.rm_model.specs.Cells.{Cells, Table, cells_of}
-use Rattle.rm_model.specs.Interfaces.{interface_name}
-use Rattle.rm_model.specs.ControlRows.{is_valid, entry_status}
+use Rattle.rm_model.specs.ControlRows.{is_valid}
 use Rattle.rm_model.specs.declared.row.State.{State}
 use Rattle.rm_status.specs.declared.row.Row.{Row}
 use Rattle.rm_status.specs.Rows.{row_in, row_number}
-use Rattle.rm_status.specs.Indexes.{is_index_in}
+use Rattle.rm_status.specs.RowForm.{rows_shown}
 use Rattle.rm_ether.specs.declared.counter.Counter.TheVariants.{Octets, Pkts}
-use Rattle.rm_history.specs.declared.control_column.ControlColumn.{ControlColumn}
-use Rattle.rm_history.specs.declared.control_column.ControlColumn.TheVariants as control
-use Rattle.rm_history.specs.declared.sample_column.SampleColumn.{SampleColumn}
-use Rattle.rm_history.specs.declared.sample_column.SampleColumn.TheVariants as sample
 use Rattle.rm_history.specs.declared.control_columns.ControlColumns.{ControlColumns}
 use Rattle.rm_history.specs.declared.run.Run.{Run}
-use Rattle.rm_history.specs.Columns.{control_columns, control_column, sample_columns, sample_column}
-use Rattle.rm_history.specs.HistoryControl.{control_entry, granted}
+use Rattle.rm_history.specs.Columns.{sample_columns, counter_in}
+use Rattle.rm_history.specs.ControlColumns.{control_rows}
+use Rattle.rm_history.specs.HistoryControl.{granted}
 use Rattle.rm_history.specs.EtherHistory.{sample_entry}
 use Rattle.rm_history.specs.Buckets.{begin_of, is_shown, utilization}
 use Rattle.rm_history.specs.Run.{kept_counter}
 use Rattle.rm_pool.specs.declared.slot.Slot.{Slot}
 use Rattle.rm_pool.specs.Slots.{part_in, has_part}
-use Rattle.rm_nested.specs.Nested.{is_nested, is_number}
+use Rattle.rm_nested.specs.InnerTable.{inner_table}
+use Rattle.rm_nested.specs.Nested.{is_number}
 
 -- how many buckets are granted to a row, by its state and how many it requests
 abbrev pub granted_in : State → ℕ → ℕ
 granted_in state requested = if is_valid state then granted requested else 0
 
--- what a column of a row shows, by the row's index, its state and its columns
-abbrev pub row_value : ℕ → State → ControlColumns → ControlColumn → Val
-row_value index state columns control.Index = int (pos index)
-row_value index state columns control.DataSource = name (interface_name columns.source)
-row_value index state columns control.BucketsRequested = int (pos columns.requested)
-row_value index state columns control.BucketsGranted = int (pos (granted_in state columns.requested))
-row_value index state columns control.Interval = int (pos columns.interval)
-row_value index state columns control.Owner = octets columns.owner.items
-row_value index state columns control.Status = int (entry_status state)
-
--- the same for a row that there may be
-abbrev pub value_in : ℕ → Option (Row ControlColumns) → ControlColumn → Val
-value_in index None column = null
-value_in index (Some row) column = row_value index row.state row.columns column
+-- what the column of historyControl shows beside the index that can't be set
+abbrev pub kept_other : List (Row ControlColumns) → ℕ → List ℕ → Val
+kept_other rows column index =
+    int (pos (option_map_or (λ row. granted_in row.state row.columns.requested) (row_in rows (row_number index)) 0))
 
 -- historyControl with these rows
 abbrev pub rows_table : List (Row ControlColumns) → Table
-rows_table rows = record {
-  entry = control_entry;
-  columns = control_columns;
-  is_row = is_index_in rows;
-  value = λ column index. value_in (row_number index) (row_in rows (row_number index)) (control_column column);
-}
+rows_table rows = rows_shown control_rows (kept_other rows) rows
 
 -- whether a bucket of a row is shown at a moment, if its history is kept
 abbrev pub shows : List (Slot Run) → ℕ → ℕ → ℕ → Bool
@@ -62,36 +44,28 @@ shows runs now row bucket = option_map_or (λ run. is_shown run.plan now bucket)
 abbrev pub is_kept_of : List (Slot Run) → ℕ → ℕ → List ℕ → Bool
 is_kept_of runs now row index = is_number (shows runs now row) index
 
--- whether these numbers are those of a row whose history is kept and of a bucket of it that is shown at a moment
-abbrev pub is_kept : List (Slot Run) → ℕ → List ℕ → Bool
-is_kept runs now index = is_nested (is_kept_of runs now) index
-
 -- what a column of a bucket shows, by the history of its row
-abbrev pub bucket_value : ℕ → Run → ℕ → SampleColumn → Val
-bucket_value row run bucket sample.Index = int (pos row)
-bucket_value row run bucket sample.SampleIndex = int (pos bucket)
-bucket_value row run bucket sample.IntervalStart = ticks (begin_of run.plan bucket / 10)
-bucket_value row run bucket (sample.Counts each) = counter (kept_counter run bucket each % 2 ^ 32)
-bucket_value row run bucket sample.Utilization = int (pos (utilization (kept_counter run bucket Pkts) (kept_counter run bucket Octets) run.plan.seconds))
+abbrev pub bucket_value : ℕ → Run → ℕ → ℕ → Val
+bucket_value row run bucket column =
+    if nat_eq column 1 then int (pos row)
+    else if nat_eq column 2 then int (pos bucket)
+    else if nat_eq column 3 then ticks (begin_of run.plan bucket / 10)
+    else if nat_eq column 15 then int (pos (utilization (kept_counter run bucket Pkts) (kept_counter run bucket Octets) run.plan.seconds))
+    else counter (kept_counter run bucket (counter_in column) % 2 ^ 32)
 
 -- the same for a history that there may be
-abbrev pub bucket_in : ℕ → Option Run → ℕ → SampleColumn → Val
+abbrev pub bucket_in : ℕ → Option Run → ℕ → ℕ → Val
 bucket_in row None bucket column = null
 bucket_in row (Some run) bucket column = bucket_value row run bucket column
 
 -- the same by the numbers of an index
-abbrev pub bucket_at : List (Slot Run) → List ℕ → SampleColumn → Val
+abbrev pub bucket_at : List (Slot Run) → List ℕ → ℕ → Val
 bucket_at runs (row ∷ bucket ∷ []) column = bucket_in row (part_in runs row) bucket column
 bucket_at runs index column = null
 
 -- etherHistory with these histories, at a moment
 abbrev pub runs_table : List (Slot Run) → ℕ → Table
-runs_table runs now = record {
-  entry = sample_entry;
-  columns = sample_columns;
-  is_row = is_kept runs now;
-  value = λ column index. bucket_at runs index (sample_column column);
-}
+runs_table runs now = inner_table sample_entry sample_columns (is_kept_of runs now) (λ column index. bucket_at runs index column)
 
 -- the cells of both, at a moment
 abbrev pub cells_shown : List (Row ControlColumns) → List (Slot Run) → ℕ → Cells

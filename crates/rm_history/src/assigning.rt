@@ -5,10 +5,10 @@ ghost use Rattle.rm_model.specs.Journal.{Assignments, Journal, assigns, last_mom
 ghost use Rattle.rm_history.specs.Group.{Stands, IsPrepared, IsReleased, IsStocked, frames_given, last_given};
 
 use crate::beginning::Beginning;
-use crate::control_cell::control_entry;
-use crate::control_columns::STATUS;
+use crate::control_columns::{ControlColumns, STATUS};
 use crate::history::History;
 use rm_group::Assigns;
+use rm_status::ControlRow;
 
 impl History {
     /// Does a Set, for which the group was made ready, at a moment in milliseconds. A row that becomes valid begins its history
@@ -26,9 +26,9 @@ impl History {
             → Stands self.new settings (assigns now values ∷ journal) }
         ensures released { IsReleased self.new }
     {
-        prove!(self.rows.len() <= 16);
-        self.rows.commit(set, &control_entry(), STATUS);
-        prove!(self.rows.len() <= 16);
+        prove!(self.rows.len() <= 32);
+        self.rows.commit(set, &ControlColumns::entry(), STATUS);
+        prove!(self.rows.len() <= 32);
         let rows = &self.rows;
         self.runs.follow(rows, &Beginning { rows, now });
         self.last = now;

@@ -1,13 +1,13 @@
 // The columns of a row of historyControl that can be set.
-ghost use Rattle.std.specs.Prelude.{◌≡◌, refl};
-ghost use Rattle.rm_history.specs.HistoryControl.{history_control};
-ghost use Rattle.rm_history.specs.ControlColumns.{set_to, blank_columns, with_column};
-ghost use Rattle.rm_history.specs.ColumnLaws.{blank_alike, set_with};
+ghost use Rattle.std.specs.Prelude.{◌≡◌};
+ghost use Rattle.rm_history.specs.ControlColumns.{blank_columns, control_rows};
 
 use arrayvec::ArrayVec;
 use rm_model::Setting::{Empty, Interface, Number};
-use rm_model::{ColumnKind, ColumnSheet, column, numbers};
-use rm_status::{Columns, interface_in, interface_name, put_text, same_text, short_in};
+use rm_model::{ColumnKind, StatusKind, column, numbers};
+use rm_status::{
+    ControlRow, ControlSheet, interface_in, interface_name, put_text, same_text, short_in,
+};
 use rm_val::Value;
 
 /// The status column of historyControl.
@@ -16,13 +16,20 @@ pub const STATUS: u32 = 7;
 /// How many octets an owner has at most.
 const MOST_OWNER: usize = 127;
 
-/// historyControlDataSource, historyControlBucketsRequested, historyControlInterval and historyControlOwner.
-const SHEET: &[ColumnSheet] = &[
-    column!(2, ColumnKind::Source, Interface(1)),
-    column!(3, numbers!(1, 65535), Number(50)),
-    column!(5, numbers!(1, 3600), Number(1800)),
-    column!(6, ColumnKind::Text(127), Empty, always),
-];
+/// historyControl (RFC 1757, section 5). Its data source, buckets requested, interval and owner can be set.
+const TABLE: ControlSheet = ControlSheet {
+    entry: &[1, 3, 6, 1, 2, 1, 16, 2, 1, 1],
+    shown: &[1, 2, 3, 4, 5, 6, 7],
+    status: STATUS,
+    kind: StatusKind::EntryStatus,
+    most: 16,
+    columns: &[
+        column!(2, ColumnKind::Source, Interface(1)),
+        column!(3, numbers!(1, 65535), Number(50)),
+        column!(5, numbers!(1, 3600), Number(1800)),
+        column!(6, ColumnKind::Text(127), Empty, always),
+    ],
+};
 
 /// The columns of a row of historyControl that can be set (RFC 1757, section 5).
 #[derive(Drop)]
@@ -41,42 +48,34 @@ impl Default for ControlColumns {
     ghost is_default = { λ columns. columns ≡ blank_columns };
 
     fn default() -> Self {
-        ControlColumns::blank()
-    }
-}
-
-impl Columns for ControlColumns {
-    ghost table = { history_control };
-
-    ghost set_to = { set_to };
-
-    ghost blank_row = { blank_columns };
-
-    ghost with_column = { with_column };
-
-    ghost spelled = { λ columns. Unit {0} };
-
-    ghost default_is_blank = { λ columns is. is };
-
-    ghost blank_alike = { blank_alike };
-
-    ghost set_with = { set_with };
-
-    ghost sound = { refl };
-
-    ghost apart = { refl };
-
-    fn sheet() -> &'static [ColumnSheet] {
-        SHEET
-    }
-
-    fn blank() -> Self {
         ControlColumns {
             source: 1,
             requested: 50,
             interval: 1800,
             owner: ArrayVec::new(),
         }
+    }
+}
+
+impl ControlRow for ControlColumns {
+    ghost form = { control_rows };
+
+    ghost default_is_blank = { λ columns is. is };
+
+    fn table() -> ControlSheet {
+        TABLE
+    }
+
+    fn is_fixed(_index: u32, _column: u32) -> bool {
+        false
+    }
+
+    fn stays(_index: u32) -> bool {
+        false
+    }
+
+    fn blank(_index: u32) -> Self {
+        ControlColumns::default()
     }
 
     fn put(&mut self, column: u32, value: &Value<'_>) {

@@ -2,19 +2,18 @@
 ghost use Rattle.std.specs.Prelude.{◌∷◌};
 ghost use Rattle.std.specs.Option.{option_or};
 
-use crate::cells::{cell_of, next_of};
-use crate::control_cell::control_entry;
-use crate::control_column::CONTROL_COLUMNS;
-use crate::control_columns::STATUS;
+use crate::control_cell::BucketsGranted;
+use crate::control_columns::{ControlColumns, STATUS};
 use crate::history::History;
-use crate::sample_cell::sample_entry;
-use crate::sample_column::SAMPLE_COLUMNS;
+use crate::samples::Samples;
 use rm_acts::Firing;
 use rm_group::{
-    Assigns, Denied, Due, FallsDue, Group, Look, Objects, Passing, Readable, Steps, Unsampled,
-    is_of_column, judge_read_only, lower_verdict,
+    Assigns, Commits, Denied, Due, FallsDue, Group, Look, Objects, Passing, Readable, Steps,
+    Unsampled, is_of_column, judge_read_only, lower_verdict,
 };
 use rm_model::Verdict;
+use rm_nested::{InnerCells, cell_of_both, next_of_both};
+use rm_status::{ControlRow, Controls};
 use rm_val::{Oid, Value};
 use std::alloc::Global;
 
@@ -55,23 +54,25 @@ impl Group for History {
     ghost finite = { history_finite };
 
     fn cell(&self, name: &Oid, now: u32) -> Option<Value<'_>> {
-        prove!(self.rows.len() <= 16);
-        cell_of(&self.rows, &self.runs, name, now)
+        prove!(self.rows.len() <= 32);
+        let samples = Samples { runs: &self.runs };
+        cell_of_both(&self.rows, &BucketsGranted, &samples, name, now)
     }
 
     fn after(&self, name: &Oid, now: u32, out: &mut Oid) -> Option<Value<'_>> {
-        prove!(self.rows.len() <= 16);
-        next_of(&self.rows, &self.runs, name, now, out)
+        prove!(self.rows.len() <= 32);
+        let samples = Samples { runs: &self.runs };
+        next_of_both(&self.rows, &BucketsGranted, samples, name, now, out)
     }
 
     fn judge_alone<A: Assigns>(&self, set: &A) -> Verdict {
-        let control = self.rows.judge_alone(set, &control_entry(), STATUS);
-        let samples = judge_read_only(set, &sample_entry(), &SAMPLE_COLUMNS);
+        let control = self.rows.judge_alone(set, &ControlColumns::entry(), STATUS);
+        let samples = judge_read_only(set, &Samples::entry(), Samples::columns());
         lower_verdict(control, samples)
     }
 
     fn judge_rows<A: Assigns, L: Look>(&self, set: &A, _now: u32, _look: &L) -> Verdict {
-        self.rows.judge_rows(set, &control_entry(), STATUS)
+        self.rows.judge_rows(set, &ControlColumns::entry(), STATUS)
     }
 
     fn prepare<A: Assigns, L: Look>(
@@ -84,12 +85,14 @@ impl Group for History {
         self.make_ready(alloc, set)
     }
 
-    fn commit<A: Assigns>(&mut self, set: &A, now: u32) {
-        self.assign(set, now);
-    }
-
     fn discard(&mut self) {
         self.give_back();
+    }
+}
+
+impl Commits for History {
+    fn commit<A: Assigns>(&mut self, set: &A, now: u32) {
+        self.assign(set, now);
     }
 }
 
@@ -115,8 +118,8 @@ impl Objects for History {
         (λ name value. alone_fault history_control (place_of control_entry name) value) (control_refused history_control control_columns) };
 
     fn has_object(name: &Oid) -> bool {
-        is_of_column(name, &control_entry(), &CONTROL_COLUMNS)
-            || is_of_column(name, &sample_entry(), &SAMPLE_COLUMNS)
+        Controls::<ControlColumns>::has_object(name)
+            || is_of_column(name, &Samples::entry(), Samples::columns())
     }
 }
 
@@ -132,12 +135,13 @@ impl Readable for History {
     ghost shown = { λ s now. cells_shown s.rows s.runs now };
 
     fn value(&self, name: &Oid, now: u32) -> Option<Value<'_>> {
-        prove!(self.rows.len() <= 16);
-        cell_of(&self.rows, &self.runs, name, now)
+        prove!(self.rows.len() <= 32);
+        let samples = Samples { runs: &self.runs };
+        cell_of_both(&self.rows, &BucketsGranted, &samples, name, now)
     }
 
     fn shows(&self, _now: u32) {
-        prove!(self.rows.len() <= 16);
+        prove!(self.rows.len() <= 32);
     }
 
     ghost recurring = { λ settings one other journal alike now name. refl };

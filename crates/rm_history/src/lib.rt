@@ -3,9 +3,7 @@
 
 mod assigning;
 mod beginning;
-mod cells;
 mod control_cell;
-mod control_column;
 mod control_columns;
 mod counted_frame;
 mod group;
@@ -13,8 +11,6 @@ mod history;
 mod plan;
 mod preparing;
 mod run;
-mod sample_cell;
-mod sample_column;
 mod samples;
 mod shown_buckets;
 #[cfg(test)]

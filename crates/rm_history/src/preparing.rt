@@ -10,10 +10,10 @@ ghost use Rattle.rm_history.specs.HistoryControl.{history_control};
 ghost use Rattle.rm_history.specs.ControlColumns.{set_to};
 ghost use Rattle.rm_history.specs.Group.{Stands, AreFine, IsStocked, IsPrepared, IsReleased, frames_given, last_given};
 
-use crate::control_cell::control_entry;
-use crate::control_columns::STATUS;
+use crate::control_columns::{ControlColumns, STATUS};
 use crate::history::History;
 use rm_group::{Assigns, Denied};
+use rm_status::ControlRow;
 use rm_val::NoMemory;
 use std::alloc::Global;
 
@@ -33,9 +33,12 @@ impl History {
             → Reserves history_control (rows_after history_control no_rows journal) (A.bindings set.now) denied.index) }
         ensures within { IfErr result (λ denied. denied.index ≤ length (A.bindings set.now)) }
     {
-        prove!(self.rows.len() <= 16);
+        prove!(self.rows.len() <= 32);
         prove!(self.runs.len() >= 1);
-        let Some(index) = self.rows.first_activated(set, &control_entry(), STATUS) else {
+        let Some(index) = self
+            .rows
+            .first_activated(set, &ControlColumns::entry(), STATUS)
+        else {
             return Ok(());
         };
         let count = self.count_after(set);
@@ -56,7 +59,7 @@ impl History {
         ensures stands { (settings : Settings) (journal : Journal) → Stands self.old settings journal → Stands self.new settings journal }
         ensures released { IsReleased self.new }
     {
-        prove!(self.rows.len() <= 16);
+        prove!(self.rows.len() <= 32);
         let count = self.rows.count_valid();
         self.runs.trim(count.max(1));
     }
@@ -66,7 +69,7 @@ impl History {
         requires { AreFine self.now (A.bindings set.now) }
         ensures { result ≡ count_valid_after history_control (rows_before set_to self.now.rows) (A.bindings set.now) }
     {
-        let after = self.rows.rows_after(set, &control_entry(), STATUS);
+        let after = self.rows.rows_after(set, &ControlColumns::entry(), STATUS);
         after.count_valid()
     }
 }

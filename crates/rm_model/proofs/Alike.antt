@@ -74,7 +74,7 @@ same_itself t set (c ∷ more) = (record { shown = refl; needed = λ _. refl }, 
 
 module _ (t : ControlTable) (rows others : Beginning) (alike : AreAlike t rows others) (bs : Bindings) where
   crowded_alike : is_crowded t rows bs ≡ is_crowded t others bs
-  crowded_alike = ap (λ (f : ℕ → Bool). nat_lt 16 (count_below f 65536)) (λ d row. (held_alike row) d)
+  crowded_alike = ap (λ (f : ℕ → Bool). nat_lt t.most (count_below f 65536)) (λ d row. (held_alike row) d)
     where
       held_alike : (row : ℕ) → is_held_or_made t rows bs (row ∷ []) ≡ is_held_or_made t others bs (row ∷ [])
       held_alike row = ap (λ s. not (is_absent s) || is_made s (set_ask t bs (row ∷ []))) (alike.states row)
@@ -82,11 +82,11 @@ module _ (t : ControlTable) (rows others : Beginning) (alike : AreAlike t rows o
   -- a row is as ready among both, also where it isn't there
   as_ready : (row : ℕ) → is_ready_with t rows bs (row ∷ []) ≡ is_ready_with t others bs (row ∷ [])
   as_ready row =
-      ready_alike t (set_before rows (row ∷ [])) (set_before others (row ∷ [])) (λ column. value_given bs (cell_name t.entry column (row ∷ [])))
-      (subst (λ s. HasSameColumns t (set_before rows (row ∷ [])) (λ column. cond (is_absent s) None (others.set (row ∷ []) column))) (alike.states row) (by_state (is_absent (rows.state (row ∷ []))) refl))
+      ready_alike t (set_before t rows (row ∷ [])) (set_before t others (row ∷ [])) (λ column. value_given bs (cell_name t.entry column (row ∷ [])))
+      (subst (λ s. HasSameColumns t (set_before t rows (row ∷ [])) (λ column. cond (is_absent s) (t.rules.first (row ∷ []) column) (others.set (row ∷ []) column))) (alike.states row) (by_state (is_absent (rows.state (row ∷ []))) refl))
     where
-      by_state : (b : Bool) → is_absent (rows.state (row ∷ [])) ≡ b → HasSameColumns t (λ column. cond b None (rows.set (row ∷ []) column)) (λ column. cond b None (others.set (row ∷ []) column))
-      by_state true e = same_itself t (λ column. None) t.columns
+      by_state : (b : Bool) → is_absent (rows.state (row ∷ [])) ≡ b → HasSameColumns t (λ column. cond b (t.rules.first (row ∷ []) column) (rows.set (row ∷ []) column)) (λ column. cond b (t.rules.first (row ∷ []) column) (others.set (row ∷ []) column))
+      by_state true e = same_itself t (t.rules.first (row ∷ [])) t.columns
       by_state false e = alike.columns row e
 
   -- the second pass finds the same wrong with a Set
@@ -98,6 +98,6 @@ module _ (t : ControlTable) (rows others : Beginning) (alike : AreAlike t rows o
       of_place Entry = refl
       of_place (Column c) = refl
       of_place (Cell c row) =
-          ap (λ b. row_fault t (rows.state (row ∷ [])) (set_ask t bs (row ∷ [])) b (is_crowded t rows bs) (is_again bs k) c) (as_ready row)
-          ∙ ap (λ s. row_fault t s (set_ask t bs (row ∷ [])) (is_ready_with t others bs (row ∷ [])) (is_crowded t rows bs) (is_again bs k) c) (alike.states row)
-          ∙ ap (λ s. row_fault t (others.state (row ∷ [])) (set_ask t bs (row ∷ [])) (is_ready_with t others bs (row ∷ [])) s (is_again bs k) c) crowded_alike
+          ap (λ b. row_fault t (row ∷ []) (rows.state (row ∷ [])) (set_ask t bs (row ∷ [])) b (is_crowded t rows bs) (is_again bs k) c) (as_ready row)
+          ∙ ap (λ s. row_fault t (row ∷ []) s (set_ask t bs (row ∷ [])) (is_ready_with t others bs (row ∷ [])) (is_crowded t rows bs) (is_again bs k) c) (alike.states row)
+          ∙ ap (λ s. row_fault t (row ∷ []) (others.state (row ∷ [])) (set_ask t bs (row ∷ [])) (is_ready_with t others bs (row ∷ [])) s (is_again bs k) c) crowded_alike

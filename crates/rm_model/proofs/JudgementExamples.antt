@@ -1,5 +1,5 @@
 -- What is wrong with Sets of row 5 of a table whose status is column 12, cell by cell of the steps of row status.
-use Rattle.std.proofs.Common.{◌≡◌, ℕ, List, [], ◌∷◌, refl, Bool, true, false, Option, Some, None, map}
+use Rattle.std.proofs.Common.{◌≡◌, ℕ, List, [], ◌∷◌, refl, Bool, true, false, ◌&&◌, not, Option, Some, None, map}
 use Rattle.std.specs.Prelude.{pos, negsuc, nat_eq, if◌then◌else◌}
 use Rattle.std.specs.Str.{bytes_eq}
 use Rattle.rm_val.specs.Val.{Val, int, octets, name, counter, null}
@@ -12,7 +12,7 @@ use Rattle.rm_model.specs.declared.row.Ask.{Ask}
 use Rattle.rm_model.specs.declared.row.Ask.TheVariants.{Nothing}
 use Rattle.rm_model.specs.Journal.{Assignment}
 use Rattle.rm_model.specs.Interfaces.{interface_name}
-use Rattle.rm_model.specs.ControlTable.{number, text, any_name, data_source, ControlTable}
+use Rattle.rm_model.specs.ControlTable.{number, text, any_name, data_source, ControlTable, no_rules}
 use Rattle.rm_model.specs.ControlRows.{Beginning, number_ask, next_state}
 use Rattle.rm_model.specs.Judgement.{first_pass, second_pass, row_fault, is_ready_with, is_held_or_made, count_below, is_sound}
 
@@ -22,6 +22,7 @@ table = record {
   entry = 1 ∷ 3 ∷ [];
   status = 12;
   status_kind = EntryStatus;
+  most = 16;
   columns =
       record { number = 2; kind = number (record { least = pos 1; greatest = pos 9 } ∷ []); always = false; needed = true; default = int (pos 0) }
       ∷ record { number = 3; kind = number (record { least = negsuc 0; greatest = negsuc 0 } ∷ record { least = pos 32; greatest = pos 99 } ∷ []); always = false; needed = false; default = int (negsuc 0) }
@@ -30,6 +31,7 @@ table = record {
       ∷ record { number = 11; kind = text 3; always = true; needed = false; default = octets [] }
       ∷ [];
   go_together = λ value. true;
+  rules = no_rules;
   is_sampled = false;
 }
 
@@ -82,15 +84,15 @@ other_table : first_pass table (record { name = 1 ∷ 4 ∷ 2 ∷ 5 ∷ []; valu
 other_table = refl
 
 -- the second pass of a status, of an ordinary column and of one that may always be set, for each number that the status takes
-abbrev faults : ControlTable → State → Ask → Bool → List (Option ErrorStatus)
-faults table state ask ready = map (row_fault table state ask ready false false) (12 ∷ 2 ∷ 11 ∷ [])
+abbrev faults : ControlTable → List ℕ → State → Ask → Bool → List (Option ErrorStatus)
+faults table index state ask ready = map (row_fault table index state ask ready false false) (12 ∷ 2 ∷ 11 ∷ [])
 
 abbrev step : ControlTable → State → ℕ → List (Option ErrorStatus)
-step table state n = faults table state (number_ask table.status_kind n) true
+step table state n = faults table (5 ∷ []) state (number_ask table.status_kind n) true
 
 -- the same where no status is set: of the two columns
 abbrev unasked : ControlTable → State → List (Option ErrorStatus)
-unasked table state = map (row_fault table state Nothing true false false) (2 ∷ 11 ∷ [])
+unasked table state = map (row_fault table (5 ∷ []) state Nothing true false false) (2 ∷ 11 ∷ [])
 
 -- nothing is wrong with any, or one thing with each of them
 abbrev fine : List (Option ErrorStatus)
@@ -101,6 +103,9 @@ wrong_name = Some InconsistentName
 
 abbrev wrong_value : Option ErrorStatus
 wrong_value = Some InconsistentValue
+
+abbrev not_set : Option ErrorStatus
+not_set = Some NotWritable
 
 absent : unasked table Absent ≡ wrong_name ∷ wrong_name ∷ []
 absent = refl
@@ -115,7 +120,7 @@ under_creation = refl
 under_creation_each : map (step table UnderCreation) (1 ∷ 2 ∷ 3 ∷ 4 ∷ []) ≡ fine ∷ (wrong_value ∷ None ∷ None ∷ []) ∷ fine ∷ fine ∷ []
 under_creation_each = refl
 
-not_ready : faults table UnderCreation (number_ask EntryStatus 1) false ≡ wrong_value ∷ None ∷ None ∷ []
+not_ready : faults table (5 ∷ []) UnderCreation (number_ask EntryStatus 1) false ≡ wrong_value ∷ None ∷ None ∷ []
 not_ready = refl
 
 valid : unasked table Valid ≡ wrong_value ∷ None ∷ []
@@ -126,7 +131,7 @@ valid_each : map (step table Valid) (1 ∷ 2 ∷ 3 ∷ 4 ∷ [])
 valid_each = refl
 
 -- a valid row asks for no readiness
-valid_not_ready : faults table Valid (number_ask EntryStatus 1) false ≡ None ∷ wrong_value ∷ None ∷ []
+valid_not_ready : faults table (5 ∷ []) Valid (number_ask EntryStatus 1) false ≡ None ∷ wrong_value ∷ None ∷ []
 valid_not_ready = refl
 
 -- the states that the same Sets lead to, by number, and where no status is set
@@ -145,7 +150,7 @@ row_absent : map (step row_table Absent) (1 ∷ 2 ∷ 4 ∷ 5 ∷ 6 ∷ [])
 row_absent = refl
 
 -- a row can't be made active without a column that it needs, and can be made without it
-row_not_ready : map (λ n. faults row_table Absent (number_ask RowStatus n) false) (4 ∷ 5 ∷ []) ≡ (wrong_value ∷ None ∷ None ∷ []) ∷ fine ∷ []
+row_not_ready : map (λ n. faults row_table (5 ∷ []) Absent (number_ask RowStatus n) false) (4 ∷ 5 ∷ []) ≡ (wrong_value ∷ None ∷ None ∷ []) ∷ fine ∷ []
 row_not_ready = refl
 
 row_out_of_service : map (step row_table UnderCreation) (1 ∷ 2 ∷ 4 ∷ 5 ∷ 6 ∷ [])
@@ -165,20 +170,47 @@ row_states : map (λ state. states row_table state (0 ∷ 1 ∷ 2 ∷ 4 ∷ 5 �
     ∷ (Valid ∷ Valid ∷ UnderCreation ∷ Valid ∷ Valid ∷ Absent ∷ []) ∷ []
 row_states = refl
 
--- each binding of a row that is one too many, whatever else is wrong with it, and no binding of a row that there is
-one_too_many : map (row_fault table Absent (number_ask EntryStatus 2) true true true) (12 ∷ 2 ∷ 11 ∷ []) ≡ wrong_name ∷ wrong_name ∷ wrong_name ∷ []
-one_too_many = refl
-
-there_already : map (row_fault table UnderCreation Nothing true true false) (2 ∷ 11 ∷ []) ≡ None ∷ None ∷ []
-there_already = refl
-
-again : row_fault table UnderCreation Nothing true false true 2 ≡ wrong_value
-again = refl
-
--- row 5 that was there, and that a Set makes active: what it had counts no more
+-- rows that were there, and had a 7 in each column
 abbrev gone_5 : Beginning
 gone_5 = record { state = λ index. Absent; set = λ index column. Some (int (pos 7)) }
 
+-- a table in which column 2 of row 6 is 3 at first, column 11 can never be set but in row 5, and row 7 stays
+abbrev ruled : ControlTable
+ruled = record row_table {
+  rules = record {
+    first = λ index column. if bytes_eq index (6 ∷ []) && nat_eq column 2 then Some (int (pos 3)) else None;
+    is_fixed = λ index column. not (bytes_eq index (5 ∷ [])) && nat_eq column 11;
+    stays = λ index. bytes_eq index (7 ∷ []);
+  };
+}
+
+-- the same steps of row 7: only 1 may be said of it again
+staying : map (λ n. faults ruled (7 ∷ []) Valid (number_ask RowStatus n) true) (1 ∷ 2 ∷ 4 ∷ 5 ∷ 6 ∷ [])
+    ≡ (None ∷ wrong_value ∷ not_set ∷ []) ∷ (wrong_value ∷ None ∷ not_set ∷ []) ∷ (wrong_value ∷ wrong_value ∷ not_set ∷ []) ∷ (wrong_value ∷ wrong_value ∷ not_set ∷ []) ∷ (wrong_value ∷ wrong_value ∷ not_set ∷ []) ∷ []
+staying = refl
+
+-- a column that can never be set comes behind a row that isn't there, and before a value that doesn't fit
+never_set : map (λ state. row_fault ruled (6 ∷ []) state Nothing true false true 11) (Absent ∷ UnderCreation ∷ Valid ∷ []) ≡ wrong_name ∷ not_set ∷ not_set ∷ []
+never_set = refl
+
+never_set_at_first : row_fault ruled (6 ∷ []) Absent (number_ask RowStatus 4) true false false 11 ≡ not_set
+never_set_at_first = refl
+
+-- row 6 has at first what it needs, and row 5 doesn't
+ready_at_first : map (is_ready_with ruled gone_5 []) ((5 ∷ []) ∷ (6 ∷ []) ∷ []) ≡ false ∷ true ∷ []
+ready_at_first = refl
+
+-- each binding of a row that is one too many, whatever else is wrong with it, and no binding of a row that there is
+one_too_many : map (row_fault table (5 ∷ []) Absent (number_ask EntryStatus 2) true true true) (12 ∷ 2 ∷ 11 ∷ []) ≡ wrong_name ∷ wrong_name ∷ wrong_name ∷ []
+one_too_many = refl
+
+there_already : map (row_fault table (5 ∷ []) UnderCreation Nothing true true false) (2 ∷ 11 ∷ []) ≡ None ∷ None ∷ []
+there_already = refl
+
+again : row_fault table (5 ∷ []) UnderCreation Nothing true false true 2 ≡ wrong_value
+again = refl
+
+-- a Set makes active a row 5 that was there: what it had counts no more
 abbrev goes : Assignment
 goes = binds (12 ∷ 5 ∷ []) (int (pos 4))
 

@@ -102,12 +102,12 @@ abbrev pub state_of : ControlTable → Beginning → Journal → List ℕ → St
 state_of table beginning [] index = beginning.state index
 state_of table beginning (act ∷ earlier) index = next_state (act_ask table act index) (state_of table beginning earlier index)
 
--- the value that a column of a row was last set to since the row was made, if it was set
+-- the value that a column of a row was last set to since the row was made, if it was set, also by being made
 abbrev pub set_value : ControlTable → Beginning → Journal → List ℕ → ℕ → Option Val
 set_value table beginning [] index column = beginning.set index column
 set_value table beginning (assigns moment values ∷ earlier) index column =
     option_or (value_given values (cell_name table.entry column index))
-    (if is_absent (state_of table beginning earlier index) then None else set_value table beginning earlier index column)
+    (if is_absent (state_of table beginning earlier index) then table.rules.first index column else set_value table beginning earlier index column)
 set_value table beginning (passes frame ∷ earlier) index column = set_value table beginning earlier index column
 set_value table beginning (samples moment alarm reading ∷ earlier) index column = set_value table beginning earlier index column
 

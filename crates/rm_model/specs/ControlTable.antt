@@ -1,5 +1,5 @@
 -- What is fixed of a control table: its columns, and the values that they take.
-use Rattle.std.specs.Prelude.{ℕ, ℤ, List, [], Bool, true, false, ◌&&◌, ◌||◌, not, nat_eq, Option, is_some, unwrap_or, find}
+use Rattle.std.specs.Prelude.{ℕ, ℤ, List, [], Bool, true, false, ◌&&◌, ◌||◌, not, nat_eq, Option, None, is_some, unwrap_or, find}
 use Rattle.std.specs.List.{list_all}
 use Rattle.std.specs.Option.{option_map_or}
 use Rattle.rm_val.specs.Val.{Val, null, name, octets}
@@ -36,15 +36,28 @@ source_column column = record { number = column; kind = data_source; always = fa
 abbrev pub owner_column : ℕ → Column
 owner_column column = record { number = column; kind = text 127; always = true; needed = false; default = octets [] }
 
--- A control table: the identifier of its entry, its status column and which kind of status that has, its other
--- writable columns, and whether values of these go together in a row that is ready. The rows of a sampled table are
--- alarms: a sample whose variable is gone takes its row away.
+-- What goes by the index of a row, where the rows of a table aren't all alike: what a column of a new row is set to at first, if it
+-- doesn't begin with the column's default; which columns of a row can never be set; and which rows were there from the beginning and stay.
+pub record RowRules : Type 0 where
+  pub first : List ℕ → ℕ → Option Val
+  pub is_fixed : List ℕ → ℕ → Bool
+  pub stays : List ℕ → Bool
+
+-- all rows are alike
+abbrev pub no_rules : RowRules
+no_rules = record { first = λ index column. None; is_fixed = λ index column. false; stays = λ index. false }
+
+-- A control table: the identifier of its entry, its status column and which kind of status that has, how many rows there are at most, its
+-- other writable columns, whether values of these go together in a row that is ready, and what goes by the index of a row. The rows of a
+-- sampled table are alarms: a sample whose variable is gone takes its row away.
 pub record ControlTable : Type 0 where
   pub entry : List ℕ
   pub status : ℕ
   pub status_kind : StatusKind
+  pub most : ℕ
   pub columns : List Column
   pub go_together : (ℕ → Val) → Bool
+  pub rules : RowRules
   pub is_sampled : Bool
 
 -- the writable column with that number

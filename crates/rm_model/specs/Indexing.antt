@@ -1,26 +1,16 @@
 -- The indexes of the rows of a control table, and the numbers by which code holds its rows.
 use Rattle.std.specs.Prelude.{◌≡◌, ℕ, ◌+◌, ◌-◌, ◌*◌, ◌/◌, ◌%◌, List, [], ◌∷◌, Bool, ◌&&◌, ◌||◌, nat_eq, nat_le, nat_lt, length, get_or, if◌then◌else◌, Option, Some, None}
 use Rattle.std.specs.Str.{bytes_eq}
-use Rattle.rm_val.specs.Val.{Val}
 
--- Which lists of numbers can be the index of a row, each with the number by which its row is held; the greatest of these numbers; and
--- how many rows there are at most.
+-- Which lists of numbers can be the index of a row, each with the number by which its row is held; and the greatest of these numbers.
 pub record Indexing : Type 0 where
   pub index_of : ℕ → List ℕ
   pub number_of : List ℕ → Option ℕ
   pub greatest : ℕ
-  pub most : ℕ
 
 -- the map is one to one
 pub record IsOneToOne (indexing : Indexing) : Type 0 where
   pub forth : (index : List ℕ) (n : ℕ) → indexing.number_of index ≡ Some n → indexing.index_of n ≡ index
-
--- what depends on the row beside its state: what a column shows until it is set, whether a column can never be set, and whether the row
--- was there from the beginning and stays
-pub record RowRules : Type 0 where
-  pub first : List ℕ → ℕ → Val
-  pub is_fixed : List ℕ → ℕ → Bool
-  pub stays : List ℕ → Bool
 
 -- the number that is the whole of an index
 abbrev pub one_in : ℕ → List ℕ → Option ℕ
@@ -30,7 +20,7 @@ one_in greatest (n ∷ next ∷ more) = None
 
 -- the indexes that are one number
 abbrev pub one_number : Indexing
-one_number = record { index_of = λ n. n ∷ []; number_of = one_in 65535; greatest = 65535; most = 16 }
+one_number = record { index_of = λ n. n ∷ []; number_of = one_in 65535; greatest = 65535 }
 
 -- The directory: an identifier of four octets for each layer and the parameters, an octet for each, both with their count. The numbers
 -- rise as the names do: 1 is ether2 itself, then come the types of Ethernet, the protocols over ip, the ports over tcp, and those over udp.
@@ -59,4 +49,4 @@ abbrev pub number_if : List ℕ → ℕ → Option ℕ
 number_if index n = if may_be_row n && bytes_eq (directory_index n) index then Some n else None
 
 abbrev pub directory : Indexing
-directory = record { index_of = directory_index; number_of = λ index. number_if index (directory_guess index); greatest = 327679; most = 32 }
+directory = record { index_of = directory_index; number_of = λ index. number_if index (directory_guess index); greatest = 327679 }

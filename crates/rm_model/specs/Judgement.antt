@@ -17,7 +17,7 @@ use Rattle.rm_model.specs.declared.row.StatusKind.TheVariants.{EntryStatus, RowS
 use Rattle.rm_model.specs.declared.row.State.{State}
 use Rattle.rm_model.specs.declared.row.State.TheVariants.{Absent, UnderCreation, Valid}
 use Rattle.rm_model.specs.declared.row.Ask.{Ask}
-use Rattle.rm_model.specs.declared.row.Ask.TheVariants.{Create, CreateValid, Enable, Disable}
+use Rattle.rm_model.specs.declared.row.Ask.TheVariants.{Nothing, Create, CreateValid, Enable, Disable}
 use Rattle.rm_model.specs.declared.place.Place.{Place}
 use Rattle.rm_model.specs.declared.place.Place.TheVariants.{Outside, Entry, Column, Cell}
 use Rattle.rm_model.specs.declared.verdict.Verdict.{Verdict}
@@ -144,29 +144,46 @@ column_fault UnderCreation ask always = None
 column_fault Valid Disable always = None
 column_fault Valid ask always = unless always InconsistentValue
 
+-- what is wrong with a status of a row that stays: any but that it is valid
+abbrev pub staying_fault : (stays : Bool) → Ask → Option ErrorStatus
+staying_fault false ask = None
+staying_fault true Nothing = None
+staying_fault true Enable = None
+staying_fault true ask = Some InconsistentValue
+
+-- whether what is wrong is that there is no such row
+abbrev pub is_name_fault : Option ErrorStatus → Bool
+is_name_fault (Some InconsistentName) = true
+is_name_fault other = false
+
+-- what is wrong with a column that can never be set: that comes behind a row that isn't there, and before what its row doesn't take
+abbrev pub fixed_fault : (fixed : Bool) → Option ErrorStatus → Option ErrorStatus
+fixed_fault fixed fault = if fixed && not (is_name_fault fault) then Some NotWritable else fault
+
 -- what is wrong with the binding of a column of a row: crowded says that the Set makes too many rows, and again that an
 -- earlier binding names the same variable
-abbrev pub row_fault : ControlTable → State → Ask → (ready crowded again : Bool) → ℕ → Option ErrorStatus
-row_fault table state ask ready crowded again column =
+abbrev pub row_fault : ControlTable → List ℕ → State → Ask → (ready crowded again : Bool) → ℕ → Option ErrorStatus
+row_fault table index state ask ready crowded again column =
     if is_made state ask && crowded then Some InconsistentName
-    else option_or
-    (if nat_eq column table.status then status_fault table.status_kind state ask ready
+    else fixed_fault (table.rules.is_fixed index column)
+    (option_or
+    (if nat_eq column table.status then option_or (staying_fault (table.rules.stays index) ask) (status_fault table.status_kind state ask ready)
     else column_fault state ask (is_always table column))
-    (unless (not again) InconsistentValue)
+    (unless (not again) InconsistentValue))
 
 -- what the columns of a table were set to, with nothing for any other number
 abbrev pub of_columns : ControlTable → (ℕ → Option Val) → ℕ → Option Val
 of_columns table set column = if is_some (column_of table column) then set column else None
 
--- what a column of a row was set to before a Set, if there was the row
-abbrev pub set_before : Beginning → List ℕ → ℕ → Option Val
-set_before before index column = if is_absent (before.state index) then None else before.set index column
+-- what a column of a row was set to before a Set, or is set to at first in a row that the Set makes
+abbrev pub set_before : ControlTable → Beginning → List ℕ → ℕ → Option Val
+set_before table before index column = if is_absent (before.state index) then table.rules.first index column else before.set index column
 
 -- whether a row is ready with what a Set gives to its columns, also one that the Set makes
 abbrev pub is_ready_with : ControlTable → Beginning → Bindings → List ℕ → Bool
 is_ready_with table before bindings index =
     is_ready table
-    (of_columns table (λ column. option_or (value_given bindings (cell_name table.entry column index)) (set_before before index column)))
+    (of_columns table (λ column. option_or (value_given bindings (cell_name table.entry column index)) (set_before table before index column)))
 
 -- whether there is a row before a Set, or the Set makes it
 abbrev pub is_held_or_made : ControlTable → Beginning → Bindings → List ℕ → Bool
@@ -178,9 +195,9 @@ unfoldable pub count_below : (ℕ → Bool) → ℕ → ℕ
 count_below test zero = 0
 count_below test (suc n) = (if test n then 1 else 0) + count_below test n
 
--- whether the rows before a Set and those that it makes are more than 16 together
+-- whether the rows before a Set and those that it makes are more together than the table has at most
 abbrev pub is_crowded : ControlTable → Beginning → Bindings → Bool
-is_crowded table before bindings = nat_lt 16 (count_below (λ row. is_held_or_made table before bindings (row ∷ [])) 65536)
+is_crowded table before bindings = nat_lt table.most (count_below (λ row. is_held_or_made table before bindings (row ∷ [])) 65536)
 
 -- whether an earlier binding names the variable that the one at a place names
 abbrev pub is_again : Bindings → ℕ → Bool
@@ -189,7 +206,7 @@ is_again bindings place = list_any (λ earlier. bytes_eq earlier.name (name_at b
 -- what is wrong with the binding at a place together with the others of its row, by where its name stands
 abbrev pub together_fault : ControlTable → Beginning → Bindings → ℕ → Place → Option ErrorStatus
 together_fault table before bindings place (Cell column row) =
-    row_fault table (before.state (row ∷ [])) (set_ask table bindings (row ∷ [])) (is_ready_with table before bindings (row ∷ []))
+    row_fault table (row ∷ []) (before.state (row ∷ [])) (set_ask table bindings (row ∷ [])) (is_ready_with table before bindings (row ∷ []))
     (is_crowded table before bindings) (is_again bindings place) column
 together_fault table before bindings place elsewhere = None
 

@@ -1,12 +1,14 @@
 //! The walk over tables whose rows belong to the rows of a control table: these in order, and the inner rows of each in order.
 #![tactic(auto)]
 
+mod inner_cells;
 mod inner_rows;
 mod nested;
 mod number;
 #[cfg(test)]
 mod tests;
 
+pub use inner_cells::{InnerCells, cell_of_both, inner_cell, next_inner_cell, next_of_both};
 pub use inner_rows::InnerRows;
 pub use nested::Nested;
 pub use number::{first_number, one_number_above};

@@ -7,7 +7,7 @@ use Rattle.rm_pcap.specs.declared.reach.Reach.{Reach}
 use Rattle.rm_pcap.specs.declared.record.Seen.{Seen}
 use Rattle.rm_pcap.specs.declared.record.Seen.TheVariants.{Whole as SeenWhole, End as SeenEnd, Cut as SeenCut}
 use Rattle.rm_window.specs.declared.window.Window.{Window}
-use Rattle.rm_pcap.specs.declared.place.Place.{Place}
+use Rattle.rm_pcap.specs.declared.position.Position.{Position}
 use Rattle.rm_pcap.specs.declared.capture.Capture.{Capture}
 use Rattle.rm_pcap.specs.Records.{Found, Whole, Stops, Ended, CutAt}
 use Rattle.rm_pcap.specs.Progress.{Progress}
@@ -15,18 +15,18 @@ use Rattle.rm_pcap.specs.Calls.{Looks, Passes}
 use Rattle.rm_pcap.specs.Seen.{frame_seen, found_of}
 use Rattle.rm_window.specs.Window.{octets_of, passed_of}
 
--- what was found at a place, if it was looked at
-abbrev pub ahead_of : Place → List ℕ → Option Seen → Option Found
-ahead_of place octets None = None
-ahead_of place octets (Some seen) = Some (found_of place.reach octets seen)
+-- what was found at a position, if it was looked at
+abbrev pub ahead_of : Position → List ℕ → Option Seen → Option Found
+ahead_of position octets None = None
+ahead_of position octets (Some seen) = Some (found_of position.reach octets seen)
 
 -- how far a capture was read
 unfoldable pub progress_of : Capture → Progress
 progress_of capture = record {
-  form = capture.place.form;
-  lead = capture.place.lead;
-  reach = capture.place.reach;
-  ahead = ahead_of capture.place (octets_of capture.window) capture.seen;
+  form = capture.position.form;
+  lead = capture.position.lead;
+  reach = capture.position.reach;
+  ahead = ahead_of capture.position (octets_of capture.window) capture.seen;
   read = octets_of capture.window;
 }
 
@@ -43,9 +43,9 @@ found_passed reach window SeenCut = Stops (CutAt reach.at)
 
 -- what is kept of a look and of a step: what was seen, with the octets that are in the window
 abbrev pub KeepsLook : Held → Capture → Capture → Result Seen PcapFault → Type 0
-KeepsLook held old new (Ok seen) = Looks held (progress_of old) (progress_of new) (found_of old.place.reach (octets_of new.window) seen)
+KeepsLook held old new (Ok seen) = Looks held (progress_of old) (progress_of new) (found_of old.position.reach (octets_of new.window) seen)
 KeepsLook held old new (Err fault) = progress_of new ≡ progress_of old
 
 abbrev pub KeepsStep : Held → Capture → Capture → Result Seen PcapFault → Type 0
-KeepsStep held old new (Ok seen) = Passes held (progress_of old) (progress_of new) (found_passed old.place.reach new.window seen)
+KeepsStep held old new (Ok seen) = Passes held (progress_of old) (progress_of new) (found_passed old.position.reach new.window seen)
 KeepsStep held old new (Err fault) = progress_of new ≡ progress_of old

@@ -12,7 +12,7 @@ ghost use Rattle.rm_pcap.specs.Calls.{LooksAt, Steps, Fails, IsFirstFault, Begin
 use crate::fault::PcapFault;
 use crate::frame::{Frame, Step};
 use crate::header::{HEADER, header_of};
-use crate::place::Place;
+use crate::position::Position;
 use crate::reach::Reach;
 use crate::record::{RECORD_HEADER, Seen};
 use rm_edge::Shelf;
@@ -27,12 +27,12 @@ const ROOM: usize = 327_680;
 /// What its calls say of the file holds where each is given a shelf and a name that hold the octets of `begin`.
 #[derive(Drop)]
 pub struct Capture {
-    place: Place,
+    position: Position,
     // Its octets stand where the next record does.
     window: Window,
     seen: Option<Seen>,
-    ghost near: { IsNear place.reach },
-    ghost follows: { IsAhead place.reach seen },
+    ghost near: { IsNear position.reach },
+    ghost follows: { IsAhead position.reach seen },
     ghost room: { room_of window ≡ 327680 },
     ghost long: { IsHeld window seen },
 }
@@ -80,7 +80,7 @@ impl Capture {
             at: HEADER as u64,
         };
         Ok(Capture {
-            place: Place { form, lead, reach },
+            position: Position { form, lead, reach },
             window,
             seen: None,
         })
@@ -91,7 +91,7 @@ impl Capture {
     pub fn count(&self) -> u32
         ensures { result ≡ (progress_of self.now).reach.count }
     {
-        self.place.reach.count
+        self.position.reach.count
     }
 
     // Sees what stands next, unless it was seen already.
@@ -100,9 +100,9 @@ impl Capture {
         ensures later { (each : List ℕ) → S.faults shelf.old each ≤ S.faults shelf.new each }
         ensures cause { IfErr result (λ fault. fault ≡ PcapFault.Read
             → Rose (S.faults shelf.old name.now) (S.faults shelf.new name.now)) }
-        ensures place { self.new.place ≡ self.old.place }
+        ensures position { self.new.position ≡ self.old.position }
         ensures seen { IfOk result (λ seen. self.new.seen ≡ Some seen) }
-        ensures follows { IfOk result (FollowsSeen self.old.place.reach) }
+        ensures follows { IfOk result (FollowsSeen self.old.position.reach) }
         ensures looks { KeepsLook (S.held shelf.old name.now) self.old self.new result }
         ensures faults { IfErr result (Fails (S.held shelf.old name.now) (progress_of self.old)) }
     {
@@ -110,7 +110,7 @@ impl Capture {
             return Ok(seen);
         }
         let next = self.window.len();
-        match self.place.see(shelf, name, &mut self.window) {
+        match self.position.see(shelf, name, &mut self.window) {
             Ok(seen) => {
                 self.seen = Some(seen);
                 Ok(seen)
@@ -128,16 +128,16 @@ impl Capture {
         ensures later { (each : List ℕ) → S.faults shelf.old each ≤ S.faults shelf.new each }
         ensures cause { IfErr result (λ fault. fault ≡ PcapFault.Read
             → Rose (S.faults shelf.old name.now) (S.faults shelf.new name.now)) }
-        ensures follows { IfOk result (FollowsSeen self.old.place.reach) }
+        ensures follows { IfOk result (FollowsSeen self.old.position.reach) }
         ensures passed { IfOk result (IsPassed self.new.window) }
-        ensures stays { IfOk result (λ seen. seen ≡ Seen.Cut → self.new.place.reach.at ≡ self.old.place.reach.at) }
+        ensures stays { IfOk result (λ seen. seen ≡ Seen.Cut → self.new.position.reach.at ≡ self.old.position.reach.at) }
         ensures passes { KeepsStep (S.held shelf.old name.now) self.old self.new result }
         ensures faults { IfErr result (Fails (S.held shelf.old name.now) (progress_of self.old)) }
     {
         let seen = self.look(shelf, name)?;
         match seen {
             Seen::Whole(record) => {
-                self.place.reach = record.after;
+                self.position.reach = record.after;
                 self.window.pass(RECORD_HEADER + record.included as usize);
                 self.seen = None;
                 Ok(seen)
@@ -189,7 +189,7 @@ impl Capture {
                 number: record.after.count,
             })),
             Ok(Seen::End) => Ok(Step::End),
-            Ok(Seen::Cut) => Ok(Step::Cut(self.place.reach.at)),
+            Ok(Seen::Cut) => Ok(Step::Cut(self.position.reach.at)),
             Err(fault) => Err(fault),
         }
     }

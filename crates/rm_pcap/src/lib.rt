@@ -8,7 +8,7 @@ mod form;
 mod frame;
 mod header;
 mod laws;
-mod place;
+mod position;
 mod reach;
 mod record;
 #[cfg(test)]

@@ -9,7 +9,7 @@ use Rattle.rm_pdu.specs.declared.kind.Kind.{Kind}
 use Rattle.rm_pdu.specs.declared.kind.Kind.TheVariants.{Get, Next, Response, Set, Bulk, Inform, Trap, Report}
 use Rattle.rm_pdu.specs.Message.{kind_tag, Binding}
 use Rattle.rm_pdu.specs.Spells.{IsBinding, AreBindings}
-use Rattle.rm_pdu.specs.Verdict.{Awaited, whole, version, community, pdu, request_id, first_number, second_number, bindings, binding, binding_name, binding_value, binding_end, pdu_end, message_end, datagram_end, Place, LeadsTo, Begins, begins, goes_on, is_read, octets_left, IsStuck, IsOtherTag, Verdict, too_long, malformed, other_version, not_request, message, IsVerdict}
+use Rattle.rm_pdu.specs.Parse.{Awaited, whole, version, community, pdu, request_id, first_number, second_number, bindings, binding, binding_name, binding_value, binding_end, pdu_end, message_end, datagram_end, Point, LeadsTo, Begins, begins, goes_on, is_read, octets_left, IsStuck, IsOtherTag, Parse, too_long, malformed, other_version, not_request, message, IsParse}
 use Rattle.rm_pdu.proofs.FirstThings.{OneElement, OneValue, ElementOrNone, ValueOrNone}
 use Rattle.rm_pdu.proofs.Steps.{one_outer, is_plain, stuck_plain, other_tag}
 
@@ -22,10 +22,10 @@ record Known : Type 0 where
 
 -- the octets are something
 abbrev Found : Bool → List ℕ → Type 0
-Found requests bytes = (v : Verdict) × IsVerdict requests bytes v
+Found requests bytes = (v : Parse) × IsParse requests bytes v
 
-abbrev place_at : Awaited → List ℕ → List (List ℕ) → Place
-place_at awaited left outer = record { awaited = awaited; left = left; outer = outer }
+abbrev point_at : Awaited → List ℕ → List (List ℕ) → Point
+point_at awaited left outer = record { awaited = awaited; left = left; outer = outer }
 
 -- No step adds octets.
 
@@ -38,19 +38,19 @@ element_size tag content rest bytes first =
 value_size : (v : Val) (rest bytes : List ℕ) → ValueFirst v rest bytes → length rest < length bytes
 value_size v rest bytes first = omega (arith, element_size first.tag first.content rest bytes first.stands)
 
-passes : (awaited : Awaited) (v : Val) (rest left : List ℕ) (outer : List (List ℕ)) (to : Place) → ValueFirst v rest left → to ≡ place_at awaited rest outer
+passes : (awaited : Awaited) (v : Val) (rest left : List ℕ) (outer : List (List ℕ)) (to : Point) → ValueFirst v rest left → to ≡ point_at awaited rest outer
     → octets_left to ≤ length left + sum_by length outer
 passes awaited v rest left outer to first is = omega (arith, ap octets_left is, value_size v rest left first)
 
-opens : (awaited : Awaited) (tag : ℕ) (content rest left : List ℕ) (outer : List (List ℕ)) (to : Place) → StandsFirst tag content rest left → to ≡ place_at awaited content (rest ∷ outer)
+opens : (awaited : Awaited) (tag : ℕ) (content rest left : List ℕ) (outer : List (List ℕ)) (to : Point) → StandsFirst tag content rest left → to ≡ point_at awaited content (rest ∷ outer)
     → octets_left to ≤ length left + sum_by length outer
 opens awaited tag content rest left outer to first is = omega (arith, ap octets_left is, element_size tag content rest left first, one_outer rest outer)
 
-closes : (awaited : Awaited) (after left : List ℕ) (more outer : List (List ℕ)) (to : Place) → outer ≡ after ∷ more → to ≡ place_at awaited after more
+closes : (awaited : Awaited) (after left : List ℕ) (more outer : List (List ℕ)) (to : Point) → outer ≡ after ∷ more → to ≡ point_at awaited after more
     → octets_left to ≤ length left + sum_by length outer
 closes awaited after left more outer to inside is = omega (arith, ap octets_left is, ap (sum_by length) inside, one_outer after more)
 
-step_adds_none : (requests : Bool) (awaited : Awaited) (left : List ℕ) (outer : List (List ℕ)) (to : Place) → LeadsTo requests awaited left outer to
+step_adds_none : (requests : Bool) (awaited : Awaited) (left : List ℕ) (outer : List (List ℕ)) (to : Point) → LeadsTo requests awaited left outer to
     → octets_left to ≤ length left + sum_by length outer
 step_adds_none requests whole left outer to h = opens version 0x30 h.0 h.1 left outer to h.2 h.3
 step_adds_none requests version left outer to h = passes community (int (pos 1)) h.0 left outer to h.1 h.2
@@ -69,21 +69,21 @@ step_adds_none requests pdu_end left outer to h = closes message_end h.0 left h.
 step_adds_none requests message_end left outer to h = closes datagram_end h.0 left h.1 outer to h.3 h.4
 step_adds_none requests datagram_end left outer to h = absurd h
 
-no_more_left : (requests : Bool) (bytes : List ℕ) (place : Place) → Begins requests bytes place → octets_left place ≤ length bytes
+no_more_left : (requests : Bool) (bytes : List ℕ) (point : Point) → Begins requests bytes point → octets_left point ≤ length bytes
 no_more_left requests bytes _ begins = omega arith
 no_more_left requests bytes _ (goes_on from to before leads) =
     omega (arith, no_more_left requests bytes from before, step_adds_none requests from.awaited from.left from.outer to leads)
 
--- A place where nothing that may stand there does.
+-- A point where nothing that may stand there does.
 
-stuck_at : (requests : Bool) (bytes : List ℕ) (place : Place) → length bytes ≤ 8192 → Begins requests bytes place → IsStuck requests place → Found requests bytes
-stuck_at requests bytes place short before stuck =
-    (malformed (length bytes - octets_left place), (short, record { place = place; begins = before; stuck = stuck; offset = omega (arith, no_more_left requests bytes place before) }))
+stuck_at : (requests : Bool) (bytes : List ℕ) (point : Point) → length bytes ≤ 8192 → Begins requests bytes point → IsStuck requests point → Found requests bytes
+stuck_at requests bytes point short before stuck =
+    (malformed (length bytes - octets_left point), (short, record { point = point; begins = before; stuck = stuck; offset = omega (arith, no_more_left requests bytes point before) }))
 
-leads_nowhere : (requests : Bool) (bytes : List ℕ) (awaited : Awaited) (left : List ℕ) (outer : List (List ℕ)) → length bytes ≤ 8192 → Begins requests bytes (place_at awaited left outer)
-    → is_plain awaited ≡ true → ((to : Place) → LeadsTo requests awaited left outer to → ⊥) → Found requests bytes
+leads_nowhere : (requests : Bool) (bytes : List ℕ) (awaited : Awaited) (left : List ℕ) (outer : List (List ℕ)) → length bytes ≤ 8192 → Begins requests bytes (point_at awaited left outer)
+    → is_plain awaited ≡ true → ((to : Point) → LeadsTo requests awaited left outer to → ⊥) → Found requests bytes
 leads_nowhere requests bytes awaited left outer short before plain nothing =
-    stuck_at requests bytes (place_at awaited left outer) short before (stuck_plain requests awaited left outer plain nothing)
+    stuck_at requests bytes (point_at awaited left outer) short before (stuck_plain requests awaited left outer plain nothing)
 
 -- Whether an element with that tag, or a value of that kind, stands first.
 
@@ -211,56 +211,56 @@ other_or_none true (octet ∷ rest) = elim (other_tag_or_not octet) [
   | inr not ↦ inr (λ only tag more is other. let e : tag ≡ octet = cc in not (subst IsOtherTag e other))
 ]
 
--- The places of a message, one after the other: either the next begins, or the octets are something.
+-- The points of a message, one after the other: either the next begins, or the octets are something.
 
 module _ {A : Type 0} (make : A → Val) (from to : Awaited) where
-  -- where a value of that kind is awaited, it leads to the next place
+  -- where a value of that kind is awaited, it leads to the next point
   abbrev Leads : Type 0
-  Leads = (requests : Bool) (left : List ℕ) (outer : List (List ℕ)) (next : Place)
-      → LeadsTo requests from left outer next ↔ ((a : A) × (rest : List ℕ) × ValueFirst (make a) rest left × (next ≡ place_at to rest outer))
+  Leads = (requests : Bool) (left : List ℕ) (outer : List (List ℕ)) (next : Point)
+      → LeadsTo requests from left outer next ↔ ((a : A) × (rest : List ℕ) × ValueFirst (make a) rest left × (next ≡ point_at to rest outer))
 
   abbrev Passes : Type 0
-  Passes = (requests : Bool) (bytes left : List ℕ) (outer : List (List ℕ)) → length bytes ≤ 8192 → Begins requests bytes (place_at from left outer)
-      → ((a : A) (rest : List ℕ) → ValueFirst (make a) rest left → Begins requests bytes (place_at to rest outer) → Found requests bytes) → Found requests bytes
+  Passes = (requests : Bool) (bytes left : List ℕ) (outer : List (List ℕ)) → length bytes ≤ 8192 → Begins requests bytes (point_at from left outer)
+      → ((a : A) (rest : List ℕ) → ValueFirst (make a) rest left → Begins requests bytes (point_at to rest outer) → Found requests bytes) → Found requests bytes
 
   at_value : is_plain from ≡ true → Leads → ((left : List ℕ) → OrNone make left) → Passes
   at_value plain leads value_or_none requests bytes left outer short before next = elim (value_or_none left) [
-    | inl h ↦ next h.0 h.1 h.2 (goes_on _ (place_at to h.1 outer) before ((leads requests left outer _).1 (h.0, h.1, h.2, refl)))
-    | inr none ↦ leads_nowhere requests bytes from left outer short before plain (λ place there. let h = (leads requests left outer place).0 there in none h.0 h.1 h.2)
+    | inl h ↦ next h.0 h.1 h.2 (goes_on _ (point_at to h.1 outer) before ((leads requests left outer _).1 (h.0, h.1, h.2, refl)))
+    | inr none ↦ leads_nowhere requests bytes from left outer short before plain (λ point there. let h = (leads requests left outer point).0 there in none h.0 h.1 h.2)
   ]
 
 module _ (from to : Awaited) where
-  -- where an element must end, its end leads to the next place
+  -- where an element must end, its end leads to the next point
   abbrev LeadsOut : Type 0
-  LeadsOut = (requests : Bool) (left : List ℕ) (outer : List (List ℕ)) (next : Place)
-      → LeadsTo requests from left outer next ↔ ((after : List ℕ) × (more : List (List ℕ)) × (left ≡ []) × (outer ≡ after ∷ more) × (next ≡ place_at to after more))
+  LeadsOut = (requests : Bool) (left : List ℕ) (outer : List (List ℕ)) (next : Point)
+      → LeadsTo requests from left outer next ↔ ((after : List ℕ) × (more : List (List ℕ)) × (left ≡ []) × (outer ≡ after ∷ more) × (next ≡ point_at to after more))
 
   abbrev Ends : Type 0
-  Ends = (requests : Bool) (bytes left after : List ℕ) (outer : List (List ℕ)) → length bytes ≤ 8192 → Begins requests bytes (place_at from left (after ∷ outer))
-      → (left ≡ [] → Begins requests bytes (place_at to after outer) → Found requests bytes) → Found requests bytes
+  Ends = (requests : Bool) (bytes left after : List ℕ) (outer : List (List ℕ)) → length bytes ≤ 8192 → Begins requests bytes (point_at from left (after ∷ outer))
+      → (left ≡ [] → Begins requests bytes (point_at to after outer) → Found requests bytes) → Found requests bytes
 
   at_end : is_plain from ≡ true → LeadsOut → Ends
   at_end plain leads requests bytes [] after outer short before next =
-      next refl (goes_on _ (place_at to after outer) before ((leads requests [] (after ∷ outer) _).1 (after, outer, refl, refl, refl)))
+      next refl (goes_on _ (point_at to after outer) before ((leads requests [] (after ∷ outer) _).1 (after, outer, refl, refl, refl)))
   at_end plain leads requests bytes (octet ∷ left) after outer short before next =
-      leads_nowhere requests bytes from (octet ∷ left) (after ∷ outer) short before plain (λ place there. let e = ((leads requests (octet ∷ left) (after ∷ outer) place).0 there).2 in cc)
+      leads_nowhere requests bytes from (octet ∷ left) (after ∷ outer) short before plain (λ point there. let e = ((leads requests (octet ∷ left) (after ∷ outer) point).0 there).2 in cc)
 
 at_whole : Known → (requests : Bool) (bytes : List ℕ) → length bytes ≤ 8192
-    → ((content rest : List ℕ) → StandsFirst 0x30 content rest bytes → Begins requests bytes (place_at version content (rest ∷ [])) → Found requests bytes) → Found requests bytes
+    → ((content rest : List ℕ) → StandsFirst 0x30 content rest bytes → Begins requests bytes (point_at version content (rest ∷ [])) → Found requests bytes) → Found requests bytes
 unfolding is_plain
 at_whole known requests bytes short next = elim (tagged_or_none known 0x30 bytes) [
-  | inl h ↦ next h.0 h.1 h.2 (goes_on _ (place_at version h.0 (h.1 ∷ [])) begins (h.0, h.1, h.2, refl))
+  | inl h ↦ next h.0 h.1 h.2 (goes_on _ (point_at version h.0 (h.1 ∷ [])) begins (h.0, h.1, h.2, refl))
   | inr none ↦ leads_nowhere requests bytes whole bytes [] short begins refl (λ to leads. none leads.0 leads.1 leads.2)
 ]
 
-at_version : Known → (requests : Bool) (bytes left : List ℕ) (outer : List (List ℕ)) → length bytes ≤ 8192 → Begins requests bytes (place_at version left outer)
-    → ((rest : List ℕ) → ValueFirst (int (pos 1)) rest left → Begins requests bytes (place_at community rest outer) → Found requests bytes) → Found requests bytes
+at_version : Known → (requests : Bool) (bytes left : List ℕ) (outer : List (List ℕ)) → length bytes ≤ 8192 → Begins requests bytes (point_at version left outer)
+    → ((rest : List ℕ) → ValueFirst (int (pos 1)) rest left → Begins requests bytes (point_at community rest outer) → Found requests bytes) → Found requests bytes
 at_version known requests bytes left outer short before next = elim (made_or_none int is_int known left) [
   | inl h ↦ elim (is_one h.0) [
-    | inl one ↦ let first = subst (λ (z : ℤ). ValueFirst (int z) h.1 left) one h.2 in next h.1 first (goes_on _ (place_at community h.1 outer) before (h.1, first, refl))
+    | inl one ↦ let first = subst (λ (z : ℤ). ValueFirst (int z) h.1 left) one h.2 in next h.1 first (goes_on _ (point_at community h.1 outer) before (h.1, first, refl))
     | inr other ↦ (other_version h.0, (short, record { left = left; rest = h.1; outer = outer; begins = before; version = h.2; other = other }))
   ]
-  | inr none ↦ stuck_at requests bytes (place_at version left outer) short before (record {
+  | inr none ↦ stuck_at requests bytes (point_at version left outer) short before (record {
     nothing = λ to leads. none (pos 1) leads.0 leads.1;
     no_version = λ is z rest first. none z rest first;
     no_other = λ only is. absurd cc;
@@ -272,16 +272,16 @@ at_community : Known → Passes octets community pdu
 unfolding is_plain
 at_community known = at_value octets community pdu refl (λ requests left outer next. (λ h. h, λ h. h)) (made_or_none octets is_octets known)
 
-at_pdu : Known → (requests : Bool) (bytes left : List ℕ) (outer : List (List ℕ)) → length bytes ≤ 8192 → Begins requests bytes (place_at pdu left outer)
+at_pdu : Known → (requests : Bool) (bytes left : List ℕ) (outer : List (List ℕ)) → length bytes ≤ 8192 → Begins requests bytes (point_at pdu left outer)
     → ((kind : Kind) (content rest : List ℕ) → is_read requests kind ≡ true → StandsFirst (kind_tag kind) content rest left
-    → Begins requests bytes (place_at request_id content (rest ∷ outer)) → Found requests bytes) → Found requests bytes
+    → Begins requests bytes (point_at request_id content (rest ∷ outer)) → Found requests bytes) → Found requests bytes
 at_pdu known requests bytes left outer short before next = elim (other_or_none requests left) [
   | inl h ↦
-      let begins_other = subst (λ (r : Bool). Begins r bytes (place_at pdu (h.1 ∷ h.2) outer)) h.0 (subst (λ (x : List ℕ). Begins requests bytes (place_at pdu x outer)) h.3 before) in
+      let begins_other = subst (λ (r : Bool). Begins r bytes (point_at pdu (h.1 ∷ h.2) outer)) h.0 (subst (λ (x : List ℕ). Begins requests bytes (point_at pdu x outer)) h.3 before) in
       (not_request h.1, (short, h.0, record { more = h.2; outer = outer; begins = begins_other; other = h.4 }))
   | inr no_other ↦ elim (pdu_or_none known requests left no_other) [
-    | inl h ↦ next h.0 h.1 h.2 h.3 h.4 (goes_on _ (place_at request_id h.1 (h.2 ∷ outer)) before (h.0, h.1, h.2, h.3, h.4, refl))
-    | inr none ↦ stuck_at requests bytes (place_at pdu left outer) short before (record {
+    | inl h ↦ next h.0 h.1 h.2 h.3 h.4 (goes_on _ (point_at request_id h.1 (h.2 ∷ outer)) before (h.0, h.1, h.2, h.3, h.4, refl))
+    | inr none ↦ stuck_at requests bytes (point_at pdu left outer) short before (record {
       nothing = λ to leads. none leads.0 leads.1 leads.2 leads.3 leads.4;
       no_version = λ is. absurd cc;
       no_other = λ only is tag more e other. no_other only tag more e other;
@@ -302,11 +302,11 @@ at_second_number : Known → Passes int second_number bindings
 unfolding is_plain
 at_second_number known = at_value int second_number bindings refl (λ requests left outer next. (λ h. h, λ h. h)) (made_or_none int is_int known)
 
-at_bindings : Known → (requests : Bool) (bytes left : List ℕ) (outer : List (List ℕ)) → length bytes ≤ 8192 → Begins requests bytes (place_at bindings left outer)
-    → ((content rest : List ℕ) → StandsFirst 0x30 content rest left → Begins requests bytes (place_at binding content (rest ∷ outer)) → Found requests bytes) → Found requests bytes
+at_bindings : Known → (requests : Bool) (bytes left : List ℕ) (outer : List (List ℕ)) → length bytes ≤ 8192 → Begins requests bytes (point_at bindings left outer)
+    → ((content rest : List ℕ) → StandsFirst 0x30 content rest left → Begins requests bytes (point_at binding content (rest ∷ outer)) → Found requests bytes) → Found requests bytes
 unfolding is_plain
 at_bindings known requests bytes left outer short before next = elim (tagged_or_none known 0x30 left) [
-  | inl h ↦ next h.0 h.1 h.2 (goes_on _ (place_at binding h.0 (h.1 ∷ outer)) before (h.0, h.1, h.2, refl))
+  | inl h ↦ next h.0 h.1 h.2 (goes_on _ (point_at binding h.0 (h.1 ∷ outer)) before (h.0, h.1, h.2, refl))
   | inr none ↦ leads_nowhere requests bytes bindings left outer short before refl (λ to leads. none leads.0 leads.1 leads.2)
 ]
 
@@ -330,10 +330,10 @@ at_message_end : Ends message_end datagram_end
 unfolding is_plain
 at_message_end = at_end message_end datagram_end refl (λ requests left outer next. (λ h. h, λ h. h))
 
-at_datagram_end : (requests : Bool) (bytes left : List ℕ) (outer : List (List ℕ)) → length bytes ≤ 8192 → Begins requests bytes (place_at datagram_end left outer)
+at_datagram_end : (requests : Bool) (bytes left : List ℕ) (outer : List (List ℕ)) → length bytes ≤ 8192 → Begins requests bytes (point_at datagram_end left outer)
     → (left ≡ [] → Found requests bytes) → Found requests bytes
 at_datagram_end requests bytes [] outer short before done = done refl
-at_datagram_end requests bytes (octet ∷ left) outer short before done = stuck_at requests bytes (place_at datagram_end (octet ∷ left) outer) short before (record {
+at_datagram_end requests bytes (octet ∷ left) outer short before done = stuck_at requests bytes (point_at datagram_end (octet ∷ left) outer) short before (record {
   nothing = λ to leads. leads;
   no_version = λ is. absurd cc;
   no_other = λ only is. absurd cc;
@@ -341,8 +341,8 @@ at_datagram_end requests bytes (octet ∷ left) outer short before done = stuck_
 })
 
 -- a binding is read to its end
-one_binding : Known → (requests : Bool) (bytes content rest : List ℕ) (outer : List (List ℕ)) → length bytes ≤ 8192 → Begins requests bytes (place_at binding_name content (rest ∷ outer))
-    → ((b : Binding) → IsBinding content b → Begins requests bytes (place_at binding rest outer) → Found requests bytes) → Found requests bytes
+one_binding : Known → (requests : Bool) (bytes content rest : List ℕ) (outer : List (List ℕ)) → length bytes ≤ 8192 → Begins requests bytes (point_at binding_name content (rest ∷ outer))
+    → ((b : Binding) → IsBinding content b → Begins requests bytes (point_at binding rest outer) → Found requests bytes) → Found requests bytes
 one_binding known requests bytes content rest outer short before next =
     at_binding_name known requests bytes content (rest ∷ outer) short before (λ numbers after_name named at_value.
     at_binding_value known requests bytes after_name (rest ∷ outer) short at_value (λ v after_value valued at_end.
@@ -351,15 +351,15 @@ one_binding known requests bytes content rest outer short before next =
 
 -- bindings are read to the end of their list, which has at most so many octets
 all_bindings : Known → (requests : Bool) (bytes : List ℕ) (most : ℕ) (list after : List ℕ) (outer : List (List ℕ)) → length bytes ≤ 8192 → length list ≤ most
-    → Begins requests bytes (place_at binding list (after ∷ outer))
-    → ((held : List Binding) → AreBindings list held → Begins requests bytes (place_at pdu_end after outer) → Found requests bytes) → Found requests bytes
+    → Begins requests bytes (point_at binding list (after ∷ outer))
+    → ((held : List Binding) → AreBindings list held → Begins requests bytes (point_at pdu_end after outer) → Found requests bytes) → Found requests bytes
 unfolding is_plain
 all_bindings known requests bytes most [] after outer short fits before next =
-    next [] refl (goes_on _ (place_at pdu_end after outer) before (inl (after, outer, refl, refl, refl)))
+    next [] refl (goes_on _ (point_at pdu_end after outer) before (inl (after, outer, refl, refl, refl)))
 all_bindings known requests bytes zero (octet ∷ list) after outer short fits before next = absurd (omega (arith, fits))
 all_bindings known requests bytes (suc most) (octet ∷ list) after outer short fits before next = elim (tagged_or_none known 0x30 (octet ∷ list)) [
   | inl h ↦
-      one_binding known requests bytes h.0 h.1 (after ∷ outer) short (goes_on _ (place_at binding_name h.0 (h.1 ∷ after ∷ outer)) before (inr (h.0, h.1, h.2, refl))) (λ first is_first at_next.
+      one_binding known requests bytes h.0 h.1 (after ∷ outer) short (goes_on _ (point_at binding_name h.0 (h.1 ∷ after ∷ outer)) before (inr (h.0, h.1, h.2, refl))) (λ first is_first at_next.
       all_bindings known requests bytes most h.1 after outer short (omega (arith, fits, element_size 0x30 h.0 h.1 (octet ∷ list) h.2)) at_next (λ more are at_end.
       next (first ∷ more) (h.0, h.1, h.2, is_first, are) at_end))
   | inr none ↦ leads_nowhere requests bytes binding (octet ∷ list) (after ∷ outer) short before refl (λ to leads. elim leads [
@@ -412,8 +412,8 @@ every_short known requests bytes short =
     )))))))))))))
 
 -- octets are something
-pub every_verdict : OneElement → OneValue → ElementOrNone → ValueOrNone → (requests : Bool) (bytes : List ℕ) → (v : Verdict) × IsVerdict requests bytes v
-every_verdict element value some_element some_value requests bytes = elim (cases_lt 8192 (length bytes)) [
+pub every_parse : OneElement → OneValue → ElementOrNone → ValueOrNone → (requests : Bool) (bytes : List ℕ) → (v : Parse) × IsParse requests bytes v
+every_parse element value some_element some_value requests bytes = elim (cases_lt 8192 (length bytes)) [
   | inl long ↦ (too_long, long)
   | inr short ↦ every_short (record { element = element; value = value; some_element = some_element; some_value = some_value }) requests bytes short
 ]

@@ -1,5 +1,5 @@
 pub mod FirstThings
-pub mod Places
+pub mod Points
 pub mod Once
 pub mod Every
 pub mod Steps

@@ -7,9 +7,9 @@ use Rattle.rm_pdu.specs.declared.kind.Kind.{Kind}
 use Rattle.rm_pdu.specs.declared.kind.Kind.TheVariants.{Get, Next, Response, Set, Bulk, Inform, Trap, Report}
 use Rattle.rm_pdu.specs.Message.{kind_tag, Binding, Message}
 use Rattle.rm_pdu.specs.Spells.{IsBinding, AreBindings, IsPdu, Spells}
-use Rattle.rm_pdu.specs.Verdict.{Awaited, version, community, pdu, request_id, first_number, second_number, bindings, binding, binding_name, binding_value, binding_end, pdu_end, message_end, datagram_end, Place, Begins, begins, goes_on, is_request, is_read, octets_left, IsMalformed, HasVersion, IsOtherTag, HasOtherPdu, Verdict, too_long, malformed, other_version, not_request, message, IsVerdict}
+use Rattle.rm_pdu.specs.Parse.{Awaited, version, community, pdu, request_id, first_number, second_number, bindings, binding, binding_name, binding_value, binding_end, pdu_end, message_end, datagram_end, Point, Begins, begins, goes_on, is_request, is_read, octets_left, IsMalformed, HasVersion, IsOtherTag, HasOtherPdu, Parse, too_long, malformed, other_version, not_request, message, IsParse}
 use Rattle.rm_pdu.proofs.FirstThings.{OneElement, OneValue, none_first}
-use Rattle.rm_pdu.proofs.Places.{IsLast, last_once}
+use Rattle.rm_pdu.proofs.Points.{IsLast, last_once}
 
 int_of : Val → ℤ
 int_of (int z) = z
@@ -90,7 +90,7 @@ message_once element value bytes m n h k =
     same_message m.community n.community m.kind n.kind m.id n.id m.first n.first m.second n.second m.bindings n.bindings
     (ap octets_of community_same.0) (one_kind m.kind n.kind pdu_same.0) id.0 first.0 second.0 bindings_same
 
-abbrev pub at_end : Place
+abbrev pub at_end : Point
 at_end = record { awaited = datagram_end; left = []; outer = [] }
 
 bindings_pass : (requests : Bool) (bytes list after : List ℕ) (outer : List (List ℕ)) (bound_here : List Binding) → AreBindings list bound_here
@@ -122,7 +122,7 @@ spells_to_end requests bytes m h read =
 end_last : (requests : Bool) → IsLast requests at_end
 end_last requests to leads = leads
 
--- a place at which a version other than 1 stands leads nowhere
+-- a point at which a version other than 1 stands leads nowhere
 version_last : OneValue → (requests : Bool) (z : ℤ) (left rest : List ℕ) (outer : List (List ℕ)) → ValueFirst (int z) rest left → (z ≡ pos 1 → ⊥)
     → IsLast requests (record { awaited = version; left = left; outer = outer })
 version_last value requests z left rest outer first other to leads = other (one_int value z (pos 1) rest leads.0 left first leads.1).0
@@ -141,16 +141,16 @@ not_request_tag Inform request other = absurd cc
 not_request_tag Trap request other = absurd cc
 not_request_tag Report request other = absurd cc
 
--- a place at which another PDU's tag stands where a request is awaited leads nowhere
+-- a point at which another PDU's tag stands where a request is awaited leads nowhere
 other_last : (tag : ℕ) (more : List ℕ) (outer : List (List ℕ)) → IsOtherTag tag → IsLast true (record { awaited = pdu; left = tag ∷ more; outer = outer })
 other_last tag more outer other to leads =
     not_request_tag leads.0 leads.3 (subst IsOtherTag (tag_first (kind_tag leads.0) leads.1 leads.2 more tag leads.4) other)
 
-awaited_of : Place → Awaited
-awaited_of place = place.awaited
+awaited_of : Point → Awaited
+awaited_of point = point.awaited
 
-left_of : Place → List ℕ
-left_of place = place.left
+left_of : Point → List ℕ
+left_of point = point.left
 
 is_version : Awaited → Bool
 is_version version = true
@@ -164,17 +164,17 @@ first_octet : List ℕ → ℕ
 first_octet [] = 0
 first_octet (octet ∷ more) = octet
 
--- nothing stands at the place of a fault, a version or a tag neither
+-- nothing stands at the point of a fault, a version or a tag neither
 not_both : OneElement → OneValue → (requests : Bool) (bytes : List ℕ) (at : ℕ) (z : ℤ) → IsMalformed requests bytes at → HasVersion requests bytes z → ⊥
 unfolding awaited_of left_of
 not_both element value requests bytes at z h k =
-    let same = last_once element value requests bytes h.place _ h.begins k.begins h.stuck.nothing (version_last value requests z k.left k.rest k.outer k.version k.other) in
+    let same = last_once element value requests bytes h.point _ h.begins k.begins h.stuck.nothing (version_last value requests z k.left k.rest k.outer k.version k.other) in
     h.stuck.no_version (ap awaited_of same) z k.rest (subst (λ (x : List ℕ). ValueFirst (int z) k.rest x) (sym (ap left_of same)) k.version)
 
 not_other : OneElement → OneValue → (requests : Bool) (bytes : List ℕ) (at tag : ℕ) → IsMalformed requests bytes at → requests ≡ true → HasOtherPdu bytes tag → ⊥
 unfolding awaited_of left_of
 not_other element value true bytes at tag h is k =
-    let same = last_once element value true bytes h.place _ h.begins k.begins h.stuck.nothing (other_last tag k.more k.outer k.other) in
+    let same = last_once element value true bytes h.point _ h.begins k.begins h.stuck.nothing (other_last tag k.more k.outer k.other) in
     h.stuck.no_other is (ap awaited_of same) tag k.more (ap left_of same) k.other
 not_other element value false bytes at tag h is k = absurd cc
 
@@ -182,20 +182,20 @@ not_other element value false bytes at tag h is k = absurd cc
 not_malformed : OneElement → OneValue → (requests : Bool) (bytes : List ℕ) (at : ℕ) (m : Message) → IsMalformed requests bytes at → Spells bytes m → is_read requests m.kind ≡ true → ⊥
 unfolding awaited_of left_of
 not_malformed element value requests bytes at m h spells read =
-    let same = last_once element value requests bytes h.place at_end h.begins (spells_to_end requests bytes m spells read) h.stuck.nothing (end_last requests) in
+    let same = last_once element value requests bytes h.point at_end h.begins (spells_to_end requests bytes m spells read) h.stuck.nothing (end_last requests) in
     h.stuck.not_end (ap awaited_of same) (ap left_of same)
 
 not_version : OneElement → OneValue → (requests : Bool) (bytes : List ℕ) (z : ℤ) (m : Message) → HasVersion requests bytes z → Spells bytes m → is_read requests m.kind ≡ true → ⊥
 unfolding awaited_of is_version
 not_version element value requests bytes z m h spells read =
     let same = last_once element value requests bytes _ at_end h.begins (spells_to_end requests bytes m spells read) (version_last value requests z h.left h.rest h.outer h.version h.other) (end_last requests) in
-    let e : true ≡ false = ap (λ (p : Place). is_version (awaited_of p)) same in cc
+    let e : true ≡ false = ap (λ (p : Point). is_version (awaited_of p)) same in cc
 
 not_pdu : OneElement → OneValue → (requests : Bool) (bytes : List ℕ) (tag : ℕ) (m : Message) → requests ≡ true → HasOtherPdu bytes tag → Spells bytes m → is_read requests m.kind ≡ true → ⊥
 unfolding awaited_of is_pdu_awaited
 not_pdu element value true bytes tag m is h spells read =
     let same = last_once element value true bytes _ at_end h.begins (spells_to_end true bytes m spells read) (other_last tag h.more h.outer h.other) (end_last true) in
-    let e : true ≡ false = ap (λ (p : Place). is_pdu_awaited (awaited_of p)) same in cc
+    let e : true ≡ false = ap (λ (p : Point). is_pdu_awaited (awaited_of p)) same in cc
 not_pdu element value false bytes tag m is h spells read = absurd cc
 
 -- the tag of another PDU isn't awaited where another version stands
@@ -203,41 +203,41 @@ not_version_and_pdu : OneElement → OneValue → (requests : Bool) (bytes : Lis
 unfolding awaited_of is_version
 not_version_and_pdu element value true bytes z tag h is k =
     let same = last_once element value true bytes _ _ h.begins k.begins (version_last value true z h.left h.rest h.outer h.version h.other) (other_last tag k.more k.outer k.other) in
-    let e : true ≡ false = ap (λ (p : Place). is_version (awaited_of p)) same in cc
+    let e : true ≡ false = ap (λ (p : Point). is_version (awaited_of p)) same in cc
 not_version_and_pdu element value false bytes z tag h is k = absurd cc
 
 -- octets are one thing
-pub verdict_once : OneElement → OneValue → (requests : Bool) (bytes : List ℕ) (v w : Verdict) → IsVerdict requests bytes v → IsVerdict requests bytes w → v ≡ w
+pub parse_once : OneElement → OneValue → (requests : Bool) (bytes : List ℕ) (v w : Parse) → IsParse requests bytes v → IsParse requests bytes w → v ≡ w
 unfolding left_of first_octet
-verdict_once element value requests bytes too_long too_long h k = refl
-verdict_once element value requests bytes too_long (malformed at) h k = absurd (omega (arith, h, k.0))
-verdict_once element value requests bytes too_long (other_version z) h k = absurd (omega (arith, h, k.0))
-verdict_once element value requests bytes too_long (not_request tag) h k = absurd (omega (arith, h, k.0))
-verdict_once element value requests bytes too_long (message m) h k = absurd (omega (arith, h, k.0))
-verdict_once element value requests bytes (malformed at) too_long h k = absurd (omega (arith, k, h.0))
-verdict_once element value requests bytes (malformed at) (malformed other) h k =
-    let same = last_once element value requests bytes h.1.place k.1.place h.1.begins k.1.begins h.1.stuck.nothing k.1.stuck.nothing in
+parse_once element value requests bytes too_long too_long h k = refl
+parse_once element value requests bytes too_long (malformed at) h k = absurd (omega (arith, h, k.0))
+parse_once element value requests bytes too_long (other_version z) h k = absurd (omega (arith, h, k.0))
+parse_once element value requests bytes too_long (not_request tag) h k = absurd (omega (arith, h, k.0))
+parse_once element value requests bytes too_long (message m) h k = absurd (omega (arith, h, k.0))
+parse_once element value requests bytes (malformed at) too_long h k = absurd (omega (arith, k, h.0))
+parse_once element value requests bytes (malformed at) (malformed other) h k =
+    let same = last_once element value requests bytes h.1.point k.1.point h.1.begins k.1.begins h.1.stuck.nothing k.1.stuck.nothing in
     ap malformed (omega (arith, h.1.offset, k.1.offset, ap octets_left same))
-verdict_once element value requests bytes (malformed at) (other_version z) h k = absurd (not_both element value requests bytes at z h.1 k.1)
-verdict_once element value requests bytes (malformed at) (not_request tag) h k = absurd (not_other element value requests bytes at tag h.1 k.1 k.2)
-verdict_once element value requests bytes (malformed at) (message m) h k = absurd (not_malformed element value requests bytes at m h.1 k.1 k.2)
-verdict_once element value requests bytes (other_version z) too_long h k = absurd (omega (arith, k, h.0))
-verdict_once element value requests bytes (other_version z) (malformed at) h k = absurd (not_both element value requests bytes at z k.1 h.1)
-verdict_once element value requests bytes (other_version z) (other_version y) h k =
+parse_once element value requests bytes (malformed at) (other_version z) h k = absurd (not_both element value requests bytes at z h.1 k.1)
+parse_once element value requests bytes (malformed at) (not_request tag) h k = absurd (not_other element value requests bytes at tag h.1 k.1 k.2)
+parse_once element value requests bytes (malformed at) (message m) h k = absurd (not_malformed element value requests bytes at m h.1 k.1 k.2)
+parse_once element value requests bytes (other_version z) too_long h k = absurd (omega (arith, k, h.0))
+parse_once element value requests bytes (other_version z) (malformed at) h k = absurd (not_both element value requests bytes at z k.1 h.1)
+parse_once element value requests bytes (other_version z) (other_version y) h k =
     let same = last_once element value requests bytes _ _ h.1.begins k.1.begins (version_last value requests z h.1.left h.1.rest h.1.outer h.1.version h.1.other)
     (version_last value requests y k.1.left k.1.rest k.1.outer k.1.version k.1.other) in
     ap other_version (one_int value z y h.1.rest k.1.rest k.1.left (subst (λ (x : List ℕ). ValueFirst (int z) h.1.rest x) (ap left_of same) h.1.version) k.1.version).0
-verdict_once element value requests bytes (other_version z) (not_request tag) h k = absurd (not_version_and_pdu element value requests bytes z tag h.1 k.1 k.2)
-verdict_once element value requests bytes (other_version z) (message m) h k = absurd (not_version element value requests bytes z m h.1 k.1 k.2)
-verdict_once element value requests bytes (not_request tag) too_long h k = absurd (omega (arith, k, h.0))
-verdict_once element value requests bytes (not_request tag) (malformed at) h k = absurd (not_other element value requests bytes at tag k.1 h.1 h.2)
-verdict_once element value requests bytes (not_request tag) (other_version z) h k = absurd (not_version_and_pdu element value requests bytes z tag k.1 h.1 h.2)
-verdict_once element value requests bytes (not_request tag) (not_request other) h k =
+parse_once element value requests bytes (other_version z) (not_request tag) h k = absurd (not_version_and_pdu element value requests bytes z tag h.1 k.1 k.2)
+parse_once element value requests bytes (other_version z) (message m) h k = absurd (not_version element value requests bytes z m h.1 k.1 k.2)
+parse_once element value requests bytes (not_request tag) too_long h k = absurd (omega (arith, k, h.0))
+parse_once element value requests bytes (not_request tag) (malformed at) h k = absurd (not_other element value requests bytes at tag k.1 h.1 h.2)
+parse_once element value requests bytes (not_request tag) (other_version z) h k = absurd (not_version_and_pdu element value requests bytes z tag k.1 h.1 h.2)
+parse_once element value requests bytes (not_request tag) (not_request other) h k =
     let same = last_once element value true bytes _ _ h.2.begins k.2.begins (other_last tag h.2.more h.2.outer h.2.other) (other_last other k.2.more k.2.outer k.2.other) in
-    ap not_request (ap (λ (p : Place). first_octet (left_of p)) same)
-verdict_once element value requests bytes (not_request tag) (message m) h k = absurd (not_pdu element value requests bytes tag m h.1 h.2 k.1 k.2)
-verdict_once element value requests bytes (message m) too_long h k = absurd (omega (arith, k, h.0))
-verdict_once element value requests bytes (message m) (malformed at) h k = absurd (not_malformed element value requests bytes at m k.1 h.1 h.2)
-verdict_once element value requests bytes (message m) (other_version z) h k = absurd (not_version element value requests bytes z m k.1 h.1 h.2)
-verdict_once element value requests bytes (message m) (not_request tag) h k = absurd (not_pdu element value requests bytes tag m k.1 k.2 h.1 h.2)
-verdict_once element value requests bytes (message m) (message n) h k = ap message (message_once element value bytes m n h.1 k.1)
+    ap not_request (ap (λ (p : Point). first_octet (left_of p)) same)
+parse_once element value requests bytes (not_request tag) (message m) h k = absurd (not_pdu element value requests bytes tag m h.1 h.2 k.1 k.2)
+parse_once element value requests bytes (message m) too_long h k = absurd (omega (arith, k, h.0))
+parse_once element value requests bytes (message m) (malformed at) h k = absurd (not_malformed element value requests bytes at m k.1 h.1 h.2)
+parse_once element value requests bytes (message m) (other_version z) h k = absurd (not_version element value requests bytes z m k.1 h.1 h.2)
+parse_once element value requests bytes (message m) (not_request tag) h k = absurd (not_pdu element value requests bytes tag m k.1 k.2 h.1 h.2)
+parse_once element value requests bytes (message m) (message n) h k = ap message (message_once element value bytes m n h.1 k.1)

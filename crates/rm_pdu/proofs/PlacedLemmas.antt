@@ -8,7 +8,7 @@ use Rattle.rm_pdu.specs.Message.{Binding}
 use Rattle.rm_pdu.specs.Placed.{IsPlaced, ArePlaced}
 use Rattle.rm_pdu.specs.declared.bindings.Offsets.{Offsets}
 use Rattle.rm_pdu.specs.declared.message.Message.{Message as Told}
-use Rattle.rm_pdu.specs.Verdict.{Verdict, message}
+use Rattle.rm_pdu.specs.Parse.{Parse, message}
 use Rattle.rm_pdu.specs.Answers.{IsAnswer}
 use Rattle.rm_pdu.proofs.Steps.{tag_then}
 
@@ -56,7 +56,7 @@ pub same_name : {E : Type 0} (r : Result (List ℕ) E) (a b : List ℕ) → r �
 same_name r a b first second = let e : Ok a ≡ Ok b = sym first ∙ second in cc
 
 -- a message that was read has its bindings at their places
-pub told_placed : (bytes : List ℕ) (v : Verdict) (told : Told) (offsets : List Offsets) → IsAnswer bytes v (Ok told) offsets
+pub told_placed : (bytes : List ℕ) (v : Parse) (told : Told) (offsets : List Offsets) → IsAnswer bytes v (Ok told) offsets
     → (bindings : List Binding) × ArePlaced bytes offsets bindings
 told_placed bytes (message m) told offsets is = (m.bindings, is.kept.1)
 told_placed bytes v told offsets is = absurd is

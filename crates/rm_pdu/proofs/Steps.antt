@@ -1,4 +1,4 @@
--- How a reader goes from one place of a message to the next, or finds nothing there.
+-- How a reader goes from one point of a message to the next, or finds nothing there.
 use Rattle.std.proofs.Common.{◌≡◌, ◌⊎◌, ◌+◌, ℕ, ℤ, pos, Bool, true, false, List, [], ◌∷◌, ◌++◌, length, Result, Ok, Err, refl, sym, ap, subst, ◌∙◌, inl, inr, arith}
 use Rattle.std.specs.Prelude.{sum_by, MatchResult, IsErrAnd, IsOkAnd, slice_get, Some}
 use Rattle.std.specs.Int.{w32}
@@ -10,7 +10,7 @@ use Rattle.rm_ber.specs.Grammar.{StandsFirst, ValueFirst, Left, end_of}
 use Rattle.rm_pdu.specs.declared.kind.Kind.{Kind}
 use Rattle.rm_pdu.specs.declared.kind.Kind.TheVariants.{Get, Next, Response, Set, Bulk, Inform, Trap, Report}
 use Rattle.rm_pdu.specs.Message.{kind_tag}
-use Rattle.rm_pdu.specs.Verdict.{Awaited, whole, version, community, pdu, request_id, first_number, second_number, bindings, binding, binding_name, binding_value, binding_end, pdu_end, message_end, datagram_end, Place, LeadsTo, Begins, begins, goes_on, is_read, is_request, IsStuck, IsMalformed, IsOtherTag}
+use Rattle.rm_pdu.specs.Parse.{Awaited, whole, version, community, pdu, request_id, first_number, second_number, bindings, binding, binding_name, binding_value, binding_end, pdu_end, message_end, datagram_end, Point, LeadsTo, Begins, begins, goes_on, is_read, is_request, IsStuck, IsMalformed, IsOtherTag}
 use Rattle.rm_pdu.specs.Reading.{IsAt}
 
 -- an error that is passed on
@@ -42,9 +42,9 @@ closes requests bytes from to outer inner after at leads none end =
 malformed_at : (requests : Bool) (bytes : List ℕ) (awaited : Awaited) (outer : List (List ℕ)) (reader : Left) → IsAt requests bytes awaited outer reader
     → IsStuck requests (record { awaited = awaited; left = reader.left; outer = outer }) → IsMalformed requests bytes reader.at
 malformed_at requests bytes awaited outer reader at stuck =
-    record { place = record { awaited = awaited; left = reader.left; outer = outer }; begins = at.begins; stuck = stuck; offset = at.offset }
+    record { point = record { awaited = awaited; left = reader.left; outer = outer }; begins = at.begins; stuck = stuck; offset = at.offset }
 
--- which tests of a place another awaited fact leaves out
+-- which tests of a point another awaited fact leaves out
 unfoldable pub is_plain : Awaited → Bool
 is_plain version = false
 is_plain pdu = false
@@ -55,7 +55,7 @@ not_plain : (awaited other : Awaited) → is_plain awaited ≡ true → is_plain
 not_plain awaited other plain special same = let e : true ≡ false = sym plain ∙ ap is_plain same ∙ special in cc
 
 pub stuck_plain : (requests : Bool) (awaited : Awaited) (left : List ℕ) (outer : List (List ℕ)) → is_plain awaited ≡ true
-    → ((to : Place) → LeadsTo requests awaited left outer to → ⊥) → IsStuck requests (record { awaited = awaited; left = left; outer = outer })
+    → ((to : Point) → LeadsTo requests awaited left outer to → ⊥) → IsStuck requests (record { awaited = awaited; left = left; outer = outer })
 unfolding is_plain
 stuck_plain requests awaited left outer plain nothing = record {
   nothing = nothing;

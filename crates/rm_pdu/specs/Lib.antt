@@ -1,6 +1,6 @@
 pub mod Message
 pub mod Spells
-pub mod Verdict
+pub mod Parse
 pub mod Placed
 pub mod Reading
 pub mod Answers

@@ -8,12 +8,12 @@ use Rattle.rm_pdu.specs.Placed.{IsPlaced, AreKept}
 use Rattle.rm_pdu.specs.declared.bindings.Offsets.{Offsets}
 use Rattle.rm_pdu.specs.declared.message.Numbers.{Numbers}
 use Rattle.rm_pdu.specs.declared.message.Message.{Message as Told}
-use Rattle.rm_pdu.specs.Verdict.{Awaited, Begins, is_read, IsMalformed, HasVersion, HasOtherPdu}
+use Rattle.rm_pdu.specs.Parse.{Awaited, Begins, is_read, IsMalformed, HasVersion, HasOtherPdu}
 use Rattle.rm_pdu.specs.declared.message.Fault.{Fault}
 use Rattle.rm_pdu.specs.declared.message.Fault.TheVariants.{TooLong, Malformed, Version, NotRequest}
 
 -- A reader stands where that is awaited in a message: what is left to it is what is left in the innermost element,
--- and the offset is the place of the first octet left.
+-- and the offset is the point of the first octet left.
 pub record IsAt (requests : Bool) (bytes : List ℕ) (awaited : Awaited) (outer : List (List ℕ)) (reader : Left) : Type 0 where
   pub begins : Begins requests bytes (record { awaited = awaited; left = reader.left; outer = outer })
   pub offset : reader.at + (length reader.left + sum_by length outer) ≡ length bytes

@@ -28,7 +28,7 @@ pub enum Kind {
 impl Kind {
     ghost use Rattle.rm_pdu.specs.declared.kind.Kind.{Kind};
     ghost use Rattle.rm_pdu.specs.Message.{kind_tag};
-    ghost use Rattle.rm_pdu.specs.Verdict.{is_request};
+    ghost use Rattle.rm_pdu.specs.Parse.{is_request};
 
     /// The tag of the PDU.
     pub(crate) fn tag(self) -> u8

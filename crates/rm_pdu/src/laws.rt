@@ -5,7 +5,7 @@ ghost use Rattle.rm_val.specs.Val.{int, name, ticks};
 ghost use Rattle.rm_pdu.specs.Message.{Binding, Message, binding_octets, message_octets};
 ghost use Rattle.rm_pdu.specs.Draft.{binding_of};
 ghost use Rattle.rm_pdu.specs.Spells.{Spells};
-ghost use Rattle.rm_pdu.specs.Verdict.{Verdict, IsVerdict};
+ghost use Rattle.rm_pdu.specs.Parse.{Parse, IsParse};
 
 use rm_ber::{element_or_none, no_element_in_front, one_element, one_value, value_or_none};
 
@@ -25,16 +25,16 @@ pub fn no_message_in_front()
 }
 
 /// A law: octets are one thing at most, read as requests or as any message.
-pub fn one_verdict()
-    ensures { (requests : Bool) (bytes : List ℕ) (v w : Verdict) → IsVerdict requests bytes v → IsVerdict requests bytes w → v ≡ w }
+pub fn one_parse()
+    ensures { (requests : Bool) (bytes : List ℕ) (v w : Parse) → IsParse requests bytes v → IsParse requests bytes w → v ≡ w }
 {
     one_element();
     one_value();
 }
 
 /// A law: octets are one thing at least, read as requests or as any message.
-pub fn every_verdict()
-    ensures { (requests : Bool) (bytes : List ℕ) → (v : Verdict) × IsVerdict requests bytes v }
+pub fn every_parse()
+    ensures { (requests : Bool) (bytes : List ℕ) → (v : Parse) × IsParse requests bytes v }
 {
     one_element();
     one_value();

@@ -14,6 +14,6 @@ pub use draft::{Draft, reads_back};
 pub use kind::Kind;
 pub use laws::{
     bindings_add_up, bindings_are_bounded, bindings_lengthen, empty_messages_are_short,
-    every_verdict, index_128_is_longest, no_message_in_front, one_message, one_verdict,
+    every_parse, index_128_is_longest, no_message_in_front, one_message, one_parse,
 };
 pub use message::{Fault, Message, read_any, read_message};

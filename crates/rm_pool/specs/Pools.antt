@@ -1,5 +1,5 @@
 -- The parts of a pool, as callers see them.
-use Rattle.std.specs.Prelude.{◌≡◌, ℕ, List, Option, Some, None, Bool}
+use Rattle.std.specs.Prelude.{◌≡◌, ℕ, ◌≤◌, List, Option, Some, None, Bool, true}
 use Rattle.rm_model.specs.ControlRows.{is_valid}
 use Rattle.rm_model.specs.Judgement.{count_below}
 use Rattle.rm_status.specs.declared.row.Row.{Row}
@@ -19,6 +19,10 @@ module _ {P : Type 0} where
   -- exactly the valid rows of a control table have a part
   abbrev pub IsOfValid : {C : Type 0} → List (Slot P) → List (Row C) → Type 0
   IsOfValid pool rows = (row : ℕ) → has_part pool row ≡ valid_in rows row
+
+  -- no row that has a part is above the greatest index of a control table
+  abbrev pub AreNumbered : List (Slot P) → Type 0
+  AreNumbered pool = (row : ℕ) → has_part pool row ≡ true → row ≤ 65535
 
   -- there is a part, and this holds of it
   abbrev pub IsThere : (P → Type 0) → Option P → Type 0

@@ -24,7 +24,7 @@ impl<P: Part> Pool<P> {
         ensures begun { (row : ℕ) → valid_in rows.now row ≡ true → part_in self.old row ≡ None → IsThere (B.begun how.now row) (part_in self.new row) }
         ensures size { length self.new ≡ length self.old }
     {
-        prove!(rows.len() <= 16);
+        prove!(rows.len() <= 32);
         self.release(rows);
         self.begin_each(rows, how);
     }
@@ -43,7 +43,7 @@ impl<P: Part> Pool<P> {
         requires enough { count_below (valid_in rows.now) 65536 ≤ length self.old }
         ensures { AreBegun (valid_in rows.now) (B.begun how.now) self.old self.new 65535 }
     {
-        prove!(rows.len() <= 16);
+        prove!(rows.len() <= 32);
         let mut last = 0;
         while let Some(index) = rows.after(last) {
             self.begin_of(rows, index, how);
@@ -61,7 +61,7 @@ impl<P: Part> Pool<P> {
         ensures others { (other : ℕ) → nat_eq row other ≡ false → part_in self.new other ≡ part_in self.old other }
         ensures size { length self.new ≡ length self.old }
     {
-        prove!(rows.len() <= 16);
+        prove!(rows.len() <= 32);
         if is_valid(rows, row) && !self.has(row) {
             self.begin(row, how);
         }

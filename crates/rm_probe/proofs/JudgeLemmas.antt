@@ -4,7 +4,7 @@ use Rattle.std.proofs.lemmas.List.{append-nil}
 use Rattle.std.specs.Str.Lines.{lines}
 use Rattle.rm_edge.specs.Outside.{Held, Untold, Absent, File, OfFile}
 use Rattle.rm_requests.specs.Lines.{TimedDatagram, with_first, requests_from, requests_of, AreRequests, HasTooManyLines, IsWrongAt}
-use Rattle.rm_requests.specs.Reading.{Place, Agrees, Answers, Passes, beginning, left, lines_left}
+use Rattle.rm_requests.specs.Reading.{Reached, Agrees, Answers, Passes, beginning, left, lines_left}
 use Rattle.rm_requests.specs.declared.fault.RequestsFault.{RequestsFault}
 use Rattle.rm_requests.specs.declared.fault.RequestsFault.TheVariants.{Line, TooLong, Read}
 use Rattle.rm_requests.proofs.FileLemmas.{wrong_behind}
@@ -15,11 +15,11 @@ abbrev pub behind : List TimedDatagram → Result (List TimedDatagram) ℕ → R
 behind taken (Ok more) = Ok (taken ++ more)
 behind taken (Err line) = Err line
 
--- the lines of a file up to a place are these datagrams
-pub record HasTaken (taken : List TimedDatagram) (place : Place) (bytes : List ℕ) : Type 0 where
-  pub agrees : Agrees place bytes
-  pub are : requests_of bytes ≡ behind taken (left place bytes)
-  pub all : length (lines bytes) + 1 ≡ place.number + length (lines_left place bytes)
+-- the lines of a file up to there are these datagrams
+pub record HasTaken (taken : List TimedDatagram) (reached : Reached) (bytes : List ℕ) : Type 0 where
+  pub agrees : Agrees reached bytes
+  pub are : requests_of bytes ≡ behind taken (left reached bytes)
+  pub all : length (lines bytes) + 1 ≡ reached.number + length (lines_left reached bytes)
 
 pub taken_none : (bytes : List ℕ) → HasTaken [] beginning bytes
 taken_none bytes = record { agrees = refl; are = none (requests_of bytes); all = omega arith }
@@ -28,9 +28,9 @@ taken_none bytes = record { agrees = refl; are = none (requests_of bytes); all =
     none (Ok more) = refl
     none (Err line) = refl
 
-pub taken_more : (taken : List TimedDatagram) (request : TimedDatagram) (place new : Place) (bytes : List ℕ) → HasTaken taken place bytes → Passes place new request bytes → new.number ≡ place.number + 1
+pub taken_more : (taken : List TimedDatagram) (request : TimedDatagram) (reached new : Reached) (bytes : List ℕ) → HasTaken taken reached bytes → Passes reached new request bytes → new.number ≡ reached.number + 1
     → HasTaken (taken ++ request ∷ []) new bytes
-taken_more taken request place new bytes has passes next = record {
+taken_more taken request reached new bytes has passes next = record {
   agrees = passes.agrees;
   are = has.are ∙ ap (behind taken) passes.requests ∙ one_more (left new bytes);
   all = omega (arith, has.all, passes.lines, next);
@@ -41,23 +41,23 @@ taken_more taken request place new bytes has passes next = record {
     one_more (Err line) = refl
 
 -- no line is left
-pub taken_all : (taken : List TimedDatagram) (place : Place) (bytes : List ℕ) → HasTaken taken place bytes → lines_left place bytes ≡ [] → place.number ≤ 1000001 → AreRequests bytes taken
+pub taken_all : (taken : List TimedDatagram) (reached : Reached) (bytes : List ℕ) → HasTaken taken reached bytes → lines_left reached bytes ≡ [] → reached.number ≤ 1000001 → AreRequests bytes taken
 unfolding requests_from
-taken_all taken place bytes has none few =
-    let gone : left place bytes ≡ Ok [] = ap (requests_from place.number place.last) none in record {
+taken_all taken reached bytes has none few =
+    let gone : left reached bytes ≡ Ok [] = ap (requests_from reached.number reached.last) none in record {
       few = omega (arith, has.all, ap length none, few);
       are = has.are ∙ ap (behind taken) gone ∙ ap Ok (append-nil taken);
     }
 
 -- the next line is wrong
-pub taken_wrong : (taken : List TimedDatagram) (place : Place) (bytes : List ℕ) (line : ℕ) → HasTaken taken place bytes → left place bytes ≡ Err line → line ≤ 1000000 → IsWrongAt line bytes
-taken_wrong taken place bytes line has wrong few = (has.are ∙ ap (behind taken) wrong, few)
+pub taken_wrong : (taken : List TimedDatagram) (reached : Reached) (bytes : List ℕ) (line : ℕ) → HasTaken taken reached bytes → left reached bytes ≡ Err line → line ≤ 1000000 → IsWrongAt line bytes
+taken_wrong taken reached bytes line has wrong few = (has.are ∙ ap (behind taken) wrong, few)
 
 -- the line behind the last that there may be is reached
-pub taken_many : (taken : List TimedDatagram) (place : Place) (bytes : List ℕ) → HasTaken taken place bytes → place.number ≡ 1000001 → 0 < length (lines_left place bytes) → HasTooManyLines bytes
-taken_many taken place bytes has last some = record {
+pub taken_many : (taken : List TimedDatagram) (reached : Reached) (bytes : List ℕ) → HasTaken taken reached bytes → reached.number ≡ 1000001 → 0 < length (lines_left reached bytes) → HasTooManyLines bytes
+taken_many taken reached bytes has last some = record {
   many = omega (arith, has.all, last, some);
-  good = λ line e. omega (arith, last, wrong_behind place.number place.last (lines_left place bytes) line (wrong_left (left place bytes) line (sym has.are ∙ e)));
+  good = λ line e. omega (arith, last, wrong_behind reached.number reached.last (lines_left reached bytes) line (wrong_left (left reached bytes) line (sym has.are ∙ e)));
 }
   where
     wrong_left : (r : Result (List TimedDatagram) ℕ) (line : ℕ) → behind taken r ≡ Err line → r ≡ Err line
@@ -65,32 +65,32 @@ taken_many taken place bytes has last some = record {
     wrong_left (Err other) line e = e
 
 -- what is left of a request file
-pub record Remains (taken asked : List TimedDatagram) (place : Place) (bytes : List ℕ) : Type 0 where
+pub record Remains (taken asked : List TimedDatagram) (reached : Reached) (bytes : List ℕ) : Type 0 where
   pub more : List TimedDatagram
   pub all : asked ≡ taken ++ more
-  pub left_are : left place bytes ≡ Ok more
+  pub left_are : left reached bytes ≡ Ok more
 
-pub remains : (taken asked : List TimedDatagram) (place : Place) (bytes : List ℕ) → HasTaken taken place bytes → AreRequests bytes asked → Remains taken asked place bytes
-remains taken asked place bytes has are = by_left (left place bytes) refl (sym has.are ∙ are.are)
+pub remains : (taken asked : List TimedDatagram) (reached : Reached) (bytes : List ℕ) → HasTaken taken reached bytes → AreRequests bytes asked → Remains taken asked reached bytes
+remains taken asked reached bytes has are = by_left (left reached bytes) refl (sym has.are ∙ are.are)
   where
-    by_left : (r : Result (List TimedDatagram) ℕ) → left place bytes ≡ r → behind taken r ≡ Ok asked → Remains taken asked place bytes
+    by_left : (r : Result (List TimedDatagram) ℕ) → left reached bytes ≡ r → behind taken r ≡ Ok asked → Remains taken asked reached bytes
     by_left (Ok more) is e = record { more = more; all = cc; left_are = is }
     by_left (Err line) is e = absurd cc
 
 -- a request file has no wrong line, and not too many
-pub wrong_not_asked : (taken asked : List TimedDatagram) (place : Place) (bytes : List ℕ) (line : ℕ) → HasTaken taken place bytes → AreRequests bytes asked → left place bytes ≡ Err line → ⊥
-wrong_not_asked taken asked place bytes line has are wrong = let e : Ok asked ≡ Err line = sym are.are ∙ (has.are ∙ ap (behind taken) wrong) in cc
+pub wrong_not_asked : (taken asked : List TimedDatagram) (reached : Reached) (bytes : List ℕ) (line : ℕ) → HasTaken taken reached bytes → AreRequests bytes asked → left reached bytes ≡ Err line → ⊥
+wrong_not_asked taken asked reached bytes line has are wrong = let e : Ok asked ≡ Err line = sym are.are ∙ (has.are ∙ ap (behind taken) wrong) in cc
 
-pub many_not_asked : (taken asked : List TimedDatagram) (place : Place) (bytes : List ℕ) → HasTaken taken place bytes → AreRequests bytes asked → place.number ≡ 1000001 → 0 < length (lines_left place bytes) → ⊥
-many_not_asked taken asked place bytes has are last some = omega (arith, has.all, are.few, last, some)
+pub many_not_asked : (taken asked : List TimedDatagram) (reached : Reached) (bytes : List ℕ) → HasTaken taken reached bytes → AreRequests bytes asked → reached.number ≡ 1000001 → 0 < length (lines_left reached bytes) → ⊥
+many_not_asked taken asked reached bytes has are last some = omega (arith, has.all, are.few, last, some)
 
 -- how far a request file was judged
-pub record Judging {F : Type 0} (held : F → List ℕ → Held) (faults : F → List ℕ → ℕ) (first now : F) (name : List ℕ) (place : Place) : Type 0 where
+pub record Judging {F : Type 0} (held : F → List ℕ → Held) (faults : F → List ℕ → ℕ) (first now : F) (name : List ℕ) (reached : Reached) : Type 0 where
   pub same : (each : List ℕ) → held now each ≡ held first each
   pub later : (each : List ℕ) → faults first each ≤ faults now each
-  pub few : place.number ≤ 1000001
-  pub none : held first name ≡ Absent → place.read ≡ []
-  pub file : (bytes : List ℕ) → held first name ≡ File bytes → (taken : List TimedDatagram) × HasTaken taken place bytes
+  pub few : reached.number ≤ 1000001
+  pub none : held first name ≡ Absent → reached.read ≡ []
+  pub file : (bytes : List ℕ) → held first name ≡ File bytes → (taken : List TimedDatagram) × HasTaken taken reached bytes
 
 -- a fact of a file, which the name has
 pub of_file : (held : Held) (P : List ℕ → Type 0) → (held ≡ Absent → ⊥) → ((bytes : List ℕ) → held ≡ File bytes → P bytes) → OfFile held P
@@ -99,7 +99,7 @@ of_file Absent P there p = there refl
 of_file (File bytes) P there p = p bytes refl
 
 -- the next line is refused
-pub refuses : (held : Held) (old new : Place) (datagram : List ℕ) (fault : RequestsFault) → (held ≡ Absent → fault ≡ Read) → Answers held old new datagram (Err fault)
+pub refuses : (held : Held) (old new : Reached) (datagram : List ℕ) (fault : RequestsFault) → (held ≡ Absent → fault ≡ Read) → Answers held old new datagram (Err fault)
     → ((bytes : List ℕ) → held ≡ File bytes → (taken : List TimedDatagram) × HasTaken taken old bytes) → JudgesRequests {T = Unit {0}} held (Err fault)
 refuses held old new datagram (Line line) absent (stays, number, few, wrong) file =
     of_file held (IsWrongAt line) (λ none. let e = absent none in cc) (λ bytes is. let (taken, has) = file bytes is in taken_wrong taken old bytes line has (wrong bytes is has.agrees) few)

@@ -5,7 +5,7 @@ use Rattle.rm_model.specs.Journal.{Frame, Journal, passes}
 use Rattle.rm_pcap.specs.Records.{Stop}
 use Rattle.rm_pdu.specs.declared.kind.Kind.TheVariants.{Set}
 use Rattle.rm_pdu.specs.Message.{Message, message_octets}
-use Rattle.rm_pdu.specs.Verdict.{Verdict, message, IsVerdict}
+use Rattle.rm_pdu.specs.Parse.{Parse, message, IsParse}
 use Rattle.rm_agent.specs.declared.settings.Settings.{Settings}
 use Rattle.rm_agent.specs.declared.answer.Reason.{Reason}
 use Rattle.rm_agent.specs.Answers.{reason_for, IsReplyAfter}
@@ -20,7 +20,7 @@ use Rattle.rm_probe.specs.Text.{reason_text, IsAnswered, dropped, replied, answe
 
 -- octets are one thing, a request that is no SetRequest that reserves storage has one reply, and samples come in one way
 pub record OneOfEach (settings : Settings) : Type 0 where
-  pub verdict : (requests : Bool) (bytes : List ℕ) (v w : Verdict) → IsVerdict requests bytes v → IsVerdict requests bytes w → v ≡ w
+  pub parse : (requests : Bool) (bytes : List ℕ) (v w : Parse) → IsParse requests bytes v → IsParse requests bytes w → v ≡ w
   pub reply : (journal : Journal) (now : ℕ) (request a b : Message) (after later : Journal) → (request.kind ≡ Set → (index : ℕ) → Reserves journal (given_by request.bindings) index → ⊥)
       → IsReplyAfter settings journal now request a after → IsReplyAfter settings journal now request b later → (a ≡ b) × (after ≡ later)
   pub advance : (to : ℕ) (journal : Journal) (sent others : List Notification) (after later : Journal) → AgentIsAdvanced settings to journal sent after → AgentIsAdvanced settings to journal others later
@@ -34,23 +34,23 @@ module _ (settings : Settings) (one : OneOfEach settings) where
       (is.noted ∙ ap (map note_of) same ∙ sym is'.noted, stays)
 
   -- a datagram that is dropped isn't answered
-  not_both : (v : Verdict) (reason : Reason) (request : Message) → v ≡ message request → reason_for settings v ≡ Some reason → reason_for settings (message request) ≡ None → ⊥
+  not_both : (v : Parse) (reason : Reason) (request : Message) → v ≡ message request → reason_for settings v ≡ Some reason → reason_for settings (message request) ≡ None → ⊥
   not_both v reason request same some none = let e : Some reason ≡ None = sym some ∙ ap (reason_for settings) same ∙ none in cc
 
   -- one thing is said of a datagram that is no SetRequest that reserves storage, and one journal is then there
   said_once : (journal : Journal) (moment : ℕ) (datagram text other : List ℕ) (after later : Journal) → ReservesNothing journal datagram
       → IsAnswered settings journal moment datagram text after → IsAnswered settings journal moment datagram other later → (text ≡ other) × (after ≡ later)
   said_once journal moment datagram text other after later nothing (dropped v reason is why says stays) (dropped w cause is' why' says' stays') =
-      let same : v ≡ w = one.verdict true datagram v w is is' in
+      let same : v ≡ w = one.parse true datagram v w is is' in
       let e : Some reason ≡ Some cause = sym why ∙ ap (reason_for settings) same ∙ why' in
       let causes : reason ≡ cause = cc in
       (says ∙ ap (λ (r : Reason). codes "drop " ++ reason_text r) causes ∙ sym says', stays ∙ sym stays')
   said_once journal moment datagram text other after later nothing (dropped v reason is why says stays) (replied request reply is' why' replies says') =
-      absurd (not_both v reason request (one.verdict true datagram v (message request) is is') why why')
+      absurd (not_both v reason request (one.parse true datagram v (message request) is is') why why')
   said_once journal moment datagram text other after later nothing (replied request reply is why replies says) (dropped v reason is' why' says' stays') =
-      absurd (not_both v reason request (one.verdict true datagram v (message request) is' is) why' why)
+      absurd (not_both v reason request (one.parse true datagram v (message request) is' is) why' why)
   said_once journal moment datagram text other after later nothing (replied request reply is why replies says) (replied asked answer is' why' answers says') =
-      let same : message request ≡ message asked = one.verdict true datagram (message request) (message asked) is is' in
+      let same : message request ≡ message asked = one.parse true datagram (message request) (message asked) is is' in
       let requests : request ≡ asked = cc in
       let (once, stays) = one.reply journal moment asked reply answer after later (nothing asked is')
       (subst (λ (r : Message). IsReplyAfter settings journal moment r reply after) requests replies) answers in

@@ -6,7 +6,7 @@ use Rattle.std.specs.List.{prefix_len}
 use mathlib.Core.List.{map-append}
 use Rattle.rm_model.specs.Journal.{Frame, Journal, passes}
 use Rattle.rm_pdu.specs.Message.{Message}
-use Rattle.rm_pdu.specs.Verdict.{Verdict, too_long, malformed, other_version, not_request, message, IsVerdict}
+use Rattle.rm_pdu.specs.Parse.{Parse, too_long, malformed, other_version, not_request, message, IsParse}
 use Rattle.rm_agent.specs.declared.settings.Settings.{Settings}
 use Rattle.rm_agent.specs.declared.answer.Reason.{Reason}
 use Rattle.rm_agent.specs.Answers.{reason_for, IsReplyAfter}
@@ -22,8 +22,8 @@ use Rattle.rm_probe.specs.Steps.{ArePassing, HasBegun}
 -- Each datagram is something, and has a reply if it isn't dropped. From each orderly journal the samples up to a moment come to an end,
 -- and they, a frame and a reply leave an orderly one.
 pub record EveryEvent : Type 0 where
-  pub verdict : (requests : Bool) (bytes : List ℕ) → (v : Verdict) × IsVerdict requests bytes v
-  pub reply : (settings : Settings) (journal : Journal) (now : ℕ) (datagram : List ℕ) (request : Message) → IsVerdict true datagram (message request)
+  pub parse : (requests : Bool) (bytes : List ℕ) → (v : Parse) × IsParse requests bytes v
+  pub reply : (settings : Settings) (journal : Journal) (now : ℕ) (datagram : List ℕ) (request : Message) → IsParse true datagram (message request)
       → reason_for settings (message request) ≡ None → (reply : Message) × (after : Journal) × IsReplyAfter settings journal now request reply after
   pub samples : (settings : Settings) (to : ℕ) (journal : Journal) → IsOrderly journal → (sent : List Notification) × (after : Journal) × AgentIsAdvanced settings to journal sent after
   pub sampled : (settings : Settings) (to : ℕ) (journal : Journal) (sent : List Notification) (after : Journal) → IsOrderly journal → AgentIsAdvanced settings to journal sent after → IsOrderly after × NoneIsDue to after
@@ -31,7 +31,7 @@ pub record EveryEvent : Type 0 where
   pub replied : (settings : Settings) (journal : Journal) (now : ℕ) (request reply : Message) (after : Journal) → IsOrderly journal → NoneIsDue now journal
       → IsReplyAfter settings journal now request reply after → IsOrderly after
 
-what_is_said : EveryEvent → (settings : Settings) (journal : Journal) (moment : ℕ) (datagram : List ℕ) (v : Verdict) (reason : Option Reason) → IsVerdict true datagram v → reason_for settings v ≡ reason
+what_is_said : EveryEvent → (settings : Settings) (journal : Journal) (moment : ℕ) (datagram : List ℕ) (v : Parse) (reason : Option Reason) → IsParse true datagram v → reason_for settings v ≡ reason
     → (text : List ℕ) × (after : Journal) × IsAnswered settings journal moment datagram text after
 what_is_said every settings journal moment datagram v (Some reason) is why = (_, journal, dropped v reason is why refl refl)
 what_is_said every settings journal moment datagram (message request) None is why =
@@ -46,7 +46,7 @@ what_is_said every settings journal moment datagram (not_request tag) None is wh
 a_line : EveryEvent → (settings : Settings) (journal : Journal) (number : ℕ) (request : TimedDatagram) → (line : List ℕ) × (after : Journal) × IsAnswer settings journal number request line after
 unfolding IsAnswer
 a_line every settings journal number request =
-    let (v, is) = every.verdict true request.datagram in
+    let (v, is) = every.parse true request.datagram in
     let (text, after, said) = what_is_said every settings journal request.moment request.datagram v (reason_for settings v) is refl in
     (_, after, (text, said, refl))
 

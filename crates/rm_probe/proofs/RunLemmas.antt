@@ -4,7 +4,7 @@ use Rattle.std.proofs.lemmas.List.{append-nil}
 use Rattle.rm_edge.specs.Outside.{Adds, AddsFront, Held, File}
 use Rattle.rm_model.specs.Journal.{Frame, Journal}
 use Rattle.rm_requests.specs.Lines.{TimedDatagram, AreRequests}
-use Rattle.rm_requests.specs.Reading.{Place, Answers}
+use Rattle.rm_requests.specs.Reading.{Reached, Answers}
 use Rattle.rm_requests.specs.declared.fault.RequestsFault.{RequestsFault}
 use Rattle.rm_requests.specs.declared.fault.RequestsFault.TheVariants.{Line, TooLong as TooManyLines, Read as ReadFailed}
 use Rattle.rm_probe.specs.Requests.{status_by}
@@ -176,42 +176,42 @@ module _ (settings : Settings) where
 
   -- the request file isn't read on
   pub requests_stop : SomeLines → (old new : Option (List ℕ)) (bytes : List ℕ) (frames : List Frame) (stop : Stop) (taken asked : List TimedDatagram) (progress : Progress) (probe : Probe) (sofar : List ℕ)
-      (held : Held) (place place' : Place) (datagram file : List ℕ) (fault : RequestsFault)
-      → InRun bytes frames stop taken progress probe sofar → Adds old new sofar → held ≡ File file → HasTaken taken place file → AreRequests file asked → Answers held place place' datagram (Err fault)
+      (held : Held) (reached reached' : Reached) (datagram file : List ℕ) (fault : RequestsFault)
+      → InRun bytes frames stop taken progress probe sofar → Adds old new sofar → held ≡ File file → HasTaken taken reached file → AreRequests file asked → Answers held reached reached' datagram (Err fault)
       → Writes settings frames stop asked old new (status_by fault)
-  requests_stop every old new bytes frames stop taken asked progress probe sofar held place place' datagram file (Line line) r added is has are (stays, number, few, wrong) =
-      absurd (wrong_not_asked taken asked place file line has are (wrong file is has.agrees))
-  requests_stop every old new bytes frames stop taken asked progress probe sofar held place place' datagram file TooManyLines r added is has are (stays, last, some) =
-      absurd (many_not_asked taken asked place file has are last (some file is has.agrees))
-  requests_stop every old new bytes frames stop taken asked progress probe sofar held place place' datagram file ReadFailed r added is has are stays =
-      let rest = remains taken asked place file has are in
+  requests_stop every old new bytes frames stop taken asked progress probe sofar held reached reached' datagram file (Line line) r added is has are (stays, number, few, wrong) =
+      absurd (wrong_not_asked taken asked reached file line has are (wrong file is has.agrees))
+  requests_stop every old new bytes frames stop taken asked progress probe sofar held reached reached' datagram file TooManyLines r added is has are (stays, last, some) =
+      absurd (many_not_asked taken asked reached file has are last (some file is has.agrees))
+  requests_stop every old new bytes frames stop taken asked progress probe sofar held reached reached' datagram file ReadFailed r added is has are stays =
+      let rest = remains taken asked reached file has are in
       subst (λ (rs : List TimedDatagram). (text : List ℕ) × IsText settings frames stop rs text × AddsFront old new text) (sym rest.all) (text_so_far every old new bytes frames stop taken rest.more progress probe sofar r added)
 
   -- how far a run is
   pub record Running {F K : Type 0} (held : F → List ℕ → Held) (reads : F → List ℕ → ℕ) (shelf shelf' : F) (name requests : List ℕ) (content : K → Option (List ℕ)) (writes : K → ℕ) (first now : K)
-      (begun progress : Progress) (place : Place) (probe : Probe) : Type 0 where
+      (begun progress : Progress) (reached : Reached) (probe : Probe) : Type 0 where
     pub same : (each : List ℕ) → held shelf' each ≡ held shelf each
     pub reads_later : (each : List ℕ) → reads shelf each ≤ reads shelf' each
     pub later : writes first ≤ writes now
     pub taken : List TimedDatagram
-    pub number : place.number ≡ 1 + length taken
-    pub few : place.number ≤ 1000001
+    pub number : reached.number ≡ 1 + length taken
+    pub few : reached.number ≤ 1000001
     pub settings_same : settings_of probe ≡ settings
-    pub given : last_given probe ≤ place.last
-    pub in_range : place.last < 2 ^ 32
+    pub given : last_given probe ≤ reached.last
+    pub in_range : reached.last < 2 ^ 32
     pub keeps : Keeps (last_given probe) probe progress
-    pub file : (lines : List ℕ) → held shelf requests ≡ File lines → HasTaken taken place lines
+    pub file : (lines : List ℕ) → held shelf requests ≡ File lines → HasTaken taken reached lines
     pub run : (bytes : List ℕ) (frames : List Frame) (stop : Stop) → held shelf name ≡ File bytes → Leaves begun bytes frames stop → begun.reach.count ≡ 0
         → (sofar : List ℕ) × InRun bytes frames stop taken progress probe sofar × Adds (content first) (content now) sofar
 
 -- a fault of the request file that is read again is one of another file
-pub requests_find : (NoCapture : Type 0) (held : Held) (place place' : Place) (datagram : List ℕ) (taken : List TimedDatagram) (fault : RequestsFault) → Answers held place place' datagram (Err fault)
-    → ((file : List ℕ) → held ≡ File file → HasTaken taken place file) → FindsAnother NoCapture (IsNotRequests held) (status_by fault)
-requests_find NoCapture held place place' datagram taken (Line line) (stays, number, few, wrong) has =
-    λ file is (asked, are). wrong_not_asked taken asked place file line (has file is) are (wrong file is (has file is).agrees)
-requests_find NoCapture held place place' datagram taken TooManyLines (stays, last, some) has =
-    inr (λ file is (asked, are). many_not_asked taken asked place file (has file is) are last (some file is (has file is).agrees))
-requests_find NoCapture held place place' datagram taken ReadFailed stays has = tt
+pub requests_find : (NoCapture : Type 0) (held : Held) (reached reached' : Reached) (datagram : List ℕ) (taken : List TimedDatagram) (fault : RequestsFault) → Answers held reached reached' datagram (Err fault)
+    → ((file : List ℕ) → held ≡ File file → HasTaken taken reached file) → FindsAnother NoCapture (IsNotRequests held) (status_by fault)
+requests_find NoCapture held reached reached' datagram taken (Line line) (stays, number, few, wrong) has =
+    λ file is (asked, are). wrong_not_asked taken asked reached file line (has file is) are (wrong file is (has file is).agrees)
+requests_find NoCapture held reached reached' datagram taken TooManyLines (stays, last, some) has =
+    inr (λ file is (asked, are). many_not_asked taken asked reached file (has file is) are last (some file is (has file is).agrees))
+requests_find NoCapture held reached reached' datagram taken ReadFailed stays has = tt
 
 -- what a line that isn't put comes to, where the records that are left have no fault
 pub answer_faultless : (IsNext : List ℕ → Type 0) (IsBegun : List Note → Type 0) (stop : Stop) (old new : Option (List ℕ)) → IsFaultless stop → (status : Status) → WritesLine {T = Unit {0}} IsNext IsBegun stop old new (Err status) → FindsAnother ⊥ ⊥ status

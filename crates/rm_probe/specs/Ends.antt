@@ -7,7 +7,7 @@ use Rattle.rm_pcap.specs.Records.{Stop}
 use Rattle.rm_pcap.specs.declared.fault.PcapFault.{PcapFault}
 use Rattle.rm_probe.specs.Capture.{IsCapture, IsCaptureFile, IsBroken, CallsFor, status_of}
 use Rattle.rm_requests.specs.Lines.{TimedDatagram, HasTooManyLines, AreRequests, IsRequestFile, IsWrongAt}
-use Rattle.rm_requests.specs.Reading.{beginning, place_of}
+use Rattle.rm_requests.specs.Reading.{beginning, reached_of}
 use Rattle.rm_requests.specs.declared.requests.Requests.{Requests}
 use Rattle.rm_probe.specs.Text.{IsText}
 use Rattle.rm_agent.specs.declared.settings.Settings.{Settings}
@@ -94,7 +94,7 @@ IsComplete lead capture requests reads reads' writes writes' result =
 -- What judging both files answers: what reads the request file again from its first line on, or for what a run ends before anything is written.
 abbrev pub JudgesFiles : ℕ → Held → Held → ℕ → ℕ → Result Requests Status → Type 0
 JudgesFiles lead capture requests reads reads' (Ok reader) =
-    OfFile capture (IsCaptureFile lead) × OfFile requests IsRequestFile × (place_of reader ≡ beginning)
+    OfFile capture (IsCaptureFile lead) × OfFile requests IsRequestFile × (reached_of reader ≡ beginning)
 JudgesFiles lead capture requests reads reads' (Err (BadCapture at)) = OfFile capture (CallsFor lead (BadCapture at))
 JudgesFiles lead capture requests reads reads' (Err (BadRequests line)) = OfFile capture (IsCaptureFile lead) × OfFile requests (IsWrongAt line)
 JudgesFiles lead capture requests reads reads' (Err TooLong) =

@@ -5,7 +5,7 @@ use Rattle.rm_model.specs.Journal.{Frame, Journal, passes}
 use Rattle.rm_pcap.specs.Records.{Stop, CutAt}
 use Rattle.rm_pdu.specs.declared.kind.Kind.TheVariants.{Set}
 use Rattle.rm_pdu.specs.Message.{Message, message_octets}
-use Rattle.rm_pdu.specs.Verdict.{Verdict, message, IsVerdict}
+use Rattle.rm_pdu.specs.Parse.{Parse, message, IsParse}
 use Rattle.rm_agent.specs.declared.settings.Settings.{Settings}
 use Rattle.rm_agent.specs.declared.answer.Reason.{Reason}
 use Rattle.rm_agent.specs.declared.answer.Reason.TheVariants.{TooLong, Malformed, Version, NotRequest, Community}
@@ -35,9 +35,9 @@ answer_text (Drop reason) out = codes "drop " ++ reason_text reason
 -- What may be said of a datagram that comes after a journal, at a moment in milliseconds: that it is dropped, and why, or
 -- a reply to it in hexadecimal digits. A SetRequest that is accepted makes the journal longer, and with all else it stays.
 pub data IsAnswered (settings : Settings) (journal : Journal) (moment : ℕ) (datagram : List ℕ) (text : List ℕ) (after : Journal) : Type 0 where
-  dropped : (v : Verdict) (reason : Reason) → IsVerdict true datagram v → reason_for settings v ≡ Some reason
+  dropped : (v : Parse) (reason : Reason) → IsParse true datagram v → reason_for settings v ≡ Some reason
       → text ≡ codes "drop " ++ reason_text reason → after ≡ journal → IsAnswered settings journal moment datagram text after
-  replied : (request reply : Message) → IsVerdict true datagram (message request) → reason_for settings (message request) ≡ None
+  replied : (request reply : Message) → IsParse true datagram (message request) → reason_for settings (message request) ≡ None
       → IsReplyAfter settings journal moment request reply after
       → text ≡ codes "reply " ++ encode_lower (message_octets reply) → IsAnswered settings journal moment datagram text after
 
@@ -64,7 +64,7 @@ AreLines settings journal (Asks number request ∷ events) text =
 -- the datagram is no SetRequest that reserves storage after a journal
 abbrev pub ReservesNothing : Journal → List ℕ → Type 0
 ReservesNothing journal datagram =
-    (request : Message) → IsVerdict true datagram (message request) → request.kind ≡ Set → (index : ℕ) → Reserves journal (given_by request.bindings) index → ⊥
+    (request : Message) → IsParse true datagram (message request) → request.kind ≡ Set → (index : ℕ) → Reserves journal (given_by request.bindings) index → ⊥
 
 -- None of the SetRequests among the events reserves storage, from a journal on, whatever was answered before. Then each has one
 -- lawful line; one that reserves storage has a further one, by which there was no memory.

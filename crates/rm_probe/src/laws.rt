@@ -12,7 +12,7 @@ use rm_agent::{
     advance_is_orderly, every_advance, every_reply, frame_is_orderly, one_advance, one_reply,
     reply_is_orderly,
 };
-use rm_pdu::{every_verdict, one_verdict};
+use rm_pdu::{every_parse, one_parse};
 
 /// A law: of the same frames and datagrams there is one text, where none of the SetRequests among them reserves storage.
 pub fn one_text()
@@ -20,7 +20,7 @@ pub fn one_text()
         → AreWithoutChoice settings [] (events 1 frames requests) → IsText settings frames stop requests text
         → IsText settings frames stop requests other → text ≡ other }
 {
-    one_verdict();
+    one_parse();
     one_reply();
     one_advance();
 }
@@ -30,7 +30,7 @@ pub(crate) fn every_line()
     ensures { (settings : Settings) (journal : Journal) → IsOrderly journal → (events : List Event) → (text : List ℕ)
         × AreLines settings journal events text }
 {
-    every_verdict();
+    every_parse();
     every_reply();
     every_advance();
     advance_is_orderly();

@@ -7,7 +7,7 @@ ghost use Rattle.rm_pcap.specs.Records.{Stop, Stops};
 ghost use Rattle.rm_pcap.specs.declared.fault.PcapFault.TheVariants.{Read};
 ghost use Rattle.rm_probe.specs.Capture.{IsCapture, IsFaultless};
 ghost use Rattle.rm_requests.specs.Lines.{TimedDatagram, AreRequests};
-ghost use Rattle.rm_requests.specs.Reading.{beginning, place_of};
+ghost use Rattle.rm_requests.specs.Reading.{beginning, reached_of};
 ghost use Rattle.rm_probe.specs.Notes.{Note, Sent};
 ghost use Rattle.rm_probe.specs.Probe.{settings_of, last_given, frames_given, IsFresh, Stands};
 ghost use Rattle.rm_probe.specs.Steps.{Advances, Answers, FindsAnother, Finishes, HasBegun, IsForeign, IsLastLine, IsNextLine, IsNotCapture, IsNotLeft, IsNotRequests, IsOfRecord, Keeps, Leaves, Writes, WritesLine, done, timed};
@@ -186,7 +186,7 @@ impl Replaying {
         reader: &mut Requests,
         out: &mut Output<'_, K>,
     ) -> Status
-        requires place { place_of reader.old ≡ beginning }
+        requires reached { reached_of reader.old ≡ beginning }
         requires first { IsFresh self.old.probe }
         requires begun { Keeps 0 self.old.probe (progress_of self.old.capture) }
         requires output { out.old.failed ≡ false }
@@ -257,7 +257,7 @@ pub fn write_run<F: Shelf, K: Sink>(
     reader: &mut Requests,
     out: &mut K,
 ) -> Status
-    requires place { place_of reader.old ≡ beginning }
+    requires reached { reached_of reader.old ≡ beginning }
     requires first { IsFresh probe }
     ensures text { (bytes lines : List ℕ) (frames : List Frame) (stop : Stop) (asked : List TimedDatagram)
         → F.held shelf.old name.now ≡ File bytes → F.held shelf.old requests.now ≡ File lines

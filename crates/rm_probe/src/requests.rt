@@ -1,7 +1,7 @@
 // The request file, which is judged whole before anything is written.
 ghost use Rattle.std.specs.Prelude.{◌≡◌, ◌≤◌, ℕ, List, Err};
 ghost use Rattle.rm_edge.specs.Outside.{Rose};
-ghost use Rattle.rm_requests.specs.Reading.{beginning, place_of};
+ghost use Rattle.rm_requests.specs.Reading.{beginning, reached_of};
 ghost use Rattle.rm_requests.specs.declared.fault.RequestsFault.TheVariants.{Read};
 ghost use Rattle.rm_probe.specs.Requests.{JudgesRequests};
 
@@ -14,7 +14,7 @@ pub fn judge<F: Shelf>(
     shelf: &mut F,
     name: &str,
 ) -> Result<(), RequestsFault>
-    requires { place_of requests.old ≡ beginning }
+    requires { reached_of requests.old ≡ beginning }
     ensures constant { (each : List ℕ) → F.held shelf.new each ≡ F.held shelf.old each }
     ensures later { (each : List ℕ) → F.faults shelf.old each ≤ F.faults shelf.new each }
     ensures cause { result ≡ Err Read → Rose (F.faults shelf.old name.now) (F.faults shelf.new name.now) }

@@ -10,7 +10,7 @@ use Rattle.rm_model.specs.Cells.{Cells, IsNext}
 use Rattle.rm_pdu.specs.declared.kind.Kind.{Kind}
 use Rattle.rm_pdu.specs.declared.kind.Kind.TheVariants.{Get, Next, Response, Set, Bulk, Inform, Trap, Report}
 use Rattle.rm_pdu.specs.Message.{Binding, Message, message_octets}
-use Rattle.rm_pdu.specs.Verdict.{is_request}
+use Rattle.rm_pdu.specs.Parse.{is_request}
 use Rattle.rm_pdu.specs.Draft.{binding_of}
 use Rattle.rm_reply.specs.Answered.{IsGetBinding, IsNextBinding, shown_value, AreAnswers, are_end}
 use Rattle.rm_reply.specs.Sets.{alone_among}

@@ -13,7 +13,7 @@ use Rattle.rm_model.specs.Journal.{Journal}
 use Rattle.rm_model.specs.Judgement.{Bindings, IsFirstFault}
 use Rattle.rm_pdu.specs.declared.kind.Kind.{Kind}
 use Rattle.rm_pdu.specs.declared.kind.Kind.TheVariants.{Get, Next, Response, Set, Bulk, Inform, Trap, Report}
-use Rattle.rm_pdu.specs.Verdict.{is_request}
+use Rattle.rm_pdu.specs.Parse.{is_request}
 use Rattle.rm_pdu.specs.Message.{Binding, Message, message_octets}
 use Rattle.rm_pdu.specs.Draft.{and_binding}
 use Rattle.rm_reply.specs.Replies.{response_to, is_built}

@@ -5,7 +5,7 @@ ghost use Rattle.rm_model.specs.Journal.{Journal};
 ghost use Rattle.rm_model.specs.Finite.{AreFinite};
 ghost use Rattle.rm_model.specs.Readings.{nothing_read};
 ghost use Rattle.rm_pdu.specs.Message.{Message};
-ghost use Rattle.rm_pdu.specs.Verdict.{is_read};
+ghost use Rattle.rm_pdu.specs.Parse.{is_read};
 ghost use Rattle.rm_reply.specs.Responses.{IsReplyBy};
 ghost use Rattle.rm_reply.specs.Sets.{given_by};
 

@@ -3,7 +3,7 @@ ghost use Rattle.std.specs.Prelude.{◌≡◌, ◌≤◌, true};
 ghost use Rattle.rm_model.specs.Settings.{Settings};
 ghost use Rattle.rm_model.specs.Journal.{Journal, last_moment};
 ghost use Rattle.rm_pdu.specs.Message.{Message};
-ghost use Rattle.rm_pdu.specs.Verdict.{is_read};
+ghost use Rattle.rm_pdu.specs.Parse.{is_read};
 ghost use Rattle.rm_reply.specs.Drafting.{IsAsked, DraftsOne};
 ghost use Rattle.rm_reply.specs.Responses.{IsReplyBy};
 ghost use Rattle.rm_model.specs.Readings.{nothing_read};
@@ -11,13 +11,13 @@ ghost use Rattle.rm_model.specs.Readings.{nothing_read};
 use crate::reply::reply;
 use crate::request::Request;
 use crate::set::set;
-use rm_group::{Group, Objects};
+use rm_group::{Commits, Objects};
 use rm_pdu::Draft;
 use std::alloc::Global;
 
 /// The response to a request at a moment in milliseconds, at which the groups may be asked, where its community may write or may
 /// not (RFC 1905, section 4.2). A SetRequest that is accepted is done.
-pub fn respond<G: Group + Objects>(
+pub fn respond<G: Commits + Objects>(
     groups: &mut G,
     alloc: Global,
     request: &Request<'_>,

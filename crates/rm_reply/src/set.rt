@@ -12,7 +12,7 @@ ghost use Rattle.rm_model.specs.Readings.{nothing_read};
 
 use crate::request::{MOST_BINDINGS, Request};
 use crate::unread::Unread;
-use rm_group::{Assigns, Group, Objects, lower_verdict, order_does_not_matter};
+use rm_group::{Assigns, Commits, Group, Objects, lower_verdict, order_does_not_matter};
 use rm_model::Verdict;
 use rm_pdu::Draft;
 use rm_val::ErrorStatus;
@@ -24,7 +24,7 @@ const FEW_BINDINGS: usize = 8;
 /// Answers a SetRequest at a moment in milliseconds, at which the groups may be asked, where its community may write or may not
 /// (RFC 1905, section 4.2.5).
 /// Where it is accepted, all its values act at once. Memory is asked for only where it makes a row valid that takes storage.
-pub(crate) fn set<G: Group + Objects>(
+pub(crate) fn set<G: Commits + Objects>(
     groups: &mut G,
     alloc: Global,
     request: &Request<'_>,
@@ -54,7 +54,7 @@ pub(crate) fn set<G: Group + Objects>(
 
 // The same where there isn't too much for the response. The list has room for all bindings, in a frame of its own.
 #[inline(never)]
-fn set_many<G: Group + Objects>(
+fn set_many<G: Commits + Objects>(
     groups: &mut G,
     alloc: Global,
     request: &Request<'_>,
@@ -78,7 +78,7 @@ fn set_many<G: Group + Objects>(
 }
 
 // The same by what its bindings give, where there isn't too much for the response.
-fn set_given<G: Group + Objects, A: Assigns>(
+fn set_given<G: Commits + Objects, A: Assigns>(
     groups: &mut G,
     alloc: Global,
     request: &Request<'_>,
@@ -117,7 +117,7 @@ fn is_barred<A: Assigns>(may_write: bool, set: &A) -> bool
 
 // Judges a Set at a moment in milliseconds, at which the groups may be asked, and does it where nothing is wrong with it and there
 // is memory for it.
-fn perform<G: Group + Objects, A: Assigns>(
+fn perform<G: Commits + Objects, A: Assigns>(
     groups: &mut G,
     alloc: Global,
     set: &A,

@@ -12,7 +12,7 @@ use Rattle.std.proofs.lemmas.Bool.Decides.{nat_tests}
 use Rattle.rm_window.specs.Filling.{IsFront}
 use Rattle.rm_window.proofs.WindowLemmas.{front_of, front_short, front_behind}
 use Rattle.rm_requests.specs.Lines.{TimedDatagram, moment_of, datagram_of, is_blank, both, parts_of, below, number_of, ok_value, request_of, requests_from, with_first}
-use Rattle.rm_requests.specs.Reading.{Place, is_newline, left, lines_left, IsFirst, HoldsLine, Passes}
+use Rattle.rm_requests.specs.Reading.{Reached, is_newline, left, lines_left, IsFirst, HoldsLine, Passes}
 use Rattle.rm_requests.proofs.LineLemmas.{lines_first, lines_last, none_stands}
 
 -- the digits of a moment, and those of a datagram, are so many at most
@@ -220,29 +220,29 @@ pub left_behind : (octets : List ℕ) (bytes : List ℕ) (at passed : ℕ) → I
 left_behind octets bytes at passed front within =
     subst (λ (xs : List ℕ). IsFront (drop passed octets) xs) (drop-drop passed at bytes) (front_behind passed octets (drop at bytes) front within)
 
--- what a window that stands at a place of a file says of the next line
-module _ (place : Place) (octets line : List ℕ) (passed : ℕ) (bytes : List ℕ) (holds : HoldsLine octets (drop place.at bytes)) (some : 0 < length octets)
+-- what a window that stands at a line of a file says of the next line
+module _ (reached : Reached) (octets line : List ℕ) (passed : ℕ) (bytes : List ℕ) (holds : HoldsLine octets (drop reached.at bytes)) (some : 0 < length octets)
     (first : IsFirst (position is_newline octets) octets line passed) where
-  pub reaches_line : 0 < length (lines_left place bytes)
-  reaches_line = has_line (drop place.at bytes) (omega (arith, some, front_short octets (drop place.at bytes) holds.front))
+  pub reaches_line : 0 < length (lines_left reached bytes)
+  reaches_line = has_line (drop reached.at bytes) (omega (arith, some, front_short octets (drop reached.at bytes) holds.front))
 
-  pub wrong_line : request_of line ≡ None → left place bytes ≡ Err place.number
-  wrong_line wrong = wrong_first place.number place.last (lines_left place bytes) (wrong_in_file (position is_newline octets) octets (drop place.at bytes) line passed refl holds some first wrong)
+  pub wrong_line : request_of line ≡ None → left reached bytes ≡ Err reached.number
+  wrong_line wrong = wrong_first reached.number reached.last (lines_left reached bytes) (wrong_in_file (position is_newline octets) octets (drop reached.at bytes) line passed refl holds some first wrong)
 
-  pub falls_line : (request : TimedDatagram) → request_of line ≡ Some request → request.moment < place.last → left place bytes ≡ Err place.number
+  pub falls_line : (request : TimedDatagram) → request_of line ≡ Some request → request.moment < reached.last → left reached bytes ≡ Err reached.number
   falls_line request is falls =
-      falls_first place.number place.last (lines_left place bytes) line (lines (drop passed (drop place.at bytes))) request
-      (first_of_file (position is_newline octets) octets (drop place.at bytes) line passed request refl holds some first is) is falls
+      falls_first reached.number reached.last (lines_left reached bytes) line (lines (drop passed (drop reached.at bytes))) request
+      (first_of_file (position is_newline octets) octets (drop reached.at bytes) line passed request refl holds some first is) is falls
 
-  pub takes_line : (new : Place) (request : TimedDatagram) → request_of line ≡ Some request → place.last ≤ request.moment
-      → new.at ≡ place.at + passed → new.number ≡ place.number + 1 → new.last ≡ request.moment → new.read ≡ drop passed octets → Passes place new request bytes
+  pub takes_line : (new : Reached) (request : TimedDatagram) → request_of line ≡ Some request → reached.last ≤ request.moment
+      → new.at ≡ reached.at + passed → new.number ≡ reached.number + 1 → new.last ≡ request.moment → new.read ≡ drop passed octets → Passes reached new request bytes
   takes_line new request is order at number last read =
-      let rest = drop place.at bytes in
+      let rest = drop reached.at bytes in
       let are = first_of_file (position is_newline octets) octets rest line passed request refl holds some first is in
-      let behind : drop passed rest ≡ drop new.at bytes = drop-drop passed place.at bytes ∙ ap (λ (n : ℕ). drop n bytes) (sym at) in
+      let behind : drop passed rest ≡ drop new.at bytes = drop-drop passed reached.at bytes ∙ ap (λ (n : ℕ). drop n bytes) (sym at) in
       record {
-        agrees = rw (read, at) (left_behind octets bytes place.at passed holds.front (passed_within (position is_newline octets) octets line passed refl first));
-        requests = rw (number, last) (subst (λ (xs : List ℕ). left place bytes ≡ with_first request (requests_from (place.number + 1) request.moment (lines xs))) behind
-            (takes_first place.number place.last (lines rest) line (lines (drop passed rest)) request are is order));
+        agrees = rw (read, at) (left_behind octets bytes reached.at passed holds.front (passed_within (position is_newline octets) octets line passed refl first));
+        requests = rw (number, last) (subst (λ (xs : List ℕ). left reached bytes ≡ with_first request (requests_from (reached.number + 1) request.moment (lines xs))) behind
+            (takes_first reached.number reached.last (lines rest) line (lines (drop passed rest)) request are is order));
         lines = omega (arith, ap length are, ap (λ (xs : List ℕ). length (lines xs)) behind);
       }

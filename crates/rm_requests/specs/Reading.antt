@@ -25,51 +25,51 @@ pub record HoldsLine (octets rest : List ℕ) : Type 0 where
 
 -- How far a request file was read: where the next line stands, its number, the moment of the line before, and the octets
 -- that were read from there on.
-pub record Place : Type 0 where
+pub record Reached : Type 0 where
   pub at : ℕ
   pub number : ℕ
   pub last : ℕ
   pub read : List ℕ
 
 -- before the first line
-abbrev pub beginning : Place
+abbrev pub beginning : Reached
 beginning = record { at = 0; number = 1; last = 0; read = [] }
 
 -- how far a file was read
-abbrev pub place_of : Requests → Place
-place_of requests = record { at = requests.at; number = requests.number; last = requests.last; read = octets_of requests.window }
+abbrev pub reached_of : Requests → Reached
+reached_of requests = record { at = requests.at; number = requests.number; last = requests.last; read = octets_of requests.window }
 
 -- the datagram of the line that was read last
 abbrev pub datagram_in : Requests → List ℕ
 datagram_in requests = take requests.count requests.datagram.items
 
 -- the octets that were read are those of a file
-abbrev pub Agrees : Place → List ℕ → Type 0
-Agrees place bytes = IsFront place.read (drop place.at bytes)
+abbrev pub Agrees : Reached → List ℕ → Type 0
+Agrees reached bytes = IsFront reached.read (drop reached.at bytes)
 
 -- the lines of a file that are left
-abbrev pub lines_left : Place → List ℕ → List (List ℕ)
-lines_left place bytes = lines (drop place.at bytes)
+abbrev pub lines_left : Reached → List ℕ → List (List ℕ)
+lines_left reached bytes = lines (drop reached.at bytes)
 
 -- the datagrams that are left, or the number of the first wrong line
-abbrev pub left : Place → List ℕ → Result (List TimedDatagram) ℕ
-left place bytes = requests_from place.number place.last (lines_left place bytes)
+abbrev pub left : Reached → List ℕ → Result (List TimedDatagram) ℕ
+left reached bytes = requests_from reached.number reached.last (lines_left reached bytes)
 
 -- nothing was passed, and what was read is kept
-pub record Stays (old new : Place) : Type 0 where
+pub record Stays (old new : Reached) : Type 0 where
   pub at : new.at ≡ old.at
   pub number : new.number ≡ old.number
   pub last : new.last ≡ old.last
   pub read : IsFront old.read new.read
 
 -- a request was passed in a file that agrees
-pub record Passes (old new : Place) (request : TimedDatagram) (bytes : List ℕ) : Type 0 where
+pub record Passes (old new : Reached) (request : TimedDatagram) (bytes : List ℕ) : Type 0 where
   pub agrees : Agrees new bytes
   pub requests : left old bytes ≡ with_first request (left new bytes)
   pub lines : length (lines_left old bytes) ≡ length (lines_left new bytes) + 1
 
 -- the next line is a request, which is passed
-pub record Takes (held : Held) (old new : Place) (request : Request) (datagram : List ℕ) : Type 0 where
+pub record Takes (held : Held) (old new : Reached) (request : Request) (datagram : List ℕ) : Type 0 where
   pub number : request.number ≡ old.number
   pub next : new.number ≡ old.number + 1
   pub few : old.number ≤ 1000000
@@ -79,7 +79,7 @@ pub record Takes (held : Held) (old new : Place) (request : Request) (datagram :
   pub passes : (bytes : List ℕ) → held ≡ File bytes → Agrees old bytes → Passes old new (record { moment = request.moment; datagram = datagram }) bytes
 
 -- What reading the next line answers, with that datagram.
-abbrev pub Answers : Held → Place → Place → List ℕ → Result (Option Request) RequestsFault → Type 0
+abbrev pub Answers : Held → Reached → Reached → List ℕ → Result (Option Request) RequestsFault → Type 0
 Answers held old new datagram (Ok (Some request)) = Takes held old new request datagram
 Answers held old new datagram (Ok None) =
     Stays old new × ((bytes : List ℕ) → held ≡ File bytes → Agrees old bytes → lines_left old bytes ≡ [])

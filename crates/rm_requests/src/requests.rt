@@ -49,11 +49,11 @@ pub struct Requests {
 }
 
 impl Requests {
-    ghost use Rattle.rm_requests.specs.Reading.{place_of, datagram_in, beginning, HoldsLine, Stays, Answers};
+    ghost use Rattle.rm_requests.specs.Reading.{reached_of, datagram_in, beginning, HoldsLine, Stays, Answers};
 
     /// Before the first line of a file.
     pub fn new(alloc: Global) -> Result<Requests, AllocError>
-        ensures { IfOk result (λ requests. place_of requests ≡ beginning) }
+        ensures { IfOk result (λ requests. reached_of requests ≡ beginning) }
     {
         let window = Window::new(alloc, ROOM)?;
         let datagram = vec![in alloc; 0u8; MOST_DATAGRAM]?;
@@ -69,7 +69,7 @@ impl Requests {
 
     /// Goes back before the first line.
     pub fn rewind(&mut self)
-        ensures { place_of self.new ≡ beginning }
+        ensures { reached_of self.new ≡ beginning }
     {
         self.window.truncate(0);
         self.at = 0;
@@ -79,7 +79,7 @@ impl Requests {
 
     /// How many lines were passed.
     pub fn passed(&self) -> u64
-        ensures { result + 1 ≡ (place_of self.now).number }
+        ensures { result + 1 ≡ (reached_of self.now).number }
     {
         self.number - 1
     }
@@ -96,7 +96,7 @@ impl Requests {
         ensures constant { (each : List ℕ) → S.held shelf.new each ≡ S.held shelf.old each }
         ensures later { (each : List ℕ) → S.faults shelf.old each ≤ S.faults shelf.new each }
         ensures cause { HasCause (S.faults shelf.old name.now) (S.faults shelf.new name.now) result }
-        ensures stays { Stays (place_of self.old) (place_of self.new) }
+        ensures stays { Stays (reached_of self.old) (reached_of self.new) }
         ensures holds { (bytes : List ℕ) → S.held shelf.old name.now ≡ File bytes → IsFront (octets_of self.old.window) (drop self.old.at bytes)
             → OnOk result (HoldsLine (octets_of self.new.window) (drop self.old.at bytes)) }
         ensures absent { S.held shelf.old name.now ≡ Absent → octets_of self.old.window ≡ [] → IsErr result }
@@ -136,8 +136,8 @@ impl Requests {
         ensures constant { (each : List ℕ) → S.held shelf.new each ≡ S.held shelf.old each }
         ensures later { (each : List ℕ) → S.faults shelf.old each ≤ S.faults shelf.new each }
         ensures cause { result ≡ Err RequestsFault.Read → Rose (S.faults shelf.old name.now) (S.faults shelf.new name.now) }
-        ensures answers { Answers (S.held shelf.old name.now) (place_of self.old) (place_of self.new) (datagram_in self.new) result }
-        ensures absent { S.held shelf.old name.now ≡ Absent → (place_of self.old).read ≡ [] → result ≡ Err RequestsFault.Read }
+        ensures answers { Answers (S.held shelf.old name.now) (reached_of self.old) (reached_of self.new) (datagram_in self.new) result }
+        ensures absent { S.held shelf.old name.now ≡ Absent → (reached_of self.old).read ≡ [] → result ≡ Err RequestsFault.Read }
     {
         let Ok(()) = self.see(shelf, name) else {
             return Err(RequestsFault::Read);

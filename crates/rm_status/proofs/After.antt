@@ -34,7 +34,7 @@ there_in (x ∷ rows) i r h e =
       | false ↦ λ k. there_in rows i r h.1 k
     ] e
 
-module _ {C : Type 0} (t : ControlTable) (with_column : C → ℕ → Val → C) (blank : C) where
+module _ {C : Type 0} (t : ControlTable) (with_column : C → ℕ → Val → C) (blank : ℕ → C) where
   seen_state : (i : ℕ) (s : State) (c : C) → state_seen (if_there t with_column blank (record { index = i; state = s; columns = c })) ≡ s
   seen_state i Absent c = refl
   seen_state i UnderCreation c = refl
@@ -47,7 +47,7 @@ module _ {C : Type 0} (t : ControlTable) (with_column : C → ℕ → Val → C)
 
   module _ (set_to : C → ℕ → Option Val)
       (set_with : (c : C) (n m : ℕ) (v : Val) → value_fault (column_kind t n) v ≡ None → set_to (with_column c n v) m ≡ cond (nat_eq n m) (Some v) (set_to c m))
-      (blank_alike : HasSameColumns t (set_to blank) (λ column. None))
+      (blank_alike : (i : ℕ) → HasSameColumns t (set_to (blank i)) (t.rules.first (i ∷ [])))
       (sound : is_sound t ≡ true)
       (beginning : Beginning) (journal : Journal) (moment : ℕ) (bs : Bindings) (values : Assignments)
       (gives : (name : List ℕ) → value_given values name ≡ value_given bs name)
@@ -59,49 +59,49 @@ module _ {C : Type 0} (t : ControlTable) (with_column : C → ℕ → Val → C)
     same_ask i = ap (value_ask t.status_kind) (sym (gives (cell_name t.entry t.status (i ∷ []))))
 
     old : ℕ → C
-    old i = unwrap_or (columns_in rows i) blank
+    old i = unwrap_or (columns_in rows i) (blank i)
 
     -- what a column of a row was set to before the Set, by the journal
     abbrev was : ℕ → ℕ → Option Val
-    was i n = cond (is_absent (state_of t beginning journal (i ∷ []))) None (set_value t beginning journal (i ∷ []) n)
+    was i n = cond (is_absent (state_of t beginning journal (i ∷ []))) (t.rules.first (i ∷ []) n) (set_value t beginning journal (i ∷ []) n)
 
-    was_alike : (i : ℕ) (o : Option (Row C)) → row_in rows i ≡ o → HasSameColumns t (set_to (unwrap_or (columns_seen o) blank)) (was i)
+    was_alike : (i : ℕ) (o : Option (Row C)) → row_in rows i ≡ o → HasSameColumns t (set_to (unwrap_or (columns_seen o) (blank i))) (was i)
     was_alike i None e =
         let gone : is_absent (state_of t beginning journal (i ∷ [])) ≡ true = ap is_absent (sym (alike.states i)) ∙ ap (λ o. is_absent (state_seen o)) e in
-        subst (λ (b : Bool). HasSameColumns t (set_to blank) (λ n. cond b None (set_value t beginning journal (i ∷ []) n))) (sym gone) blank_alike
+        subst (λ (b : Bool). HasSameColumns t (set_to (blank i)) (λ n. cond b (t.rules.first (i ∷ []) n) (set_value t beginning journal (i ∷ []) n))) (sym gone) (blank_alike i)
     was_alike i (Some r) e =
         let here : is_absent (state_in rows i) ≡ false = ap (λ o. is_absent (state_seen o)) e ∙ there_in rows i r held.1 e in
         let there : is_absent (state_of t beginning journal (i ∷ [])) ≡ false = ap is_absent (sym (alike.states i)) ∙ here in
-        subst (λ (b : Bool). HasSameColumns t (set_to r.columns) (λ n. cond b None (set_value t beginning journal (i ∷ []) n))) (sym there)
+        subst (λ (b : Bool). HasSameColumns t (set_to r.columns) (λ n. cond b (t.rules.first (i ∷ []) n) (set_value t beginning journal (i ∷ []) n))) (sym there)
         (subst (λ (o : Option (Row C)). HasSameColumns t (λ n. option_and_then (λ c. set_to c n) (columns_seen o)) (set_value t beginning journal (i ∷ []))) e (alike.columns i here))
 
     module _ (i : ℕ) where
       abbrev now : ℕ → Option Val
-      now n = set_to (put_all t with_column blank bs i (unwrap_or (columns_in rows i) blank)) n
+      now n = set_to (put_all t with_column blank bs i (unwrap_or (columns_in rows i) (blank i))) n
 
       abbrev then_ : ℕ → Option Val
       then_ n = option_or (value_given values (cell_name t.entry n (i ∷ []))) (was i n)
 
-      one : (c : Column) → IsSameColumn t (set_to (unwrap_or (columns_in rows i) blank)) (was i) c → nat_eq c.number t.status ≡ false → IsSameColumn t now then_ c
+      one : (c : Column) → IsSameColumn t (set_to (unwrap_or (columns_in rows i) (blank i))) (was i) c → nat_eq c.number t.status ≡ false → IsSameColumn t now then_ c
       one c same other =
           let name : List ℕ = cell_name t.entry c.number (i ∷ []) in
-          let old_set : Option Val = set_to (unwrap_or (columns_in rows i) blank) c.number in
-          let set : now c.number ≡ option_or (value_given bs name) old_set = set_in_all t with_column blank set_to set_with bs i c.number (unwrap_or (columns_in rows i) blank) (same_either_way t.status c.number ∙ other) fine in
+          let old_set : Option Val = set_to (unwrap_or (columns_in rows i) (blank i)) c.number in
+          let set : now c.number ≡ option_or (value_given bs name) old_set = set_in_all t with_column blank set_to set_with bs i c.number (unwrap_or (columns_in rows i) (blank i)) (same_either_way t.status c.number ∙ other) fine in
           record {
             shown = ap (λ o. unwrap_or o (default_of t c.number)) set ∙ with_given (value_given bs name) old_set (was i c.number) (default_of t c.number) same.shown
                 ∙ ap (λ g. unwrap_or (option_or g (was i c.number)) (default_of t c.number)) (sym (gives name));
             needed = λ e. ap is_some set ∙ is_given (value_given bs name) old_set (was i c.number) (same.needed e) ∙ ap (λ g. is_some (option_or g (was i c.number))) (sym (gives name));
           }
 
-      each : (columns : List Column) → AllByRecursion (IsSameColumn t (set_to (unwrap_or (columns_in rows i) blank)) (was i)) columns → AllByRecursion (λ c. nat_eq c.number t.status ≡ false) columns → AllByRecursion (IsSameColumn t now then_) columns
+      each : (columns : List Column) → AllByRecursion (IsSameColumn t (set_to (unwrap_or (columns_in rows i) (blank i))) (was i)) columns → AllByRecursion (λ c. nat_eq c.number t.status ≡ false) columns → AllByRecursion (IsSameColumn t now then_) columns
       each [] all others = tt
       each (c ∷ more) all others = (one c all.0 others.0, each more all.1 others.1)
 
       new_state : state_in new i ≡ next_state (set_ask t bs (i ∷ [])) (state_in rows i)
-      new_state = ap state_seen (after i) ∙ seen_state i (next_state (set_ask t bs (i ∷ [])) (state_in rows i)) (put_all t with_column blank bs i (unwrap_or (columns_in rows i) blank))
+      new_state = ap state_seen (after i) ∙ seen_state i (next_state (set_ask t bs (i ∷ [])) (state_in rows i)) (put_all t with_column blank bs i (unwrap_or (columns_in rows i) (blank i)))
 
-      new_columns : is_absent (state_in new i) ≡ false → columns_in new i ≡ Some (put_all t with_column blank bs i (unwrap_or (columns_in rows i) blank))
-      new_columns there = ap columns_seen (after i) ∙ seen_columns i (next_state (set_ask t bs (i ∷ [])) (state_in rows i)) (put_all t with_column blank bs i (unwrap_or (columns_in rows i) blank)) (sym (ap is_absent new_state) ∙ there)
+      new_columns : is_absent (state_in new i) ≡ false → columns_in new i ≡ Some (put_all t with_column blank bs i (unwrap_or (columns_in rows i) (blank i)))
+      new_columns there = ap columns_seen (after i) ∙ seen_columns i (next_state (set_ask t bs (i ∷ [])) (state_in rows i)) (put_all t with_column blank bs i (unwrap_or (columns_in rows i) (blank i))) (sym (ap is_absent new_state) ∙ there)
 
       same_columns : is_absent (state_in new i) ≡ false → HasSameColumns t (λ n. option_and_then (λ c. set_to c n) (columns_in new i)) then_
       same_columns there =

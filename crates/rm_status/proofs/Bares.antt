@@ -78,7 +78,7 @@ module _ {C : Type 0} (set_to : C → ℕ → Option Val) where
     there-full bare (subst AllThere (sym same) (there-bare rows h.1)),
   )
 
-module _ {C : Type 0} (t : ControlTable) (with_column : C → ℕ → Val → C) (blank : C) (bs : Bindings) where
+module _ {C : Type 0} (t : ControlTable) (with_column : C → ℕ → Val → C) (blank : ℕ → C) (bs : Bindings) where
   if_there_state : (i : ℕ) (s : State) (c : C) → state_seen (if_there t with_column blank (record { index = i; state = s; columns = c })) ≡ s
   if_there_state i Absent c = refl
   if_there_state i UnderCreation c = refl
@@ -86,4 +86,4 @@ module _ {C : Type 0} (t : ControlTable) (with_column : C → ℕ → Val → C)
 
   -- a row's state after a Set
   pub state_then : (i : ℕ) (o : Option (Row C)) → state_seen (row_after t with_column blank bs i o) ≡ next_state (set_ask t bs (i ∷ [])) (state_seen o)
-  state_then i o = if_there_state i (next_state (set_ask t bs (i ∷ [])) (state_seen o)) (put_all t with_column blank bs i (unwrap_or (columns_seen o) blank))
+  state_then i o = if_there_state i (next_state (set_ask t bs (i ∷ [])) (state_seen o)) (put_all t with_column blank bs i (unwrap_or (columns_seen o) (blank i)))

@@ -1,5 +1,5 @@
 -- What a Set with which nothing is wrong binds in a row.
-use Rattle.std.proofs.Common.{◌≡◌, ℕ, ◌<◌, suc, List, [], ◌∷◌, length, Bool, true, false, cond, not, Option, Some, None, refl, sym, ap, ◌∙◌, nat_eq, find, option_map, rules, arith}
+use Rattle.std.proofs.Common.{◌≡◌, ℕ, ◌<◌, suc, List, [], ◌∷◌, length, Bool, true, false, cond, ◌&&◌, not, Option, Some, None, refl, sym, ap, ◌∙◌, nat_eq, find, option_map, rules, arith}
 use Rattle.std.specs.Prelude.{pos, negsuc}
 use Rattle.std.specs.Option.{option_or}
 use Rattle.std.specs.Str.{bytes_eq}
@@ -7,7 +7,7 @@ use Rattle.std.proofs.lemmas.Option.{same_Some}
 use Rattle.std.proofs.lemmas.Slice.Eq.{bytes_eq-Decides}
 use Rattle.rm_val.specs.Val.{Val, int}
 use Rattle.rm_val.specs.declared.error.ErrorStatus.{ErrorStatus}
-use Rattle.rm_val.specs.declared.error.ErrorStatus.TheVariants.{InconsistentValue}
+use Rattle.rm_val.specs.declared.error.ErrorStatus.TheVariants.{InconsistentValue, NotWritable}
 use Rattle.rm_model.specs.declared.row.StatusKind.{StatusKind}
 use Rattle.rm_model.specs.declared.row.StatusKind.TheVariants.{EntryStatus, RowStatus}
 use Rattle.rm_model.specs.declared.row.State.TheVariants.{Absent, UnderCreation, Valid}
@@ -17,12 +17,24 @@ use Rattle.rm_model.specs.declared.place.Place.TheVariants.{Cell}
 use Rattle.rm_model.specs.Journal.{value_given}
 use Rattle.rm_model.specs.ControlTable.{ControlTable}
 use Rattle.rm_model.specs.ControlRows.{Beginning, cell_name, value_ask, set_ask, next_state, is_valid}
-use Rattle.rm_model.specs.Judgement.{Bindings, name_at, value_at, place_of, place_behind, value_fault, column_kind, writable_kind, alone_fault, first_pass, second_pass, together_fault, status_fault, row_fault, column_fault, is_always, is_made, is_again, is_crowded, is_ready_with, unless}
+use Rattle.rm_model.specs.Judgement.{Bindings, name_at, value_at, place_of, place_behind, value_fault, column_kind, writable_kind, alone_fault, first_pass, second_pass, together_fault, status_fault, staying_fault, fixed_fault, is_name_fault, row_fault, column_fault, is_always, is_made, is_again, is_crowded, is_ready_with, unless}
 use Rattle.rm_model.proofs.Tables.{behind_front}
 
 no_first : (a b : Option ErrorStatus) → option_or a b ≡ None → a ≡ None
 no_first None b e = refl
 no_first (Some x) b e = cc
+
+no_other : (a b : Option ErrorStatus) → option_or a b ≡ None → b ≡ None
+no_other None b e = e
+no_other (Some x) b e = absurd (cc)
+
+-- where nothing is wrong with a column, it isn't one that can never be set
+settable_fault : (fixed : Bool) (o : Option ErrorStatus) → fixed_fault fixed o ≡ None → o ≡ None
+settable_fault fixed o = of_test (fixed && not (is_name_fault o))
+  where
+    of_test : (test : Bool) → cond test (Some NotWritable) o ≡ None → o ≡ None
+    of_test true e = absurd (cc)
+    of_test false e = e
 
 -- Where the value stands that a Set gives to a variable.
 
@@ -58,16 +70,16 @@ module _ (t : ControlTable) (before : Beginning) (bs : Bindings) (together : (k 
 
   -- nothing is wrong together with a binding of a column of a row
   row_fine : (n : ℕ) (value : Val) → value_given bs (cell_name t.entry n (i ∷ [])) ≡ Some value
-      → (again : Bool) × (row_fault t (before.state (i ∷ [])) ask (is_ready_with t before bs (i ∷ [])) (is_crowded t before bs) again n ≡ None)
+      → (again : Bool) × (row_fault t (i ∷ []) (before.state (i ∷ [])) ask (is_ready_with t before bs (i ∷ [])) (is_crowded t before bs) again n ≡ None)
   row_fine n value e =
       let (k, at) = bound_at bs (cell_name t.entry n (i ∷ [])) value e in
       (is_again bs k, ap (together_fault t before bs k) (sym (ap (place_of t.entry) at.named ∙ place_of_cell t n i)) ∙ together k at.within)
 
   -- A Set gives nothing to a column that is fixed while its row is valid, where the row was valid and stays so.
   module _ (n : ℕ) (column : nat_eq n t.status ≡ false) (fixed : is_always t n ≡ false) (was : before.state (i ∷ []) ≡ Valid) (stays : is_valid (next_state ask Valid) ≡ true) where
-    fixed_fault : (asked : Ask) → column_fault Valid asked false ≡ None → is_valid (next_state asked Valid) ≡ true → ⊥
-    fixed_fault Nothing fine goes_on = cc
-    fixed_fault asked fine goes_on = cc
+    valid_fault : (asked : Ask) → column_fault Valid asked false ≡ None → is_valid (next_state asked Valid) ≡ true → ⊥
+    valid_fault Nothing fine goes_on = cc
+    valid_fault asked fine goes_on = cc
 
     not_made : (asked : Ask) → is_made Valid asked ≡ false
     not_made Nothing = refl
@@ -76,9 +88,12 @@ module _ (t : ControlTable) (before : Beginning) (bs : Bindings) (together : (k 
     not_given : (value : Val) → value_given bs (cell_name t.entry n (i ∷ [])) ≡ Some value → ⊥
     not_given value e =
         let (again, fine) = row_fine n value e in
-        let at_valid : row_fault t Valid ask (is_ready_with t before bs (i ∷ [])) (is_crowded t before bs) again n ≡ None = ap (λ s. row_fault t s ask (is_ready_with t before bs (i ∷ [])) (is_crowded t before bs) again n) (sym was) ∙ fine in
-        let fault : option_or (column_fault Valid ask false) (unless (not again) InconsistentValue) ≡ None = rw (not_made ask, column, fixed) at at_valid in
-        fixed_fault ask (no_first _ _ fault) stays
+        let ready : Bool = is_ready_with t before bs (i ∷ []) in
+        let at_valid : row_fault t (i ∷ []) Valid ask ready (is_crowded t before bs) again n ≡ None = ap (λ s. row_fault t (i ∷ []) s ask ready (is_crowded t before bs) again n) (sym was) ∙ fine in
+        let settable : option_or (cond (nat_eq n t.status) (option_or (staying_fault (t.rules.stays (i ∷ [])) ask) (status_fault t.status_kind Valid ask ready)) (column_fault Valid ask (is_always t n))) (unless (not again) InconsistentValue) ≡ None =
+        settable_fault (t.rules.is_fixed (i ∷ []) n) _ (rw (not_made ask) at at_valid) in
+        let fault : option_or (column_fault Valid ask false) (unless (not again) InconsistentValue) ≡ None = rw (column, fixed) at settable in
+        valid_fault ask (no_first _ _ fault) stays
 
     pub fixed_column : value_given bs (cell_name t.entry n (i ∷ [])) ≡ None
     fixed_column = by_value (value_given bs (cell_name t.entry n (i ∷ []))) not_given
@@ -108,11 +123,13 @@ module _ (t : ControlTable) (before : Beginning) (bs : Bindings) (together : (k 
             let (again, fine) = row_fine t.status value e in
             let ready : Bool = is_ready_with t before bs (i ∷ []) in
             let crowded : Bool = is_crowded t before bs in
-            let at_creation : row_fault t UnderCreation ask ready crowded again t.status ≡ None = ap (λ s. row_fault t s ask ready crowded again t.status) (sym was) ∙ fine in
-            let at_enable : row_fault t UnderCreation Enable ready crowded again t.status ≡ None = ap (λ a. row_fault t UnderCreation a ready crowded again t.status) (sym (enables ask enabled)) ∙ at_creation in
+            let at_creation : row_fault t (i ∷ []) UnderCreation ask ready crowded again t.status ≡ None = ap (λ s. row_fault t (i ∷ []) s ask ready crowded again t.status) (sym was) ∙ fine in
+            let at_enable : row_fault t (i ∷ []) UnderCreation Enable ready crowded again t.status ≡ None = ap (λ a. row_fault t (i ∷ []) UnderCreation a ready crowded again t.status) (sym (enables ask enabled)) ∙ at_creation in
             let itself : nat_eq t.status t.status ≡ true = search rules in
-            let fault : option_or (status_fault t.status_kind UnderCreation Enable ready) (unless (not again) InconsistentValue) ≡ None = rw itself at at_enable in
-            needs_ready t.status_kind ready (no_first _ _ fault)
+            let settable : option_or (cond (nat_eq t.status t.status) (option_or (staying_fault (t.rules.stays (i ∷ [])) Enable) (status_fault t.status_kind UnderCreation Enable ready)) (column_fault UnderCreation Enable (is_always t t.status))) (unless (not again) InconsistentValue) ≡ None =
+            settable_fault (t.rules.is_fixed (i ∷ []) t.status) _ at_enable in
+            let fault : option_or (option_or (staying_fault (t.rules.stays (i ∷ [])) Enable) (status_fault t.status_kind UnderCreation Enable ready)) (unless (not again) InconsistentValue) ≡ None = rw itself at settable in
+            needs_ready t.status_kind ready (no_other _ _ (no_first _ _ fault))
 
 -- no EntryStatus makes a row that is valid at once
 pub not_made_valid : (o : Option Val) → is_valid (next_state (value_ask EntryStatus o) Absent) ≡ true → ⊥

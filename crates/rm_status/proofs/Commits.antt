@@ -70,7 +70,7 @@ module _ {C : Type 0} where
         | false ↦ λ _ k. index_in rows i r k
       ] refl h
 
-module _ {C : Type 0} (t : ControlTable) (with_column : C → ℕ → Val → C) (blank : C) (bs : Bindings) where
+module _ {C : Type 0} (t : ControlTable) (with_column : C → ℕ → Val → C) (blank : ℕ → C) (bs : Bindings) where
   -- row i once the first k bindings made their rows
   abbrev pub made_first : List (Row C) → ℕ → ℕ → Option (Row C)
   made_first rows k i = option_or (row_in rows i) (cond (list_any (is_status t i) (take k bs)) (made_row t with_column blank bs i) None)
@@ -92,7 +92,7 @@ module _ {C : Type 0} (t : ControlTable) (with_column : C → ℕ → Val → C)
   ] refl
     where
       made : Row C
-      made = record { index = i; state = next_state (set_ask t bs (i ∷ [])) Absent; columns = blank }
+      made = record { index = i; state = next_state (set_ask t bs (i ∷ [])) Absent; columns = blank i }
 
   pub rows_then : (rows : List (Row C)) → AreControlRows rows → AreControlRows (filter_map (settle_row t with_column blank bs) (map (write_row t with_column blank bs) rows))
   rows_then rows h = (
@@ -108,9 +108,9 @@ module _ {C : Type 0} (t : ControlTable) (with_column : C → ℕ → Val → C)
   there i s c = if_there t with_column blank (record { index = i; state = s; columns = c })
 
   after_made : (i : ℕ) → after (made_row t with_column blank bs i) ≡ row_after t with_column blank bs i None
-  after_made i = elim (is_made Absent (set_ask t bs (i ∷ []))) as (λ m. is_made Absent (set_ask t bs (i ∷ [])) ≡ m → after (cond m (Some (record { index = i; state = next_state (set_ask t bs (i ∷ [])) Absent; columns = blank })) None) ≡ row_after t with_column blank bs i None) [
-    | true ↦ λ _. ap (λ s. there i s (put_all t with_column blank bs i blank)) (settles (set_ask t bs (i ∷ [])))
-    | false ↦ λ e. ap (λ b. cond b None (Some (record { index = i; state = next_state (set_ask t bs (i ∷ [])) Absent; columns = put_all t with_column blank bs i blank }))) (sym (stays_absent (set_ask t bs (i ∷ [])) e))
+  after_made i = elim (is_made Absent (set_ask t bs (i ∷ []))) as (λ m. is_made Absent (set_ask t bs (i ∷ [])) ≡ m → after (cond m (Some (record { index = i; state = next_state (set_ask t bs (i ∷ [])) Absent; columns = blank i })) None) ≡ row_after t with_column blank bs i None) [
+    | true ↦ λ _. ap (λ s. there i s (put_all t with_column blank bs i (blank i))) (settles (set_ask t bs (i ∷ [])))
+    | false ↦ λ e. ap (λ b. cond b None (Some (record { index = i; state = next_state (set_ask t bs (i ∷ [])) Absent; columns = put_all t with_column blank bs i (blank i) }))) (sym (stays_absent (set_ask t bs (i ∷ [])) e))
   ] refl
 
   after_held : (i : ℕ) (r : Row C) → r.index ≡ i → after (Some r) ≡ row_after t with_column blank bs i (Some r)

@@ -162,15 +162,17 @@ module _ (t : ControlTable) (state : ℕ → State) (bs : Bindings) where
       ] refl
 
 module _ {C : Type 0} (t : ControlTable) (set_to : C → ℕ → Option Val) (bs : Bindings) (rows : List (Row C)) where
-  -- too many rows are more than 16 by the number of those that there are and of those that are made
-  pub crowded_is : AreControlRows rows → ((j : ℕ) → j < length bs → first_pass t bs j ≡ None) → is_crowded t (rows_before set_to rows) bs ≡ nat_lt 16 (length rows + count_made t (state_in rows) bs (length bs))
-  crowded_is h fine = ap (nat_lt 16) (
+  -- too many rows are more than the most, by the number of those that there are and of those that are made
+  pub crowded_is : AreControlRows rows → ((j : ℕ) → j < length bs → first_pass t bs j ≡ None) → is_crowded t (rows_before set_to rows) bs ≡ nat_lt t.most (length rows + count_made t (state_in rows) bs (length bs))
+  crowded_is h fine = ap (nat_lt t.most) (
       count_or (λ i. not (is_absent (state_in rows i))) (λ i. is_made (state_in rows i) (set_ask t bs (i ∷ []))) 65536 (λ i there. not_made (state_in rows i) (set_ask t bs (i ∷ [])) there)
       ∙ ap (λ n. n + count_below (λ i. is_made (state_in rows i) (set_ask t bs (i ∷ []))) 65536) (ap (λ (f : ℕ → Bool). count_below f 65536) (λ d i. (held_is rows i h.1) d) ∙ sym (length-counted rows h))
       ∙ ap (λ n. length rows + n) (all_made_count t (state_in rows) bs fine))
 
--- the same by the rows as they are seen, and by the two numbers
-pub crowded_by : {C : Type 0} (t : ControlTable) (set_to : C → ℕ → Option Val) (bs : Bindings) (items now : List (Row C)) → items ≡ now → AreControlRows items → ((j : ℕ) → j < length bs → first_pass t bs j ≡ None) → (held made : ℕ) → held ≡ length items → made ≡ count_made t (state_in now) bs (length bs) → nat_lt 16 (held + made) ≡ is_crowded t (rows_before set_to now) bs
-crowded_by t set_to bs items now view h fine held made helds mades =
-    ap (λ n. nat_lt 16 (n + made)) (helds ∙ ap (λ l. length l) view) ∙ ap (λ n. nat_lt 16 (length now + n)) mades
+-- the same by the rows as they are seen, and by the three numbers
+pub crowded_by : {C : Type 0} (t : ControlTable) (set_to : C → ℕ → Option Val) (bs : Bindings) (items now : List (Row C)) → items ≡ now → AreControlRows items → ((j : ℕ) → j < length bs → first_pass t bs j ≡ None)
+    → (most held made : ℕ) → most ≡ t.most → held ≡ length items → made ≡ count_made t (state_in now) bs (length bs) → nat_lt most (held + made) ≡ is_crowded t (rows_before set_to now) bs
+crowded_by t set_to bs items now view h fine most held made mosts helds mades =
+    ap (λ n. nat_lt n (held + made)) mosts
+    ∙ ap (λ n. nat_lt t.most (n + made)) (helds ∙ ap (λ l. length l) view) ∙ ap (λ n. nat_lt t.most (length now + n)) mades
     ∙ sym (crowded_is t set_to bs now (subst AreControlRows view h) fine)

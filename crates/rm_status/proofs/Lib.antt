@@ -23,3 +23,6 @@ pub mod Valid
 pub mod Bares
 pub mod KeptCellsLaws
 pub mod RowFacts
+pub mod RowsThen
+pub mod Judged
+pub mod RowForms

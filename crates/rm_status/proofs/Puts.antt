@@ -49,7 +49,7 @@ not_status t m sound column =
     both None none some = cc
     both (Some x) none some = cc
 
-module _ {C : Type 0} (t : ControlTable) (with_column : C → ℕ → Val → C) (blank : C) (set_to : C → ℕ → Option Val) (law : (c : C) (n m : ℕ) (v : Val) → value_fault (column_kind t n) v ≡ None → set_to (with_column c n v) m ≡ cond (nat_eq n m) (Some v) (set_to c m)) where
+module _ {C : Type 0} (t : ControlTable) (with_column : C → ℕ → Val → C) (blank : ℕ → C) (set_to : C → ℕ → Option Val) (law : (c : C) (n m : ℕ) (v : Val) → value_fault (column_kind t n) v ≡ None → set_to (with_column c n v) m ≡ cond (nat_eq n m) (Some v) (set_to c m)) where
   taken : (c : ℕ) (v : Val) → nat_eq c t.status ≡ false → value_fault (writable_kind t c) v ≡ None → value_fault (column_kind t c) v ≡ None
   taken c v other fine = rw other at fine
 
@@ -93,14 +93,14 @@ module _ {C : Type 0} (t : ControlTable) (with_column : C → ℕ → Val → C)
 pub same_ready : (t : ControlTable) (given set other : ℕ → Option Val) → ((n : ℕ) → set n ≡ other n) → is_ready t (of_columns t (λ n. option_or (given n) (set n))) ≡ is_ready t (of_columns t (λ n. option_or (given n) (other n)))
 same_ready t given set other same = ap (λ (f : ℕ → Option Val). is_ready t (of_columns t (λ n. option_or (given n) (f n)))) (λ d n. (same n) d)
 
-module _ {C : Type 0} (set_to : C → ℕ → Option Val) (rows : List (Row C)) (i : ℕ) where
+module _ {C : Type 0} (t : ControlTable) (set_to : C → ℕ → Option Val) (rows : List (Row C)) (i : ℕ) where
   abbrev before_in : Option (Row C) → ℕ → Option Val
-  before_in o n = cond (is_absent (state_seen o)) None (option_and_then (λ c. set_to c n) (columns_seen o))
+  before_in o n = cond (is_absent (state_seen o)) (t.rules.first (i ∷ []) n) (option_and_then (λ c. set_to c n) (columns_seen o))
 
-  -- what the columns of a row were set to before a Set, if there is the row
-  pub set_held : AreControlRows rows → (row : Row C) → Some row ≡ row_in rows i → (n : ℕ) → set_to row.columns n ≡ set_before (rows_before set_to rows) (i ∷ []) n
+  -- what the columns of a row were set to before a Set, and what they are set to at first
+  pub set_held : AreControlRows rows → (row : Row C) → Some row ≡ row_in rows i → (n : ℕ) → set_to row.columns n ≡ set_before t (rows_before set_to rows) (i ∷ []) n
   set_held held row here n =
-      sym (ap (λ b. cond b None (set_to row.columns n)) (row_there rows i row held (sym here))) ∙ ap (λ o. before_in o n) here
+      sym (ap (λ b. cond b (t.rules.first (i ∷ []) n) (set_to row.columns n)) (row_there rows i row held (sym here))) ∙ ap (λ o. before_in o n) here
 
-  pub set_not_held : None ≡ row_in rows i → (n : ℕ) → ◌≡◌ {A = Option Val} None (set_before (rows_before set_to rows) (i ∷ []) n)
+  pub set_not_held : None ≡ row_in rows i → (n : ℕ) → t.rules.first (i ∷ []) n ≡ set_before t (rows_before set_to rows) (i ∷ []) n
   set_not_held none n = ap (λ o. before_in o n) none

@@ -53,9 +53,9 @@ not_both true true x o h e = cc
 not_both true false x o h e = refl
 not_both false b x o h e = cc
 
-module _ {C : Type 0} (t : ControlTable) (with_column : C → ℕ → Val → C) (blank : C) (bs : Bindings) (init : List (Row C)) where
+module _ {C : Type 0} (t : ControlTable) (with_column : C → ℕ → Val → C) (blank : ℕ → C) (bs : Bindings) (init : List (Row C)) where
   abbrev made : ℕ → Row C
-  made i = record { index = i; state = next_state (set_ask t bs (i ∷ [])) Absent; columns = blank }
+  made i = record { index = i; state = next_state (set_ask t bs (i ∷ [])) Absent; columns = blank i }
 
   again_none : (rows : List (Row C)) (k i : ℕ) → ((j : ℕ) → row_in rows j ≡ made_first t with_column blank bs init k j) → place_of t.entry (name_at bs k) ≡ Cell t.status i → is_made Absent (set_ask t bs (i ∷ [])) ≡ true → row_in rows i ≡ None → (row_in init i ≡ None) × (is_again bs k ≡ false)
   again_none rows k i makes here asks gone =
@@ -97,7 +97,7 @@ module _ {C : Type 0} (t : ControlTable) (with_column : C → ℕ → Val → C)
       rw (add-one k) (omega (arith, now, is, few))
 
   -- so there is room for the row that the binding at a place makes
-  pub room_at : (set_to : C → ℕ → Option Val) → AreControlRows init → ((j : ℕ) → j < length bs → first_pass t bs j ≡ None) → (rows : List (Row C)) (k i : ℕ) → k < length bs → ((j : ℕ) → row_in rows j ≡ made_first t with_column blank bs init k j) → length rows ≤ length init + count_made t (state_in init) bs k → second_pass t (rows_before set_to init) bs k ≡ None → is_cell t.status i (place_of t.entry (name_at bs k)) ≡ true → is_made Absent (set_ask t bs (i ∷ [])) ≡ true → row_in rows i ≡ None → length rows < 16
+  pub room_at : (set_to : C → ℕ → Option Val) → AreControlRows init → ((j : ℕ) → j < length bs → first_pass t bs j ≡ None) → (rows : List (Row C)) (k i : ℕ) → k < length bs → ((j : ℕ) → row_in rows j ≡ made_first t with_column blank bs init k j) → length rows ≤ length init + count_made t (state_in init) bs k → second_pass t (rows_before set_to init) bs k ≡ None → is_cell t.status i (place_of t.entry (name_at bs k)) ≡ true → is_made Absent (set_ask t bs (i ∷ [])) ≡ true → row_in rows i ≡ None → length rows < t.most
   room_at set_to ordered alone rows k i lt makes few fine is asks gone =
       let before = rows_before set_to init in
       let place = cell_of t.status i (place_of t.entry (name_at bs k)) is in
@@ -105,7 +105,7 @@ module _ {C : Type 0} (t : ControlTable) (with_column : C → ℕ → Val → C)
       let making : is_made (state_in init i) (set_ask t bs (i ∷ [])) ≡ true = ap (λ o. is_made (state_seen o) (set_ask t bs (i ∷ []))) both.0 ∙ asks in
       let here : together_fault t before bs k (Cell t.status i) ≡ None = ap (together_fault t before bs k) (sym place) ∙ fine in
       let ok : is_crowded t before bs ≡ false = not_both (is_made (state_in init i) (set_ask t bs (i ∷ []))) (is_crowded t before bs) _ _ here making in
-      let bound = lt_no 16 (length init + count_made t (state_in init) bs (length bs)) (sym (crowded_is t set_to bs init ordered alone) ∙ ok) in
+      let bound = lt_no t.most (length init + count_made t (state_in init) bs (length bs)) (sym (crowded_is t set_to bs init ordered alone) ∙ ok) in
       let one : made_by t (state_in init) bs (is_again bs k) (place_of t.entry (name_at bs k)) ≡ 1 =
       ap (made_by t (state_in init) bs (is_again bs k)) place ∙ ap (λ e. cond (e && (not (is_again bs k) && is_made (state_in init i) (set_ask t bs (i ∷ [])))) 1 0) (eq_itself t.status) ∙ made_one k i both.0 both.1 asks in
       let next = grows t (state_in init) bs (suc k) (length bs) lt in

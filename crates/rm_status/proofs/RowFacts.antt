@@ -24,6 +24,10 @@ valid_there Absent h = cc
 valid_there UnderCreation h = refl
 valid_there Valid h = refl
 
+pub valid_is : (s : State) → is_valid s ≡ true → s ≡ Valid
+valid_is Valid h = refl
+valid_is s h = cc
+
 module _ {C : Type 0} where
   pub found_there : (rows : List (Row C)) (i : ℕ) (row : Row C) → AllThere rows → row_in rows i ≡ Some row → (is_row_number i ≡ true) × (is_absent row.state ≡ false)
   found_there [] i row there e = absurd (cc)

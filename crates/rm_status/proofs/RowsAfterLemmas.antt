@@ -19,7 +19,7 @@ use Rattle.rm_model.specs.Judgement.{Bindings, place_of, place_behind, value_fau
 use Rattle.rm_model.specs.Alike.{HasSameColumns}
 use Rattle.rm_model.proofs.Tables.{behind_front}
 use Rattle.rm_status.specs.declared.row.Row.{Row}
-use Rattle.rm_status.specs.Rows.{row_in, state_seen, columns_seen, state_in, columns_in, AreControlRows}
+use Rattle.rm_status.specs.Rows.{row_in, row_number, rows_before, state_seen, columns_seen, state_in, columns_in, AreControlRows}
 use Rattle.rm_status.specs.Change.{changed_row}
 use Rattle.rm_status.specs.Commit.{put_at, put_all, row_after}
 use Rattle.rm_status.specs.Indexes.{is_index_in}
@@ -86,6 +86,12 @@ module _ {C : Type 0} (t : ControlTable) (beginning : Beginning) (set_to : C →
 
   -- a change of the rows' other data leaves what their columns were set to
   module _ (change : ℕ → State → C → C) (keeps : (index : ℕ) (state : State) (columns : C) (n : ℕ) → set_to (change index state columns) n ≡ set_to columns n) (rows new : List (Row C)) (changed : (i : ℕ) → row_in new i ≡ option_map (changed_row change) (row_in rows i)) where
+    pub same_before : rows_before set_to new ≡ rows_before set_to rows
+    same_before = λ d. record {
+      state = λ index. (ap state_seen (changed (row_number index)) ∙ state_kept change (row_in rows (row_number index))) d;
+      set = λ index column. (ap (λ o. option_and_then (λ c. set_to c column) (columns_seen o)) (changed (row_number index)) ∙ set_kept set_to change keeps (row_in rows (row_number index)) column) d;
+    }
+
     pub rows_changed : (journal : Journal) → AreRowsAfter t beginning set_to rows journal → AreRowsAfter t beginning set_to new journal
     rows_changed journal is = record {
       alike = record {
@@ -105,9 +111,9 @@ module _ {C : Type 0} (t : ControlTable) (beginning : Beginning) (set_to : C →
   is_row_after rows journal held is (n ∷ m ∷ more) = ap (λ s. not (is_absent s)) (is.others (n ∷ m ∷ more) refl)
 
   -- a Set with which nothing is wrong
-  module _ (with_column : C → ℕ → Val → C) (blank : C)
+  module _ (with_column : C → ℕ → Val → C) (blank : ℕ → C)
       (set_with : (c : C) (n m : ℕ) (v : Val) → value_fault (column_kind t n) v ≡ None → set_to (with_column c n v) m ≡ cond (nat_eq n m) (Some v) (set_to c m))
-      (blank_alike : HasSameColumns t (set_to blank) (λ column. None))
+      (blank_alike : (i : ℕ) → HasSameColumns t (set_to (blank i)) (t.rules.first (i ∷ [])))
       (sound : is_sound t ≡ true)
       (journal : Journal) (moment : ℕ) (bs : Bindings) (values : Assignments)
       (gives : (name : List ℕ) → value_given values name ≡ value_given bs name)
@@ -153,7 +159,7 @@ frames_sampled t beginning unsampled journal moment alarm reading index =
     by_state false e = ap frames_in (sym (since_idle t beginning journal index e))
 
 -- other data of a row stays where each column leaves it
-module _ {C D : Type 0} (t : ControlTable) (with_column : C → ℕ → Val → C) (blank : C) (other : C → D) (leaves : (c : C) (n : ℕ) (v : Val) → other (with_column c n v) ≡ other c) where
+module _ {C D : Type 0} (t : ControlTable) (with_column : C → ℕ → Val → C) (blank : ℕ → C) (other : C → D) (leaves : (c : C) (n : ℕ) (v : Val) → other (with_column c n v) ≡ other c) where
   put_leaves : (i : ℕ) (p : Place) (v : Val) (c : C) → other (put_at t with_column blank i p v c) ≡ other c
   put_leaves i Outside v c = refl
   put_leaves i Entry v c = refl
@@ -169,11 +175,11 @@ module _ {C D : Type 0} (t : ControlTable) (with_column : C → ℕ → Val → 
   all_leave (b ∷ more) i c = put_leaves i (place_of t.entry b.name) b.value (put_all t with_column blank more i c) ∙ all_leave more i c
 
 -- a row that is there after a Set has its next state and the bindings in its columns
-pub is_after : {C : Type 0} (t : ControlTable) (with_column : C → ℕ → Val → C) (blank : C) (bs : Bindings) (i : ℕ) (o : Option (Row C)) (row : Row C) → row_after t with_column blank bs i o ≡ Some row
-    → (row.state ≡ next_state (set_ask t bs (i ∷ [])) (state_seen o)) × (row.columns ≡ put_all t with_column blank bs i (unwrap_or (columns_seen o) blank))
+pub is_after : {C : Type 0} (t : ControlTable) (with_column : C → ℕ → Val → C) (blank : ℕ → C) (bs : Bindings) (i : ℕ) (o : Option (Row C)) (row : Row C) → row_after t with_column blank bs i o ≡ Some row
+    → (row.state ≡ next_state (set_ask t bs (i ∷ [])) (state_seen o)) × (row.columns ≡ put_all t with_column blank bs i (unwrap_or (columns_seen o) (blank i)))
 is_after {C} t with_column blank bs i o row is =
     let next : State = next_state (set_ask t bs (i ∷ [])) (state_seen o) in
-    let made : Row C = record { index = i; state = next; columns = put_all t with_column blank bs i (unwrap_or (columns_seen o) blank) } in
+    let made : Row C = record { index = i; state = next; columns = put_all t with_column blank bs i (unwrap_or (columns_seen o) (blank i)) } in
     let same : made ≡ row = there made (is_absent next) is in
     (ap (λ r. r.state) (sym same), ap (λ r. r.columns) (sym same))
   where

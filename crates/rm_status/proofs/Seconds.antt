@@ -12,11 +12,11 @@ module _ (t : ControlTable) (before : Beginning) (bs : Bindings) (k column row :
   pub second_is : (state : State) (a : Ask) (ready crowded again : Bool)
       → state ≡ before.state (row ∷ []) → a ≡ set_ask t bs (row ∷ []) → ready ≡ is_ready_with t before bs (row ∷ [])
       → crowded ≡ is_crowded t before bs → again ≡ is_again bs k
-      → row_fault t state a ready crowded again column ≡ second_pass t before bs k
+      → row_fault t (row ∷ []) state a ready crowded again column ≡ second_pass t before bs k
   second_is state a ready crowded again states asks readies crowds agains =
-      ap (λ s. row_fault t s a ready crowded again column) states
-      ∙ ap (λ x. row_fault t (before.state (row ∷ [])) x ready crowded again column) asks
-      ∙ ap (λ b. row_fault t (before.state (row ∷ [])) (set_ask t bs (row ∷ [])) b crowded again column) readies
-      ∙ ap (λ b. row_fault t (before.state (row ∷ [])) (set_ask t bs (row ∷ [])) (is_ready_with t before bs (row ∷ [])) b again column) crowds
-      ∙ ap (λ b. row_fault t (before.state (row ∷ [])) (set_ask t bs (row ∷ [])) (is_ready_with t before bs (row ∷ [])) (is_crowded t before bs) b column) agains
+      ap (λ s. row_fault t (row ∷ []) s a ready crowded again column) states
+      ∙ ap (λ x. row_fault t (row ∷ []) (before.state (row ∷ [])) x ready crowded again column) asks
+      ∙ ap (λ b. row_fault t (row ∷ []) (before.state (row ∷ [])) (set_ask t bs (row ∷ [])) b crowded again column) readies
+      ∙ ap (λ b. row_fault t (row ∷ []) (before.state (row ∷ [])) (set_ask t bs (row ∷ [])) (is_ready_with t before bs (row ∷ [])) b again column) crowds
+      ∙ ap (λ b. row_fault t (row ∷ []) (before.state (row ∷ [])) (set_ask t bs (row ∷ [])) (is_ready_with t before bs (row ∷ [])) (is_crowded t before bs) b column) agains
       ∙ ap (together_fault t before bs k) (sym cell ∙ at)

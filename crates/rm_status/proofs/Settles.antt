@@ -12,7 +12,7 @@ use Rattle.rm_status.specs.Rows.{IsThere}
 use Rattle.rm_status.specs.Commit.{settle_row, if_there}
 use Rattle.rm_status.proofs.RowEdits.{Keeps}
 
-module _ {C : Type 0} (t : ControlTable) (with_column : C → ℕ → Val → C) (blank : C) where
+module _ {C : Type 0} (t : ControlTable) (with_column : C → ℕ → Val → C) (blank : ℕ → C) where
   not_absent : (s : State) (r : Row C) → (s ≡ Absent → ⊥) → if_there t with_column blank (record r { state = s }) ≡ Some (record r { state = s })
   not_absent Absent r h = absurd (h refl)
   not_absent UnderCreation r h = refl

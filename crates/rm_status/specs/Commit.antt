@@ -34,7 +34,7 @@ count_made table state bindings zero = 0
 count_made table state bindings (suc k) =
     count_made table state bindings k + made_by table state bindings (is_again bindings k) (place_of table.entry (name_at bindings k))
 
-module _ {C : Type 0} (table : ControlTable) (with_column : C → ℕ → Val → C) (blank : C) where
+module _ {C : Type 0} (table : ControlTable) (with_column : C → ℕ → Val → C) (blank : ℕ → C) where
   -- the columns of a row with a binding in them, by where its name stands
   abbrev pub put_at : ℕ → Place → Val → C → C
   put_at i (Cell column row) value columns =
@@ -50,19 +50,19 @@ module _ {C : Type 0} (table : ControlTable) (with_column : C → ℕ → Val �
   abbrev pub if_there : Row C → Option (Row C)
   if_there row = if is_absent row.state then None else Some row
 
-  -- what becomes of a row by a Set: its state is the next one, and its columns, which are blank at first, have the bindings in them
+  -- what becomes of a row by a Set: its state is the next one, and its columns, which are those of a new row at first, have the bindings in them
   abbrev pub row_after : Bindings → ℕ → Option (Row C) → Option (Row C)
   row_after bindings i row = if_there (record {
     index = i;
     state = next_state (set_ask table bindings (i ∷ [])) (state_seen row);
-    columns = put_all bindings i (unwrap_or (columns_seen row) blank);
+    columns = put_all bindings i (unwrap_or (columns_seen row) (blank i));
   })
 
   -- the row that a Set makes, before its bindings are in it
   abbrev pub made_row : Bindings → ℕ → Option (Row C)
   made_row bindings i =
       if is_made Absent (set_ask table bindings (i ∷ []))
-      then Some (record { index = i; state = next_state (set_ask table bindings (i ∷ [])) Absent; columns = blank })
+      then Some (record { index = i; state = next_state (set_ask table bindings (i ∷ [])) Absent; columns = blank i })
       else None
 
   -- how many rows the binding at a place makes among rows, one or none

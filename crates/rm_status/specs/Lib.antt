@@ -12,3 +12,4 @@ pub mod Field
 pub mod Kinds
 pub mod SheetLaws
 pub mod KeptCells
+pub mod RowForm

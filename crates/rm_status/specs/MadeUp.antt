@@ -1,12 +1,13 @@
--- A made-up control table, for the tests, with either kind of status: a row needs column 2, column 4 may always be set, and the status is
--- column 7.
-use Rattle.std.specs.Prelude.{◌≡◌, ℕ, ℤ, pos, List, [], ◌∷◌, true, false, cond, Option, Some, None, refl, nat_eq}
+-- Made-up control tables, for the tests: a row needs column 2, column 4 may always be set, and the status is column 7. One has an
+-- EntryStatus and rows that are all alike, the other a RowStatus and rules.
+use Rattle.std.specs.Prelude.{◌≡◌, ℕ, ℤ, pos, List, [], ◌∷◌, Bool, true, false, ◌&&◌, cond, if◌then◌else◌, Option, Some, None, refl, nat_eq}
 use Rattle.std.proofs.Common.{subst}
 use Rattle.std.specs.Option.{option_map}
 use borrow.Author.Tests.{eqb-true}
 use Rattle.rm_val.specs.Val.{Val, int}
 use Rattle.rm_model.specs.declared.row.StatusKind.{StatusKind}
-use Rattle.rm_model.specs.ControlTable.{Range, number, ControlTable}
+use Rattle.rm_model.specs.declared.row.StatusKind.TheVariants.{EntryStatus, RowStatus}
+use Rattle.rm_model.specs.ControlTable.{Range, number, RowRules, no_rules, ControlTable}
 use Rattle.rm_model.specs.Alike.{HasSameColumns}
 use Rattle.rm_model.specs.Judgement.{column_kind, value_fault}
 use Rattle.rm_status.specs.Taken.{number_in, number_taken}
@@ -14,19 +15,45 @@ use Rattle.rm_status.specs.Taken.{number_in, number_taken}
 abbrev up_to : ℕ → List Range
 up_to most = record { least = pos 1; greatest = pos most } ∷ []
 
-abbrev pub table : StatusKind → ControlTable
-table kind = record {
+abbrev pub table : StatusKind → ℕ → RowRules → ControlTable
+table kind most rules = record {
   entry = 1 ∷ 3 ∷ 6 ∷ 1 ∷ 4 ∷ 1 ∷ 9 ∷ 5 ∷ [];
   status = 7;
   status_kind = kind;
+  most = most;
   columns =
       record { number = 2; kind = number (up_to 9); always = false; needed = true; default = int (pos 0) }
       ∷ record { number = 3; kind = number (up_to 3600); always = false; needed = false; default = int (pos 1800) }
       ∷ record { number = 4; kind = number (up_to 100); always = true; needed = false; default = int (pos 100) }
       ∷ [];
   go_together = λ value. true;
+  rules = rules;
   is_sampled = false;
 }
+
+abbrev pub plain : ControlTable
+plain = table EntryStatus 16 no_rules
+
+-- whether an index is that one number
+abbrev pub is_row : ℕ → List ℕ → Bool
+is_row row (n ∷ []) = nat_eq n row
+is_row row [] = false
+is_row row (n ∷ next ∷ more) = false
+
+-- what column 2 is at first
+abbrev pub second_at_first : List ℕ → Option ℤ
+second_at_first index = if is_row 6 index then Some (pos 5) else None
+
+-- In row 6 column 2 is 5 at first, and can never be set. Row 7 stays.
+abbrev pub rules : RowRules
+rules = record {
+  first = λ index column. if nat_eq column 2 then option_map int (second_at_first index) else None;
+  is_fixed = λ index column. is_row 6 index && nat_eq column 2;
+  stays = λ index. is_row 7 index;
+}
+
+abbrev pub ruled : ControlTable
+ruled = table RowStatus 4 rules
 
 -- what the columns were set to, by the number in each
 abbrev pub set_to : Option ℤ → Option ℤ → Option ℤ → ℕ → Option Val
@@ -37,8 +64,17 @@ set_to second third fourth n =
 abbrev pub with_value : ℕ → ℕ → Val → Option ℤ → Option ℤ
 with_value column n value old = cond (nat_eq column n) (number_in value) old
 
-pub blank_alike : (kind : StatusKind) → HasSameColumns (table kind) (set_to None None None) (λ column. None)
-blank_alike kind = (
+pub blank_alike : HasSameColumns plain (set_to None None None) (λ column. None)
+blank_alike = (
+  record { shown = refl; needed = λ _. refl },
+  (
+    record { shown = refl; needed = λ _. refl },
+    (record { shown = refl; needed = λ _. refl }, tt),
+  ),
+)
+
+pub ruled_alike : (row : ℕ) → HasSameColumns ruled (set_to (second_at_first (row ∷ [])) None None) (rules.first (row ∷ []))
+ruled_alike row = (
   record { shown = refl; needed = λ _. refl },
   (
     record { shown = refl; needed = λ _. refl },
@@ -68,23 +104,23 @@ module _ (second third fourth : Option ℤ) (value : Val) (m : ℕ) (taken : opt
     | false ↦ λ _. refl
   ] refl
 
-abbrev Sets : StatusKind → Option ℤ → Option ℤ → Option ℤ → ℕ → Val → ℕ → Type 0
-Sets kind second third fourth m value n =
-    value_fault (column_kind (table kind) n) value ≡ None
+abbrev Sets : Option ℤ → Option ℤ → Option ℤ → ℕ → Val → ℕ → Type 0
+Sets second third fourth m value n =
+    value_fault (column_kind plain n) value ≡ None
     → set_to (with_value 2 n value second) (with_value 3 n value third) (with_value 4 n value fourth) m ≡ cond (nat_eq n m) (Some value) (set_to second third fourth m)
 
-pub set_with : (kind : StatusKind) (second third fourth : Option ℤ) (n m : ℕ) (value : Val) → Sets kind second third fourth m value n
-set_with kind second third fourth n m value =
-    elim (nat_eq 2 n) as (λ t. nat_eq 2 n ≡ t → Sets kind second third fourth m value n) [
-      | true ↦ λ e. subst (Sets kind second third fourth m value) (eqb-true 2 n e) (λ fine. two second third fourth value m (number_taken (up_to 9) value fine))
-      | false ↦ λ two_no. elim (nat_eq 3 n) as (λ t. nat_eq 3 n ≡ t → Sets kind second third fourth m value n) [
-        | true ↦ λ e. subst (Sets kind second third fourth m value) (eqb-true 3 n e) (λ fine. three second third fourth value m (number_taken (up_to 3600) value fine))
-        | false ↦ λ three_no. elim (nat_eq 4 n) as (λ t. nat_eq 4 n ≡ t → Sets kind second third fourth m value n) [
-          | true ↦ λ e. subst (Sets kind second third fourth m value) (eqb-true 4 n e) (λ fine. four second third fourth value m (number_taken (up_to 100) value fine))
+pub set_with : (second third fourth : Option ℤ) (n m : ℕ) (value : Val) → Sets second third fourth m value n
+set_with second third fourth n m value =
+    elim (nat_eq 2 n) as (λ t. nat_eq 2 n ≡ t → Sets second third fourth m value n) [
+      | true ↦ λ e. subst (Sets second third fourth m value) (eqb-true 2 n e) (λ fine. two second third fourth value m (number_taken (up_to 9) value fine))
+      | false ↦ λ two_no. elim (nat_eq 3 n) as (λ t. nat_eq 3 n ≡ t → Sets second third fourth m value n) [
+        | true ↦ λ e. subst (Sets second third fourth m value) (eqb-true 3 n e) (λ fine. three second third fourth value m (number_taken (up_to 3600) value fine))
+        | false ↦ λ three_no. elim (nat_eq 4 n) as (λ t. nat_eq 4 n ≡ t → Sets second third fourth m value n) [
+          | true ↦ λ e. subst (Sets second third fourth m value) (eqb-true 4 n e) (λ fine. four second third fourth value m (number_taken (up_to 100) value fine))
           | false ↦ λ four_no fine. absurd (no_column two_no three_no four_no fine)
         ] refl
       ] refl
     ] refl
   where
-    no_column : nat_eq 2 n ≡ false → nat_eq 3 n ≡ false → nat_eq 4 n ≡ false → value_fault (column_kind (table kind) n) value ≡ None → ⊥
+    no_column : nat_eq 2 n ≡ false → nat_eq 3 n ≡ false → nat_eq 4 n ≡ false → value_fault (column_kind plain n) value ≡ None → ⊥
     no_column two_no three_no four_no fine = let same = rw (two_no, three_no, four_no) at fine in cc

@@ -1,5 +1,5 @@
 // The columns of a control row.
-ghost use Rattle.std.specs.Prelude.{◌≡◌, ℕ, Option, Some, None, true, IsTrue, IfSome, nat_eq, if◌then◌else◌};
+ghost use Rattle.std.specs.Prelude.{◌≡◌, ℕ, ◌≤◌, [], ◌∷◌, Option, Some, None, true, IsTrue, IfSome, nat_eq, if◌then◌else◌};
 ghost use Rattle.std.specs.Option.{option_map};
 ghost use Rattle.rm_val.specs.Val.{Val, val_of};
 ghost use Rattle.rm_val.specs.Spellable.{HasSpelling};
@@ -22,8 +22,8 @@ pub trait Columns: Default + Drop {
     /// What each writable column was set to. One that has a default may count as set to it from the beginning.
     ghost set_to: { Self → ℕ → Option Val };
 
-    /// The columns of a new row.
-    ghost blank_row: { Self };
+    /// The columns of a new row, by its index.
+    ghost blank_row: { ℕ → Self };
 
     /// These columns with one of them set.
     ghost with_column: { Self → ℕ → Val → Self };
@@ -35,9 +35,22 @@ pub trait Columns: Default + Drop {
     fn sheet() -> &'static [ColumnSheet]
         ensures { columns_of result.now ≡ table.columns };
 
+    /// How many rows there are at most. There is room for 32.
+    fn most() -> usize
+        ensures value { result ≡ table.most }
+        ensures room { result ≤ 32 };
+
+    /// Whether a column of a row can never be set.
+    fn is_fixed(index: u32, column: u32) -> bool
+        ensures { result ≡ table.rules.is_fixed (index ∷ []) column };
+
+    /// Whether a row was there from the beginning and stays.
+    fn stays(index: u32) -> bool
+        ensures { result ≡ table.rules.stays (index ∷ []) };
+
     /// The columns of a new row.
-    fn blank() -> Self
-        ensures { result ≡ blank_row };
+    fn blank(index: u32) -> Self
+        ensures { result ≡ blank_row index };
 
     /// Sets a column to a value that it takes.
     fn put(&mut self, column: u32, value: &Value<'_>)
@@ -58,11 +71,11 @@ pub trait Columns: Default + Drop {
     fn bare(&self) -> Self
         ensures { (n : ℕ) → set_to result n ≡ set_to self.now n };
 
-    /// The default of the type is the columns of a new row.
-    ghost default_is_blank: { (columns : Self) → Self.Default.is_default columns → columns ≡ blank_row };
+    /// The default of the type is the columns of a new row, with the index 0, which is no row's.
+    ghost default_is_blank: { (columns : Self) → Self.Default.is_default columns → columns ≡ blank_row 0 };
 
-    /// A blank column shows its default, and isn't set where a row needs it.
-    ghost blank_alike: { HasSameColumns table (set_to blank_row) (λ column. None) };
+    /// A column of a new row shows what it is set to at first, or its default; and isn't set where a row needs it and it isn't at first.
+    ghost blank_alike: { (index : ℕ) → HasSameColumns table (set_to (blank_row index)) (table.rules.first (index ∷ [])) };
 
     /// A column that is set has the value that it was set to, and the others have theirs.
     ghost set_with: { (columns : Self) (n other : ℕ) (value : Val) → value_fault (column_kind table n) value ≡ None

@@ -1,5 +1,6 @@
 // The rows of a control table.
 mod after;
+mod cells;
 mod commit;
 mod each;
 mod judge;
@@ -21,13 +22,13 @@ use arrayvec::ArrayVec;
 use rm_model::{State, StatusKind};
 use std::marker::Model;
 
-/// How many rows a control table has at most.
-pub const MAX_ROWS: usize = 16;
+/// For how many rows of a control table there is room.
+pub const MAX_ROWS: usize = 32;
 
 /// The greatest index that a row of a control table may have.
 pub(crate) const MAX_INDEX: u32 = 65535;
 
-/// The rows of a control table, at most 16, in order of their indexes.
+/// The rows of a control table, in order of their indexes.
 #[derive(Drop)]
 pub struct Controls<C: Columns> {
     rows: ArrayVec<Row<C>, MAX_ROWS>,
@@ -58,10 +59,10 @@ impl<C: Columns> Controls<C> {
         }
     }
 
-    /// How many rows there are, at most 16.
+    /// How many rows there are, for which there is room.
     pub fn len(&self) -> usize
         ensures value { result ≡ length self.now }
-        ensures most { result ≤ 16 }
+        ensures most { result ≤ 32 }
         ensures rows { AreControlRows self.now }
         ensures counted { result ≡ count_below (λ row. is_some (row_in self.now row)) 65536 }
     {
@@ -124,10 +125,11 @@ impl<C: Columns> Controls<C> {
         requires index { IsTrue (is_row_number index) }
         requires there { is_absent state ≡ false }
         requires absent { row_in self.old index ≡ None }
-        requires room { length self.old < 16 }
+        requires room { length self.old < C.table.most }
         ensures rows { let x : Row C = record { index = index; state = state; columns = columns } in (i : ℕ) → row_in self.new i ≡ (if nat_eq index i then Some x else row_in self.old i) }
         ensures one_more { length self.new ≡ length self.old + 1 }
     {
+        prove!(C::most() <= MAX_ROWS);
         let place = self.place_above(index);
         let row = Row {
             index,

@@ -1,16 +1,20 @@
 // What a Set gives to a row of a control table.
-ghost use Rattle.std.specs.Prelude.{◌≡◌, ◌<◌, ◌∷◌, [], length, None};
+ghost use Rattle.std.specs.Prelude.{◌≡◌, ◌<◌, ◌∷◌, [], length, None, not};
+ghost use Rattle.std.specs.Option.{option_or};
 ghost use Rattle.rm_val.specs.Val.{val_of};
 ghost use Rattle.rm_val.specs.Spellable.{HasSpelling};
+ghost use Rattle.rm_val.specs.declared.error.ErrorStatus.TheVariants.{InconsistentValue};
 ghost use Rattle.rm_model.specs.ControlRows.{set_ask};
-ghost use Rattle.rm_model.specs.Judgement.{IsFirstFault, place_of, writable_kind, value_fault, alone_fault, first_pass, is_again, row_fault};
+ghost use Rattle.rm_model.specs.Judgement.{IsFirstFault, place_of, writable_kind, value_fault, alone_fault, first_pass, is_again, row_fault, unless};
 ghost use Rattle.rm_status.specs.Commit.{put_at, put_all};
 
 use crate::columns::Columns;
 use crate::controls::MAX_INDEX;
 use crate::place::{is_cell, place_under};
 use crate::sheet::{check, may_always};
-use crate::steps::{column_fault, is_made, status_fault, status_value_fault, value_ask};
+use crate::steps::{
+    column_fault, fixed_fault, is_made, status_or_staying_fault, status_value_fault, value_ask,
+};
 use rm_group::{Assigns, wrong_at};
 use rm_model::{Ask, Place, State, StatusKind, Verdict};
 use rm_val::{ErrorStatus, Oid, Value};
@@ -128,11 +132,12 @@ pub(crate) fn judge_alone<C: Columns, A: Assigns>(
     Verdict::Fine
 }
 
-/// What is wrong with the binding of a column of a row, where the Set makes too many rows or not, and where an earlier
-/// binding names the same variable or not.
+/// What is wrong with the binding of a column of a row. `crowded` says that the Set makes too many rows, and `again` that an
+/// earlier binding names the same variable.
 pub(crate) fn row_fault<C: Columns>(
     kind: StatusKind,
     status: u32,
+    row: u32,
     state: State,
     asked: Ask,
     ready: bool,
@@ -142,16 +147,23 @@ pub(crate) fn row_fault<C: Columns>(
 ) -> Option<ErrorStatus>
     requires kind { kind ≡ C.table.status_kind }
     requires status { status ≡ C.table.status }
-    ensures { result ≡ row_fault C.table state asked ready crowded again column }
+    ensures { result ≡ row_fault C.table (row ∷ []) state asked ready crowded again column }
 {
     if is_made(state, asked) && crowded {
         return Some(ErrorStatus::InconsistentName);
     }
     let fault = if column == status {
-        status_fault(kind, state, asked, ready)
+        status_or_staying_fault(kind, C::stays(row), state, asked, ready)
     } else {
         column_fault(state, asked, may_always::<C>(column))
     };
+    fixed_fault(C::is_fixed(row, column), or_again(fault, again))
+}
+
+// What is wrong with a binding, also where an earlier one names the same variable.
+fn or_again(fault: Option<ErrorStatus>, again: bool) -> Option<ErrorStatus>
+    ensures { result ≡ option_or fault (unless (not again) InconsistentValue) }
+{
     match fault {
         Some(fault) => Some(fault),
         None => {

@@ -4,10 +4,14 @@
 
 mod change;
 mod columns;
+mod control_row;
+mod control_sheet;
 mod controls;
 mod given;
 mod indexes;
 mod interface;
+mod numbered;
+mod other_columns;
 mod place;
 mod row;
 mod sheet;
@@ -18,8 +22,12 @@ mod values;
 
 pub use change::Change;
 pub use columns::Columns;
+pub use control_row::ControlRow;
+pub use control_sheet::ControlSheet;
 pub use controls::{Controls, MAX_ROWS};
 pub use interface::{interface_name, source};
+pub use numbered::Numbered;
+pub use other_columns::OtherColumns;
 pub use place::place_under;
 pub use rm_model::INTERFACES;
 pub use row::{Row, status_number};

@@ -1,8 +1,9 @@
 // The steps of row status.
 ghost use Rattle.std.specs.Prelude.{◌≡◌, Some};
+ghost use Rattle.std.specs.Option.{option_or};
 ghost use Rattle.rm_val.specs.Val.{val_of};
 ghost use Rattle.rm_model.specs.ControlRows.{next_state, value_ask};
-ghost use Rattle.rm_model.specs.Judgement.{status_values, value_fault, is_made, status_fault, column_fault};
+ghost use Rattle.rm_model.specs.Judgement.{status_values, value_fault, is_made, status_fault, column_fault, staying_fault, fixed_fault};
 
 use rm_model::{Ask, State, StatusKind};
 use rm_val::{ErrorStatus, Value};
@@ -72,13 +73,8 @@ pub(crate) fn is_made(state: State, ask: Ask) -> bool
     }
 }
 
-/// What is wrong with the binding of a row's status.
-pub(crate) fn status_fault(
-    kind: StatusKind,
-    state: State,
-    ask: Ask,
-    ready: bool,
-) -> Option<ErrorStatus>
+// What is wrong with the binding of the status of a row that may go.
+fn status_fault(kind: StatusKind, state: State, ask: Ask, ready: bool) -> Option<ErrorStatus>
     ensures { result ≡ status_fault kind state ask ready }
 {
     match (state, ask) {
@@ -115,5 +111,45 @@ pub(crate) fn column_fault(state: State, ask: Ask, always: bool) -> Option<Error
                 Some(ErrorStatus::InconsistentValue)
             }
         }
+    }
+}
+
+/// What is wrong with the binding of a row's status, also of a row that was there from the beginning and stays.
+pub(crate) fn status_or_staying_fault(
+    kind: StatusKind,
+    stays: bool,
+    state: State,
+    ask: Ask,
+    ready: bool,
+) -> Option<ErrorStatus>
+    ensures { result ≡ option_or (staying_fault stays ask) (status_fault kind state ask ready) }
+{
+    match staying_fault(stays, ask) {
+        Some(fault) => Some(fault),
+        None => status_fault(kind, state, ask, ready),
+    }
+}
+
+// What is wrong with a status of a row that stays: any but that it is valid.
+fn staying_fault(stays: bool, ask: Ask) -> Option<ErrorStatus>
+    ensures { result ≡ staying_fault stays ask }
+{
+    if !stays {
+        return None;
+    }
+    match ask {
+        Ask::Nothing | Ask::Enable => None,
+        _ => Some(ErrorStatus::InconsistentValue),
+    }
+}
+
+/// What is wrong with a column that can never be set: that comes behind a row that isn't there, and before what its row doesn't take.
+pub(crate) fn fixed_fault(fixed: bool, fault: Option<ErrorStatus>) -> Option<ErrorStatus>
+    ensures { result ≡ fixed_fault fixed fault }
+{
+    if fixed && !matches!(fault, Some(ErrorStatus::InconsistentName)) {
+        Some(ErrorStatus::NotWritable)
+    } else {
+        fault
     }
 }

@@ -5,7 +5,7 @@ ghost use Rattle.rm_val.specs.Val.{int, octets, name, null};
 
 use crate::Watched;
 use arrayvec::ArrayVec;
-use rm_group::{Assigns, Group, Look, Readable};
+use rm_group::{Assigns, Commits, Group, Look, Readable};
 use rm_model::{Reading, Verdict};
 use rm_val::{ErrorStatus, Oid, Value};
 use std::alloc::Global;
@@ -133,16 +133,16 @@ impl Look for Unread {
 }
 
 /// Judges a Set at a moment, and does it where nothing is wrong. What is wrong, with the number of its binding, else.
-pub fn answer<G: Readable>(
+pub fn answer<G: Readable + Commits>(
     alloc: Global,
     group: &mut Watched<G>,
     columns: &[Given],
     now: u32,
 ) -> Option<(ErrorStatus, u32)>
-    requires clock { G.clock group.old.watched ≤ now }
-    requires stocked { G.stocked group.old.watched }
-    ensures clock { G.clock group.new.watched ≤ now }
-    ensures stocked { G.stocked group.new.watched }
+    requires clock { G.clock group.old.first ≤ now }
+    requires stocked { G.stocked group.old.first }
+    ensures clock { G.clock group.new.first ≤ now }
+    ensures stocked { G.stocked group.new.first }
 {
     let set = Set::of(columns);
     if let Verdict::Wrong { status, index } = group.judge_alone(&set) {

@@ -10,7 +10,7 @@ ghost use Rattle.rm_alarm.specs.MadeUp.{made_up_entry, made_up_table};
 
 use rm_acts::Firing;
 use rm_group::{
-    Assigns, Denied, Group, Look, OneRow, Passing, Readable, RowIndexes, Steps, Unsampled,
+    Assigns, Commits, Denied, Group, Look, OneRow, Passing, Readable, RowIndexes, Steps, Unsampled,
     instance_of, judge_read_only, next_name,
 };
 use rm_model::Verdict;
@@ -127,9 +127,11 @@ impl Group for Passed {
         Ok(())
     }
 
-    fn commit<A: Assigns>(&mut self, _set: &A, _now: u32) {}
-
     fn discard(&mut self) {}
+}
+
+impl Commits for Passed {
+    fn commit<A: Assigns>(&mut self, _set: &A, _now: u32) {}
 }
 
 impl Readable for Passed {

@@ -2,9 +2,9 @@
 use crate::Sampled::{Falling, Gone, Quiet, Rising};
 use crate::tests::given::{Given, answer, name_of, number, scalar};
 use crate::tests::passed::Passed;
-use crate::{Alarms, Sampled, Watched};
+use crate::{Alarms, Sampled, Watched, take_sample};
 use arrayvec::ArrayVec;
-use rm_group::{Due, FallsDue, Group, Readable, SAMPLES, Unsampled};
+use rm_group::{Both, Due, FallsDue, Group, Readable, SAMPLES, Unsampled};
 use rm_val::Value;
 use std::alloc::Global;
 use std::process::Abort;
@@ -38,9 +38,9 @@ fn with_alarm(
     columns: &[Given],
     moment: u32,
 ) -> Watched<Passed> {
-    let mut group = Watched {
-        watched,
-        alarms: Alarms::new(),
+    let mut group = Both {
+        first: watched,
+        second: Alarms::new(),
     };
     assert_eq!(rt;
         answer(alloc, &mut group, &[number(STATUS, 1, 2)], moment),
@@ -52,20 +52,20 @@ fn with_alarm(
 
 // Takes the next sample at its moment. The alarm, its moment in milliseconds and what the sample comes to.
 fn take_next<G: Readable + Unsampled>(group: &mut Watched<G>) -> Option<(u32, u32, Sampled)> {
-    let due = group.alarms.next_due()?;
+    let due = group.second.next_due()?;
     let moment = u32::try_from(due.moment).ok()?;
-    Some((due.number, moment, group.sample(due.number, moment)))
+    Some((due.number, moment, take_sample(group, due.number, moment)))
 }
 
 // Takes all samples that are due up to a moment. The alarm and the moment of each.
 fn take_all(group: &mut Watched<Passed>, latest: u32) -> ArrayVec<(u32, u32), 8> {
     let mut taken = ArrayVec::new();
-    while let Some(due) = group.alarms.next_due() {
+    while let Some(due) = group.second.next_due() {
         if due.moment > u64::from(latest) {
             break;
         }
         let moment = due.moment as u32;
-        group.sample(due.number, moment);
+        take_sample(group, due.number, moment);
         let _ = taken.try_push((due.number, moment));
     }
     taken
@@ -84,7 +84,7 @@ type Sample = (u32, u32, i32, Sampled);
 
 fn check_samples(rt: &impl Abort, group: &mut Watched<Passed>, samples: &[Sample]) {
     for &(moment, frames, value, expected) in samples {
-        group.watched.pass(frames);
+        group.first.pass(frames);
         let next = take_next(group);
         assert_eq!(rt; next, Some((1, moment, expected)), "{moment}");
         assert_eq!(rt; shown(group, 5), Some(value), "{moment}");
@@ -143,7 +143,7 @@ fn a_value_is_shown_saturated(rt: HostRuntime) -> Result<(), Fail> {
 fn differences_of_a_gauge(rt: HostRuntime) -> Result<(), Fail> {
     let columns = columns_between(2, 2, 10, -6);
     let mut group = with_alarm(&rt, rt.alloc(), Passed::gauge(10), &columns, 0);
-    group.watched.frames = 4;
+    group.first.frames = 4;
     assert_eq!(rt; take_next(&mut group), Some((1, 1000, Falling)));
     assert_eq!(rt; shown(&group, 5), Some(-6));
     Ok(())
@@ -153,7 +153,7 @@ fn differences_of_a_gauge(rt: HostRuntime) -> Result<(), Fail> {
 fn an_alarm_goes_with_its_variable(rt: HostRuntime) -> Result<(), Fail> {
     let mut group = with_alarm(&rt, rt.alloc(), Passed::counter(0), &columns(1, 1), 0);
     assert_eq!(rt; take_next(&mut group), Some((1, 1000, Quiet)));
-    group.watched.is_there = false;
+    group.first.is_there = false;
     assert_eq!(rt; shown(&group, STATUS), Some(1));
     assert_eq!(rt; take_next(&mut group), Some((1, 2000, Gone)));
     assert_eq!(rt; shown(&group, STATUS), None);
@@ -166,7 +166,7 @@ fn an_alarm_goes_with_its_variable(rt: HostRuntime) -> Result<(), Fail> {
 fn an_alarm_starts_anew(rt: HostRuntime) -> Result<(), Fail> {
     let mut group = with_alarm(&rt, rt.alloc(), Passed::counter(0), &columns(2, 1), 0);
     let alloc = rt.alloc();
-    group.watched.pass(20);
+    group.first.pass(20);
     assert_eq!(rt; take_next(&mut group), Some((1, 1000, Rising)));
     assert_eq!(rt;
         answer(alloc, &mut group, &[number(STATUS, 1, 3)], 1500),
@@ -174,12 +174,12 @@ fn an_alarm_starts_anew(rt: HostRuntime) -> Result<(), Fail> {
     );
     assert_eq!(rt; shown(&group, 5), Some(0));
     assert_eq!(rt; take_next(&mut group), None);
-    group.watched.pass(30);
+    group.first.pass(30);
     assert_eq!(rt;
         answer(alloc, &mut group, &[number(STATUS, 1, 1)], 1700),
         None
     );
-    group.watched.pass(10);
+    group.first.pass(10);
     assert_eq!(rt; take_next(&mut group), Some((1, 2700, Rising)));
     assert_eq!(rt; shown(&group, 5), Some(10));
     Ok(())
@@ -215,6 +215,6 @@ fn samples_in_order(rt: HostRuntime) -> Result<(), Fail> {
         kind: SAMPLES,
         number: 2,
     };
-    assert_eq!(rt; group.alarms.next_due(), Some(next));
+    assert_eq!(rt; group.second.next_due(), Some(next));
     Ok(())
 }

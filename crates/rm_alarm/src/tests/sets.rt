@@ -1,7 +1,7 @@
 // Sets of alarms: what each column takes, and when an alarm is ready (RFC 1757, section 5; RFC 1905, section 4.2.5).
 use crate::tests::given::{Given, answer, nothing, number, scalar, text};
 use crate::{Alarms, Watched};
-use rm_group::System;
+use rm_group::{Both, System};
 use rm_val::ErrorStatus::{
     self, InconsistentValue, NotWritable, WrongLength, WrongType, WrongValue,
 };
@@ -21,9 +21,9 @@ const SYS_UP_TIME: u32 = 3;
 
 // Alarm 1 under creation.
 fn under_creation(rt: &impl Abort, alloc: Global) -> Watched<System> {
-    let mut group = Watched {
-        watched: System,
-        alarms: Alarms::new(),
+    let mut group = Both {
+        first: System,
+        second: Alarms::new(),
     };
     assert_eq!(rt; answer(alloc, &mut group, &[number(STATUS, 1, 2)], 0), None);
     group

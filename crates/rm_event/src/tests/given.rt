@@ -6,7 +6,7 @@ ghost use Rattle.rm_event.specs.Group.{IsStocked};
 
 use crate::Events;
 use arrayvec::ArrayVec;
-use rm_group::{Assigns, Group, Look};
+use rm_group::{Assigns, Commits, Group, Look};
 use rm_model::{Reading, Verdict};
 use rm_val::{ErrorStatus, Oid, Value};
 use std::alloc::Global;

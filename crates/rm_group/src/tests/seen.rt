@@ -9,7 +9,8 @@ ghost use Rattle.rm_model.proofs.Finite.{one_row_finite};
 ghost use Rattle.std.proofs.lemmas.Bool.{and_parts};
 
 use crate::{
-    Assigns, Denied, Group, Look, OneRow, RowIndexes, instance_of, judge_read_only, next_name,
+    Assigns, Commits, Denied, Group, Look, OneRow, RowIndexes, instance_of, judge_read_only,
+    next_name,
 };
 use rm_model::Verdict;
 use rm_val::{Oid, Value};
@@ -120,9 +121,11 @@ impl Group for Seen {
         Ok(())
     }
 
-    fn commit<A: Assigns>(&mut self, _set: &A, _now: u32) {}
-
     fn discard(&mut self) {}
+}
+
+impl Commits for Seen {
+    fn commit<A: Assigns>(&mut self, _set: &A, _now: u32) {}
 }
 
 fn identifier() -> Oid

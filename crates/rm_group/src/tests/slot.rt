@@ -5,7 +5,7 @@ ghost use Rattle.rm_model.specs.Cells.{is_of_column};
 ghost use Rattle.rm_model.specs.Judgement.{unless};
 ghost use Rattle.std.proofs.lemmas.Float.{T_from_true};
 
-use crate::{Assigns, Denied, Group, Look, is_of_column};
+use crate::{Assigns, Commits, Denied, Group, Look, is_of_column};
 use rm_model::Verdict;
 use rm_val::{ErrorStatus, Oid, Value};
 use std::alloc::Global;
@@ -87,11 +87,13 @@ impl Group for Slot {
         Ok(())
     }
 
-    fn commit<A: Assigns>(&mut self, _set: &A, _now: u32) {
+    fn discard(&mut self) {
         self.held = false;
     }
+}
 
-    fn discard(&mut self) {
+impl Commits for Slot {
+    fn commit<A: Assigns>(&mut self, _set: &A, _now: u32) {
         self.held = false;
     }
 }

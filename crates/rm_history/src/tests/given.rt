@@ -5,7 +5,7 @@ ghost use Rattle.rm_history.specs.Group.{IsStocked, frames_given, last_given};
 
 use crate::History;
 use arrayvec::ArrayVec;
-use rm_group::{Assigns, Group, Look};
+use rm_group::{Assigns, Commits, Group, Look};
 use rm_model::{Reading, Verdict};
 use rm_val::{ErrorStatus, Oid, Value};
 use std::alloc::Global;

@@ -2,13 +2,13 @@
 ghost use Rattle.std.specs.Prelude.{◌≤◌};
 ghost use Rattle.rm_history.specs.ControlColumns.{AreInRange, AreAllInRange};
 
-use crate::control_cell::control_cell;
+use crate::control_cell::BucketsGranted;
 use crate::control_columns::ControlColumns;
 use crate::plan::Plan;
 use crate::run::Run;
 use rm_model::{State, StatusKind};
 use rm_pool::Part;
-use rm_status::{Columns, Controls};
+use rm_status::Controls;
 use rm_val::{Oid, Value};
 use std::process::Abort;
 use std::test::Fail;
@@ -81,7 +81,7 @@ fn columns_of(requested: u16, interval: u16) -> ControlColumns
     requires most_interval { interval ≤ 3600 }
     ensures { AreInRange result }
 {
-    let mut columns = ControlColumns::blank();
+    let mut columns = ControlColumns::default();
     columns.requested = requested;
     columns.interval = interval;
     columns
@@ -108,26 +108,27 @@ fn columns_of_the_control_table(rt: HostRuntime) -> Result<(), Fail> {
     let rows = three_rows();
     for (column, numbers) in NUMBERS {
         for (row, expected) in [7, 300, 65_535].into_iter().zip(numbers) {
-            match control_cell(&rows, &control_name(column, row)?) {
+            match rows.cell(&BucketsGranted, &control_name(column, row)?) {
                 Some(Value::Int(number)) => assert_eq!(rt; number, expected, "{column} {row}"),
                 _ => assert!(rt; false, "{column} {row}"),
             }
         }
     }
-    match control_cell(&rows, &control_name(2, 7)?) {
+    match rows.cell(&BucketsGranted, &control_name(2, 7)?) {
         Some(Value::Name(source)) => {
             let interface = Oid::from_slice(&[1, 3, 6, 1, 2, 1, 2, 2, 1, 1, 1])?;
             assert!(rt; source.compare(&interface).is_eq());
         }
         _ => assert!(rt; false),
     }
-    match control_cell(&rows, &control_name(6, 7)?) {
+    match rows.cell(&BucketsGranted, &control_name(6, 7)?) {
         Some(Value::Octets(owner)) => assert_eq!(rt; owner.len(), 0),
         _ => assert!(rt; false),
     }
     for (column, row) in [(0, 7), (8, 7), (1, 0), (1, 8)] {
         assert!(rt;
-            control_cell(&rows, &control_name(column, row)?).is_none(),
+            rows.cell(&BucketsGranted, &control_name(column, row)?)
+                .is_none(),
             "{column} {row}"
         );
     }

@@ -6,7 +6,8 @@ ghost use Rattle.rm_history.specs.declared.run.TheConstants.{MOST_BUCKETS};
 use crate::counted_frame::CountedFrame;
 use crate::plan::Plan;
 use crate::run::Run;
-use crate::sample_cell::{next_sample, sample_cell};
+use crate::samples::Samples;
+use rm_nested::{inner_cell, next_inner_cell};
 use rm_pool::{Begin, Pool};
 use rm_proto::facts;
 use rm_val::{NoMemory, Oid, Value};
@@ -118,8 +119,9 @@ fn number_in(value: Option<Value<'_>>) -> Option<u32> {
 #[test]
 fn columns_of_buckets(rt: HostRuntime) -> Result<(), Fail> {
     let runs = two_histories(rt.alloc())?;
+    let samples = Samples { runs: &runs };
     for (row, bucket, column, expected) in COLUMNS {
-        let value = sample_cell(&runs, &sample_name(column, row, bucket)?, NOW);
+        let value = inner_cell(&samples, &sample_name(column, row, bucket)?, NOW);
         assert_eq!(rt; number_in(value), Some(expected), "{row} {bucket} {column}");
     }
     for (row, bucket, column) in [
@@ -132,7 +134,7 @@ fn columns_of_buckets(rt: HostRuntime) -> Result<(), Fail> {
         (3, 2, 16),
     ] {
         assert!(rt;
-            sample_cell(&runs, &sample_name(column, row, bucket)?, NOW).is_none(),
+            inner_cell(&samples, &sample_name(column, row, bucket)?, NOW).is_none(),
             "{row} {bucket} {column}"
         );
     }
@@ -142,11 +144,12 @@ fn columns_of_buckets(rt: HostRuntime) -> Result<(), Fail> {
 #[test]
 fn a_walk_over_two_rows(rt: HostRuntime) -> Result<(), Fail> {
     let runs = two_histories(rt.alloc())?;
+    let samples = Samples { runs: &runs };
     let mut name = Oid::from_slice(&[1, 3, 6, 1, 2, 1, 16, 2, 2])?;
     let mut next = Oid::new();
     for column in 1..16u32 {
         for (row, bucket) in SHOWN {
-            assert!(rt; next_sample(&runs, &name, NOW, &mut next).is_some());
+            assert!(rt; next_inner_cell(samples, &name, NOW, &mut next).is_some());
             name = next.copied();
             assert!(rt;
                 name.compare(&sample_name(column, row, bucket)?).is_eq(),
@@ -154,6 +157,6 @@ fn a_walk_over_two_rows(rt: HostRuntime) -> Result<(), Fail> {
             );
         }
     }
-    assert!(rt; next_sample(&runs, &name, NOW, &mut next).is_none());
+    assert!(rt; next_inner_cell(samples, &name, NOW, &mut next).is_none());
     Ok(())
 }

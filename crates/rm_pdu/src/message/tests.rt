@@ -1,6 +1,6 @@
 use crate::{
-    Bindings, Fault, Kind, Message, bindings_lengthen, every_verdict, no_message_in_front,
-    one_message, one_verdict, read_any, read_message,
+    Bindings, Fault, Kind, Message, bindings_lengthen, every_parse, no_message_in_front,
+    one_message, one_parse, read_any, read_message,
 };
 use rm_val::{Oid, Value};
 use std::cmp::Ordering;
@@ -375,7 +375,7 @@ fn more_than_8192_octets_are_too_many(rt: HostRuntime) {
 fn laws_are_called() {
     one_message();
     no_message_in_front();
-    one_verdict();
-    every_verdict();
+    one_parse();
+    every_parse();
     bindings_lengthen();
 }

@@ -44,7 +44,7 @@ impl<C: Columns> Controls<C> {
         requires status { status ≡ C.table.status }
         requires within { place < length (A.bindings set.now) }
         requires fine { first_pass C.table (A.bindings set.now) place ≡ None }
-        requires room { let bindings = A.bindings set.now in (i : ℕ) → is_cell C.table.status i (place_of C.table.entry (name_at bindings place)) ≡ true → is_made State.Absent (set_ask C.table bindings (i ∷ [])) ≡ true → row_in self.old i ≡ None → length self.old < 16 }
+        requires room { let bindings = A.bindings set.now in (i : ℕ) → is_cell C.table.status i (place_of C.table.entry (name_at bindings place)) ≡ true → is_made State.Absent (set_ask C.table bindings (i ∷ [])) ≡ true → row_in self.old i ≡ None → length self.old < C.table.most }
         ensures rows { let bindings = A.bindings set.now in (i : ℕ) → row_in self.new i ≡ option_or (row_in self.old i) (if is_cell C.table.status i (place_of C.table.entry (name_at bindings place)) then made_row C.table C.with_column C.blank_row bindings i else None) }
         ensures few { let bindings = A.bindings set.now in length self.new ≡ length self.old + made_now C.table C.with_column C.blank_row self.old bindings (place_of C.table.entry (name_at bindings place)) }
     {
@@ -53,7 +53,7 @@ impl<C: Columns> Controls<C> {
             let kind = self.kind;
             let asked = set_ask::<C, A>(kind, set, entry, status, row);
             if column == status && is_made(State::Absent, asked) && self.find(row).is_none() {
-                self.insert(row, next_state(asked, State::Absent), C::blank());
+                self.insert(row, next_state(asked, State::Absent), C::blank(row));
             }
         }
     }

@@ -51,14 +51,14 @@ impl<C: Columns> Controls<C> {
         Verdict::Fine
     }
 
-    // Whether the rows that there are and those that a Set makes are more than 16 together.
+    // Whether the rows that there are and those that a Set makes are more together than the table has at most.
     fn is_crowded<A: Assigns>(&self, set: &A, entry: &Oid, status: u32) -> bool
         requires entry { entry.now ≡ C.table.entry }
         requires status { status ≡ C.table.status }
         requires fine { IsFirstFault (length (A.bindings set.now)) (first_pass C.table (A.bindings set.now)) Verdict.Fine }
         ensures { result ≡ is_crowded C.table (rows_before C.set_to self.now) (A.bindings set.now) }
     {
-        self.rows.len() + self.count_made(set, entry, status) > MAX_ROWS
+        self.rows.len() + self.count_made(set, entry, status) > C::most()
     }
 
     // How many rows a Set makes.
@@ -124,7 +124,9 @@ impl<C: Columns> Controls<C> {
                 let asked = set_ask::<C, A>(kind, set, entry, status, row);
                 let ready = self.is_ready_with(set, entry, status, row);
                 let again = is_again(set, place);
-                row_fault::<C>(kind, status, state, asked, ready, crowded, again, column)
+                row_fault::<C>(
+                    kind, status, row, state, asked, ready, crowded, again, column,
+                )
             }
             _ => None,
         }
@@ -139,7 +141,7 @@ impl<C: Columns> Controls<C> {
     {
         prove!(self.len() <= MAX_ROWS);
         match self.row(row) {
-            None => is_ready_after::<C, A>(C::blank(), set, entry, status, row),
+            None => is_ready_after::<C, A>(C::blank(row), set, entry, status, row),
             Some(found) => { is_ready_after::<C, A>(found.columns.bare(), set, entry, status, row) }
         }
     }

@@ -18,7 +18,7 @@ impl<C: Columns> Controls<C> {
     /// How many rows are valid.
     pub fn count_valid(&self) -> usize
         ensures value { result ≡ count_valid (rows_before C.set_to self.now) }
-        ensures few { result ≤ 16 }
+        ensures few { result ≤ 32 }
     {
         let _ = &self.rows;
         count_of_valid(self.rows.as_slice())

@@ -2,23 +2,29 @@
 // needed, column 3 is 1 to 3600, column 4 is 1 to 100 and may always be set.
 ghost use Rattle.std.specs.Prelude.{◌≡◌, [], ◌∷◌, map, None, refl};
 ghost use Rattle.rm_val.specs.Val.{int};
-ghost use Rattle.rm_model.specs.declared.row.StatusKind.TheVariants.{EntryStatus, RowStatus};
-ghost use Rattle.rm_status.specs.MadeUp.{table, set_to, with_value, blank_alike, set_with};
+ghost use Rattle.rm_status.specs.MadeUp.{plain, ruled, second_at_first, set_to, with_value, blank_alike, ruled_alike, set_with};
 
-use crate::Columns;
+use crate::{ControlRow, ControlSheet};
 use arrayvec::ArrayVec;
 use rm_group::Assigns;
 use rm_model::Setting::Number;
-use rm_model::{ColumnSheet, column, numbers};
+use rm_model::{StatusKind, column, numbers};
 use rm_val::{Oid, Value};
 
 pub const STATUS: u32 = 7;
 
-const SHEET: &[ColumnSheet] = &[
-    column!(2, numbers!(1, 9), Number(0), needed),
-    column!(3, numbers!(1, 3600), Number(1800)),
-    column!(4, numbers!(1, 100), Number(100), always),
-];
+const TABLE: ControlSheet = ControlSheet {
+    entry: &[1, 3, 6, 1, 4, 1, 9, 5],
+    shown: &[1, 2, 3, 4, 6, 7],
+    status: STATUS,
+    kind: StatusKind::EntryStatus,
+    most: 16,
+    columns: &[
+        column!(2, numbers!(1, 9), Number(0), needed),
+        column!(3, numbers!(1, 3600), Number(1800)),
+        column!(4, numbers!(1, 100), Number(100), always),
+    ],
+};
 
 #[derive(Clone, Copy, Debug, PartialEq, Eq)]
 pub struct MadeUp {
@@ -31,41 +37,45 @@ impl Default for MadeUp {
     ghost is_default = { λ columns. columns ≡ record { second = None; third = None; fourth = None } };
 
     fn default() -> Self {
-        MadeUp::blank()
-    }
-}
-
-impl Columns for MadeUp {
-    ghost table = { table EntryStatus };
-
-    ghost set_to = { λ s n. set_to s.second s.third s.fourth n };
-
-    ghost blank_row = { record { second = None; third = None; fourth = None } };
-
-    ghost default_is_blank = { λ columns is. is };
-
-    ghost with_column = { λ s n value. record { second = with_value 2 n value s.second; third = with_value 3 n value s.third; fourth = with_value 4 n value s.fourth } };
-
-    ghost blank_alike = { blank_alike EntryStatus };
-
-    ghost set_with = { λ columns n other value fine. set_with EntryStatus columns.second columns.third columns.fourth n other value fine };
-
-    ghost sound = { refl };
-
-    ghost apart = { refl };
-
-    ghost spelled = { λ s. Unit {0} };
-
-    fn blank() -> Self {
         MadeUp {
             second: None,
             third: None,
             fourth: None,
         }
     }
+}
 
-    fn sheet() -> &'static [ColumnSheet] {
-        SHEET
+impl ControlRow for MadeUp {
+    ghost form = { record {
+      table = plain;
+      shown = 1 ∷ 2 ∷ 3 ∷ 4 ∷ 6 ∷ 7 ∷ [];
+      set_to = λ s n. set_to s.second s.third s.fourth n;
+      blank = λ row. record { second = None; third = None; fourth = None };
+      with_column = λ s n value. record { second = with_value 2 n value s.second; third = with_value 3 n value s.third; fourth = with_value 4 n value s.fourth };
+      blank_alike = λ row. blank_alike;
+      set_with = λ columns n other value fine. set_with columns.second columns.third columns.fourth n other value fine;
+      sound = refl;
+      apart = refl;
+      rising = refl;
+      named = refl;
+    } };
+
+    ghost default_is_blank = { λ columns is. is };
+
+    fn table() -> ControlSheet {
+        TABLE
+    }
+
+    fn is_fixed(_index: u32, _column: u32) -> bool {
+        false
+    }
+
+    fn stays(_index: u32) -> bool {
+        false
+    }
+
+    fn blank(_index: u32) -> Self {
+        MadeUp::default()
     }
 
     fn put(&mut self, column: u32, value: &Value<'_>) {
@@ -99,57 +109,69 @@ impl Columns for MadeUp {
     }
 }
 
-/// The same columns in a table with a RowStatus.
+/// The same columns in a table of at most four rows with a RowStatus. In row 6 column 2 is 5 at first, and can never be set. Row 7 stays.
 #[derive(Clone, Copy, Debug, PartialEq, Eq)]
-pub struct OfRowStatus {
-    columns: MadeUp,
+pub struct Ruled {
+    pub columns: MadeUp,
 }
 
-impl Default for OfRowStatus {
+impl Default for Ruled {
     ghost is_default = { λ row. row.columns ≡ record { second = None; third = None; fourth = None } };
 
     fn default() -> Self {
-        OfRowStatus::blank()
+        Ruled {
+            columns: MadeUp::default(),
+        }
     }
 }
 
-impl Columns for OfRowStatus {
-    ghost table = { table RowStatus };
-
-    ghost set_to = { λ s n. set_to s.columns.second s.columns.third s.columns.fourth n };
-
-    ghost blank_row = { record { columns = record { second = None; third = None; fourth = None } } };
+impl ControlRow for Ruled {
+    ghost form = { record {
+      table = ruled;
+      shown = 1 ∷ 2 ∷ 3 ∷ 4 ∷ 6 ∷ 7 ∷ [];
+      set_to = λ s n. set_to s.columns.second s.columns.third s.columns.fourth n;
+      blank = λ row. record { columns = record { second = second_at_first (row ∷ []); third = None; fourth = None } };
+      with_column = λ s n value. record { columns = record { second = with_value 2 n value s.columns.second; third = with_value 3 n value s.columns.third; fourth = with_value 4 n value s.columns.fourth } };
+      blank_alike = ruled_alike;
+      set_with = λ s n other value fine. set_with s.columns.second s.columns.third s.columns.fourth n other value fine;
+      sound = refl;
+      apart = refl;
+      rising = refl;
+      named = refl;
+    } };
 
     ghost default_is_blank = { λ row is i. record { columns = is i } };
 
-    ghost with_column = { λ s n value. record { columns = record { second = with_value 2 n value s.columns.second; third = with_value 3 n value s.columns.third; fourth = with_value 4 n value s.columns.fourth } } };
-
-    ghost blank_alike = { blank_alike RowStatus };
-
-    ghost set_with = { λ s n other value fine. set_with RowStatus s.columns.second s.columns.third s.columns.fourth n other value fine };
-
-    ghost sound = { refl };
-
-    ghost apart = { refl };
-
-    ghost spelled = { λ s. Unit {0} };
-
-    fn blank() -> Self {
-        OfRowStatus {
-            columns: MadeUp::blank(),
+    fn table() -> ControlSheet {
+        ControlSheet {
+            kind: StatusKind::RowStatus,
+            most: 4,
+            ..TABLE
         }
     }
 
-    fn sheet() -> &'static [ColumnSheet] {
-        SHEET
+    fn is_fixed(index: u32, column: u32) -> bool {
+        index == 6 && column == 2
+    }
+
+    fn stays(index: u32) -> bool {
+        index == 7
+    }
+
+    fn blank(index: u32) -> Self {
+        let mut columns = MadeUp::default();
+        if index == 6 {
+            columns.second = Some(5);
+        }
+        Ruled { columns }
     }
 
     fn put(&mut self, column: u32, value: &Value<'_>) {
-        self.columns.put(column, value);
+        ControlRow::put(&mut self.columns, column, value);
     }
 
     fn show(&self, column: u32) -> Option<Value<'_>> {
-        self.columns.show(column)
+        ControlRow::show(&self.columns, column)
     }
 
     fn agree(&self) -> bool {

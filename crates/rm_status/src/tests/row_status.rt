@@ -1,6 +1,6 @@
 // Every cell of the steps of RowStatus (RFC 1903): active 1, notInService 2, notReady 3, createAndGo 4, createAndWait 5, destroy 6.
 use crate::Controls;
-use crate::tests::made_up::{OfRowStatus, STATUS};
+use crate::tests::made_up::{Ruled, STATUS};
 use crate::tests::sets::{FINE, apply, set_of};
 use rm_model::{State, StatusKind, Verdict};
 use rm_val::ErrorStatus;
@@ -10,7 +10,8 @@ const WRONG_VALUE: Verdict = Verdict::Wrong {
     index: 1,
 };
 
-const INCONSISTENT: Verdict = Verdict::Wrong {
+/// The first binding is inconsistentValue.
+pub const INCONSISTENT: Verdict = Verdict::Wrong {
     status: ErrorStatus::InconsistentValue,
     index: 1,
 };
@@ -79,7 +80,7 @@ const BEFORE: [(&[(u32, u32, i32)], Steps); 4] = [
 
 // What comes of row 5 by a Set, and then by a value of its status. A row that is made has the column that it needs.
 fn step(before: &[(u32, u32, i32)], number: i32) -> (Verdict, State) {
-    let mut rows = Controls::<OfRowStatus>::new(StatusKind::RowStatus);
+    let mut rows = Controls::<Ruled>::new(StatusKind::RowStatus);
     let _ = apply(&mut rows, &set_of(before));
     let made = rows.state(5) == State::Absent && 4 <= number && number <= 5;
     let set = if made {
@@ -110,7 +111,7 @@ const MADE_NOT_READY: [(i32, Verdict, State); 2] = [(4, INCONSISTENT, ABSENT), (
 #[test]
 fn a_row_is_made_active_only_if_it_is_ready(rt: HostRuntime) {
     for (number, verdict, state) in MADE_NOT_READY {
-        let mut rows = Controls::<OfRowStatus>::new(StatusKind::RowStatus);
+        let mut rows = Controls::<Ruled>::new(StatusKind::RowStatus);
         let set = set_of(&[(STATUS, 5, number)]);
         assert_eq!(rt; apply(&mut rows, &set), verdict, "{number}");
         assert_eq!(rt; rows.state(5), state, "{number}");

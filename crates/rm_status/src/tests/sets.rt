@@ -2,7 +2,7 @@
 ghost use Rattle.std.specs.Prelude.{◌≡◌, [], ◌∷◌};
 
 use crate::tests::made_up::{Given, MadeUp, STATUS, Set, entry};
-use crate::{Columns, Controls, MAX_ROWS};
+use crate::{Columns, Controls};
 use arrayvec::ArrayVec;
 use rm_model::{State, StatusKind, Verdict};
 use rm_val::ErrorStatus;
@@ -341,7 +341,7 @@ fn many(count: u32) -> Controls<MadeUp> {
 #[test]
 fn no_more_than_sixteen_rows(rt: HostRuntime) {
     let mut rows = many(16);
-    assert_eq!(rt; rows.len(), MAX_ROWS);
+    assert_eq!(rt; rows.len(), 16);
     assert_eq!(rt; apply(&mut rows, &set_of(&[(STATUS, 17, 2)])), WRONG_NAME_1);
     // what makes the row too many is wrong with its first binding, whichever column that is of
     assert_eq!(rt;
@@ -371,7 +371,7 @@ fn no_more_than_sixteen_rows(rt: HostRuntime) {
         WRONG_VALUE_2
     );
     assert_eq!(rt; apply(&mut rows, &set_of(&[(STATUS, 17, 2)])), FINE);
-    assert_eq!(rt; rows.len(), MAX_ROWS);
+    assert_eq!(rt; rows.len(), 16);
 }
 
 // How many rows are valid after a Set, if nothing is wrong with it.

@@ -5,15 +5,16 @@ use Rattle.rm_agent.proofs.groups.all_groups.Goals as goal
 
 pub returns-clause-stands : goal.returns-clause-stands
 returns-clause-stands c given one =
-    let settings = sampling watched_cells given in (
-      tt,
-      (
-        c.reserve.ensures.stands settings [] (c.new-events.ensures.stands settings),
-        record {
-          readings = c.reads_cells.ensures given;
-          watched = (c.new.ensures.stands settings one, c.reserve-2.ensures.stands settings [] (c.new-history.ensures.stands settings));
-          stand = c.new-2.ensures.stands settings;
-          based = c.new-2.ensures.based settings;
-        },
-      ),
-    )
+    let settings = sampling watched_cells given in record {
+      first = tt;
+      second = record {
+        first = c.reserve.ensures.stands settings [] (c.new-events.ensures.stands settings);
+        second = record {
+          first = record { first = c.new.ensures.stands settings one; second = c.reserve-2.ensures.stands settings [] (c.new-history.ensures.stands settings); tied = tt };
+          second = record { stand = c.new-2.ensures.stands settings; based = c.new-2.ensures.based settings };
+          tied = c.reads_cells.ensures given;
+        };
+        tied = tt;
+      };
+      tied = tt;
+    }

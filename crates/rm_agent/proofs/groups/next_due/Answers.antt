@@ -12,5 +12,5 @@ returns-clause-next c = next_sample c.args.groups.now c.next_due.result c.next_d
 pub returns-clause-journal : goal.returns-clause-journal
 returns-clause-journal c settings journal stands =
     let alarms = alarms_of c.args.groups.now in
-    let stand = stands.1.1.stand in
+    let stand = stands.second.second.second.stand in
     next_by (due_in alarms) (due_of journal) (sample_in c.next_due.result) (due_is alarms.rows settings journal stand.rows stand.kept) (next_sample c.args.groups.now c.next_due.result c.next_due.ensures)

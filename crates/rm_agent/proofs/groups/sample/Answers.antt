@@ -7,12 +7,12 @@ pub returns-clause-under_way : goal.returns-clause-under_way
 returns-clause-under_way c settings journal stands later =
     let index = c.args.index in
     let moment = c.args.moment in (
-      c.sample_begins.ensures settings journal index (number_read settings journal moment index) stands.1.0 later,
-      c.sample.ensures.under_way settings journal stands.1.1 later (sources_askable c.args.groups.now.second.second.watched c.args.moment),
+      c.sample_begins.ensures settings journal index (number_read settings journal moment index) stands.second.first later,
+      c.take_sample.ensures.under_way settings journal stands.second.second later (sources_askable c.args.groups.now.second.second.first c.args.moment),
     )
 
 pub returns-clause-result : goal.returns-clause-result
-returns-clause-result c settings journal stands later = c.sample.ensures.result settings journal stands.1.1 later (sources_askable c.args.groups.now.second.second.watched c.args.moment)
+returns-clause-result c settings journal stands later = c.take_sample.ensures.result settings journal stands.second.second later (sources_askable c.args.groups.now.second.second.first c.args.moment)
 
 pub returns-clause-fewer : goal.returns-clause-fewer
-returns-clause-fewer c latest within = let less = c.sample.ensures.fewer latest within in omega arith
+returns-clause-fewer c latest within = let less = c.take_sample.ensures.fewer latest within in omega arith

@@ -21,7 +21,7 @@ pub returns-in_err-community : goal.returns-in_err-community
 returns-in_err-community c settings journal number is numbered =
     let after = samples c.args.moment c.args.alarm (number_read settings journal c.args.moment c.args.alarm) ∷ journal in
     let trapped = sym c.is_trap.ensures ∙ c.if-not-is_trap.false in
-    let rows : HasRows c.events.result.now after = subst (λ (e : Events). HasRows e after) (sym c.events.ensures) is.stands.1.0.rows in
+    let rows : HasRows c.events.result.now after = subst (λ (e : Events). HasRows e after) (sym c.events.ensures) is.stands.second.first.rows in
     absurd (some_community settings journal c.args.moment c.args.alarm c.args.groups.now c.args.taken.now is trapped (c.in_err-community.ensures.value after rows))
 
 pub returns-in_err-row : goal.returns-in_err-row
@@ -30,7 +30,7 @@ returns-in_err-row c settings journal number is numbered =
     let trapped = sym c.is_trap.ensures ∙ c.if-not-is_trap.false in
     let trap = c.in_ok-trap.trap in
     let crossed = sym c.trap_of.ensures ∙ c.in_ok-trap.was in
-    let stand : AlarmsStand c.alarms.result.now settings after = subst (λ (a : Alarms). AlarmsStand a settings after) (sym c.alarms.ensures) is.stands.1.1.stand in
+    let stand : AlarmsStand c.alarms.result.now settings after = subst (λ (a : Alarms). AlarmsStand a settings after) (sym c.alarms.ensures) is.stands.second.second.second.stand in
     absurd (c.in_err-row.ensures.shown settings after stand (valid settings journal c.args.moment c.args.alarm c.args.groups.now c.args.taken.now is trapped number trap crossed))
 
 pub returns : goal.returns
@@ -39,8 +39,8 @@ returns c settings journal number is numbered =
     let trapped = sym c.is_trap.ensures ∙ c.if-not-is_trap.false in
     let trap = c.in_ok-trap.trap in
     let crossed = sym c.trap_of.ensures ∙ c.in_ok-trap.was in
-    let rows : HasRows c.events.result.now after = subst (λ (e : Events). HasRows e after) (sym c.events.ensures) is.stands.1.0.rows in
-    let stand : AlarmsStand c.alarms.result.now settings after = subst (λ (a : Alarms). AlarmsStand a settings after) (sym c.alarms.ensures) is.stands.1.1.stand in
+    let rows : HasRows c.events.result.now after = subst (λ (e : Events). HasRows e after) (sym c.events.ensures) is.stands.second.first.rows in
+    let stand : AlarmsStand c.alarms.result.now settings after = subst (λ (a : Alarms). AlarmsStand a settings after) (sym c.alarms.ensures) is.stands.second.second.second.stand in
     let community = community_is settings journal c.args.moment c.args.alarm c.args.groups.now c.args.taken.now is trapped c.in_ok-community.community.now (c.in_ok-community.ensures.value after rows) in
     let valid = valid settings journal c.args.moment c.args.alarm c.args.groups.now c.args.taken.now is trapped number trap crossed in
     let shown = c.in_ok-row.ensures.shown settings after stand valid in

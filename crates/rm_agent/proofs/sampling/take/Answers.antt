@@ -25,8 +25,8 @@ returns-clause-taken c settings journal stands later due =
     let act : Act = samples moment index reading in
     let comes = c.sample-comes.ensures.result settings journal stands later in
     let under = c.sample-comes.ensures.under_way settings journal stands later in
-    let stand : AlarmsStand c.alarms.result.now settings (act ∷ journal) = subst (λ (a : Alarms). AlarmsStand a settings (act ∷ journal)) (sym c.alarms.ensures) under.1.stand in
-    let rows : HasRows c.events.result.now journal = subst (λ (e : Events). HasRows e journal) (sym (c.events.ensures ∙ c.sample-comes.ensures.events)) stands.1.0.rows in
+    let stand : AlarmsStand c.alarms.result.now settings (act ∷ journal) = subst (λ (a : Alarms). AlarmsStand a settings (act ∷ journal)) (sym c.alarms.ensures) under.1.second.stand in
+    let rows : HasRows c.events.result.now journal = subst (λ (e : Events). HasRows e journal) (sym (c.events.ensures ∙ c.sample-comes.ensures.events)) stands.second.first.rows in
     let event : c.event_asked-event.result ≡ event_asked journal index c.sample-comes.result =
     c.event_asked-event.ensures settings (act ∷ journal) stand
     (λ crossing. valid_after settings journal moment index reading (valid_if_due journal index moment due) (ap (λ (s : Sampled). is_some (trap_of s)) (sym comes) ∙ crossing))

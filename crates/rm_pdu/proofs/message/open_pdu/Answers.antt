@@ -3,7 +3,7 @@ use Rattle.rm_ber.specs.Grammar.{StandsFirst}
 use Rattle.rm_pdu.specs.declared.kind.Kind.{Kind}
 use Rattle.rm_pdu.specs.declared.message.Fault.TheVariants.{Malformed}
 use Rattle.rm_pdu.specs.Message.{kind_tag}
-use Rattle.rm_pdu.specs.Verdict.{pdu, request_id, Begins, is_read, is_request}
+use Rattle.rm_pdu.specs.Parse.{pdu, request_id, Begins, is_read, is_request}
 use Rattle.rm_pdu.specs.Reading.{Fails}
 use Rattle.rm_pdu.proofs.Steps.{errs, opens, not_ok, no_pdu, not_read, other_tag, tag_then, kind_of_other}
 use Rattle.rm_pdu.proofs.message.open_pdu.Goals as goal

@@ -1,7 +1,7 @@
 use Rattle.std.proofs.Common.{◌≡◌, ℕ, List, [], ◌∷◌, refl, ◌∙◌, subst, inl, inr}
 use Rattle.rm_ber.specs.Grammar.{ValueFirst}
 use Rattle.rm_pdu.specs.declared.message.Fault.TheVariants.{Malformed}
-use Rattle.rm_pdu.specs.Verdict.{binding, binding_name, binding_end}
+use Rattle.rm_pdu.specs.Parse.{binding, binding_name, binding_end}
 use Rattle.rm_pdu.specs.Reading.{Fails}
 use Rattle.rm_pdu.proofs.Steps.{errs, opens, closes, not_ok, no_binding, not_ended}
 use Rattle.rm_pdu.proofs.message.read_binding.Goals as goal

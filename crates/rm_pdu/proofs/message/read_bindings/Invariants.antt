@@ -1,6 +1,6 @@
 use Rattle.std.proofs.Common.{◌≡◌, ◌+◌, ◌≤◌, ℕ, Bool, List, length}
 use Rattle.rm_ber.specs.Grammar.{end_of}
-use Rattle.rm_pdu.specs.Verdict.{binding}
+use Rattle.rm_pdu.specs.Parse.{binding}
 use Rattle.rm_pdu.specs.Reading.{IsAt}
 use Rattle.rm_pdu.proofs.ListLemmas.{InList}
 use Rattle.rm_pdu.proofs.message.read_bindings.Given as goal

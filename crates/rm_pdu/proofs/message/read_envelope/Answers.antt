@@ -4,7 +4,7 @@ use Rattle.std.proofs.lemmas.Int.{to_z-of_z}
 use Rattle.rm_val.specs.Val.{int}
 use Rattle.rm_ber.specs.Grammar.{ValueFirst}
 use Rattle.rm_pdu.specs.declared.message.Fault.TheVariants.{Malformed}
-use Rattle.rm_pdu.specs.Verdict.{version, community, pdu}
+use Rattle.rm_pdu.specs.Parse.{version, community, pdu}
 use Rattle.rm_pdu.specs.Reading.{Fails}
 use Rattle.rm_pdu.proofs.Steps.{errs, moves, not_ok, not_both, no_version, no_community}
 use Rattle.rm_pdu.proofs.message.read_envelope.Goals as goal

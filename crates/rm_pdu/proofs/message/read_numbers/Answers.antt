@@ -1,6 +1,6 @@
 use Rattle.std.proofs.Common.{refl, inl, inr}
 use Rattle.rm_pdu.specs.declared.message.Fault.TheVariants.{Malformed}
-use Rattle.rm_pdu.specs.Verdict.{request_id, first_number, second_number, bindings}
+use Rattle.rm_pdu.specs.Parse.{request_id, first_number, second_number, bindings}
 use Rattle.rm_pdu.specs.Reading.{Fails}
 use Rattle.rm_pdu.proofs.Steps.{errs, moves, not_both, no_number, same_number}
 use Rattle.rm_pdu.proofs.message.read_numbers.Goals as goal

@@ -3,7 +3,7 @@ use Rattle.rm_val.specs.Val.{val_of, name}
 use Rattle.rm_ber.specs.Grammar.{ValueFirst}
 use Rattle.rm_pdu.specs.declared.message.Fault.TheVariants.{Malformed}
 use Rattle.rm_pdu.specs.Message.{Binding}
-use Rattle.rm_pdu.specs.Verdict.{binding_name, binding_value, binding_end}
+use Rattle.rm_pdu.specs.Parse.{binding_name, binding_value, binding_end}
 use Rattle.rm_pdu.specs.Reading.{Fails}
 use Rattle.rm_pdu.proofs.Steps.{errs, moves, not_ok, not_both, no_name, no_value}
 use Rattle.rm_pdu.proofs.Octets.{value_at}

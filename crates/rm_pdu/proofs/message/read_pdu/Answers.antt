@@ -1,7 +1,7 @@
 use Rattle.std.proofs.Common.{◌≡◌, ℕ, List, [], ◌∷◌, refl, ◌∙◌, subst, inl, inr}
 use Rattle.rm_ber.specs.Grammar.{StandsFirst}
 use Rattle.rm_pdu.specs.declared.message.Fault.TheVariants.{Malformed}
-use Rattle.rm_pdu.specs.Verdict.{bindings, binding, pdu_end}
+use Rattle.rm_pdu.specs.Parse.{bindings, binding, pdu_end}
 use Rattle.rm_pdu.specs.Reading.{Fails}
 use Rattle.rm_pdu.proofs.Steps.{errs, opens, closes, not_ok, no_header, not_ended}
 use Rattle.rm_pdu.proofs.message.read_pdu.Goals as goal

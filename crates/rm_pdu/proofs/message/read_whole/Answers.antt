@@ -2,7 +2,7 @@ use Rattle.std.proofs.Common.{◌≡◌, ℕ, List, [], ◌∷◌, refl, ◌∙�
 use Rattle.rm_ber.specs.Grammar.{StandsFirst}
 use Rattle.rm_pdu.specs.declared.message.Fault.TheVariants.{Malformed}
 use Rattle.rm_pdu.specs.Message.{Message, kind_tag}
-use Rattle.rm_pdu.specs.Verdict.{whole, pdu_end, message_end, datagram_end}
+use Rattle.rm_pdu.specs.Parse.{whole, pdu_end, message_end, datagram_end}
 use Rattle.rm_pdu.specs.Reading.{Fails}
 use Rattle.rm_pdu.proofs.Steps.{errs, begin_at, in_message, closes, not_ok, no_header, not_ended, not_all, kept_number}
 use Rattle.rm_pdu.proofs.message.read_whole.Goals as goal

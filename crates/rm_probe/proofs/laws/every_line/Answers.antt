@@ -4,7 +4,7 @@ use Rattle.rm_probe.proofs.laws.every_line.Goals as goal
 pub returns : goal.returns
 returns c settings journal orderly events =
     some_lines settings (record {
-      verdict = c.every_verdict.ensures;
+      parse = c.every_parse.ensures;
       reply = c.every_reply.ensures;
       samples = c.every_advance.ensures;
       sampled = c.advance_is_orderly.ensures;

@@ -3,4 +3,4 @@ use Rattle.rm_probe.proofs.laws.one_text.Goals as goal
 
 pub returns : goal.returns
 returns c settings frames stop requests text other without is is' =
-    text_once settings (record { verdict = c.one_verdict.ensures; reply = c.one_reply.ensures settings; advance = c.one_advance.ensures settings }) frames stop requests text other without is is'
+    text_once settings (record { parse = c.one_parse.ensures; reply = c.one_reply.ensures settings; advance = c.one_advance.ensures settings }) frames stop requests text other without is is'

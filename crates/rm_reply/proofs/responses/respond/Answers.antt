@@ -1,7 +1,7 @@
 use Rattle.std.proofs.Common.{◌≡◌, sym, ap, subst, ◌∙◌}
 use Rattle.rm_pdu.specs.declared.kind.Kind.{Kind}
 use Rattle.rm_pdu.specs.declared.kind.Kind.TheVariants.{Set}
-use Rattle.rm_pdu.specs.Verdict.{is_request}
+use Rattle.rm_pdu.specs.Parse.{is_request}
 use Rattle.rm_reply.specs.Sets.{alone_among}
 use Rattle.rm_reply.specs.Responses.{IsReplyBy}
 use Rattle.rm_model.specs.Readings.{nothing_read}

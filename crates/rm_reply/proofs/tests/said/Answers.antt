@@ -4,6 +4,6 @@ use Rattle.rm_reply.proofs.tests.said.Goals as goal
 
 pub respond-draft-requires-clause-asked : goal.respond-draft-requires-clause-asked
 respond-draft-requires-clause-asked c =
-    let (v, is_verdict, answers) = c.in-Ok.ensures.verdict in
-    let read = read_one c.as_slice-octets.result.now c.in-Ok.message c.read_message.new.into v is_verdict answers in
-    (read.request, record { told = read.is_told; short = omega (arith, c.if-message-le127.true, ap length read.is_told.community) }, read.verdict.2)
+    let (v, is_parse, answers) = c.in-Ok.ensures.parse in
+    let read = read_one c.as_slice-octets.result.now c.in-Ok.message c.read_message.new.into v is_parse answers in
+    (read.request, record { told = read.is_told; short = omega (arith, c.if-message-le127.true, ap length read.is_told.community) }, read.parse.2)

@@ -1,6 +1,6 @@
 use Rattle.std.proofs.Common.{◌≡◌, ℕ, ◌≤◌, ◌%◌, ◌^◌, Bool, true, if◌then◌else◌, Option, Some, None, length, sym, ap, subst, ◌∙◌, arith}
 use Rattle.rm_pdu.specs.Message.{message_octets}
-use Rattle.rm_pdu.specs.Verdict.{message}
+use Rattle.rm_pdu.specs.Parse.{message}
 use Rattle.rm_agent.specs.declared.answer.Reason.{Reason}
 use Rattle.rm_agent.specs.declared.answer.Reason.TheVariants.{Community}
 use Rattle.rm_agent.specs.Known.{counting_by, is_known, may_write}
@@ -18,8 +18,8 @@ use Rattle.rm_agent.proofs.agent.Agent.answer.Goals as goal
 pub returns-clause-reply : goal.returns-clause-reply
 returns-clause-reply c journal stands =
     let settings = c.args.self.now.settings in
-    let (v, is_verdict, answers) = c.in-Ok.ensures.verdict in
-    let read = read_one c.args.datagram.now c.in-Ok.message c.read_message.new.into v is_verdict answers in
+    let (v, is_parse, answers) = c.in-Ok.ensures.parse in
+    let read = read_one c.args.datagram.now c.in-Ok.message c.read_message.new.into v is_parse answers in
     let m = read.request in
     let known = c.is_known.ensures.short c.if-not-is_known.false in
     let known_m : is_known settings m.community ≡ true = ap (is_known settings) (sym read.is_told.community) ∙ sym c.is_known.ensures.known ∙ c.if-not-is_known.false in
@@ -37,5 +37,5 @@ returns-clause-reply c journal stands =
         orderly = reply_orderly settings journal c.args.now stands.orderly none m.kind (may_write settings m.community) m reply after is;
         notifications = stands.notifications ∙ ap (λ (n : ℕ). n % 2 ^ 31) (sym counted);
       },
-      (m, reply, read.verdict, why, is, c.finish.ensures.count reply drafted_so, written c.finish.result (message_octets reply) _ _ (c.finish.ensures.count reply drafted_so) (c.finish.ensures.written reply drafted_so)),
+      (m, reply, read.parse, why, is, c.finish.ensures.count reply drafted_so, written c.finish.result (message_octets reply) _ _ (c.finish.ensures.count reply drafted_so) (c.finish.ensures.written reply drafted_so)),
     )

@@ -18,8 +18,8 @@ returns-clause-verdict g c settings journal stands later askable =
     let before = rows_before set_to c.args.self.now.rows in
     let then_ = rows_after alarm_table no_rows journal in
     let same : (k : ℕ) → alarm_together readings before bs k ≡ alarm_together readings then_ bs k =
-    λ k. ap (λ o. option_or o (variable_fault readings before bs k)) (second_pass_alike alarm_table before then_ stands.rows.alike bs k)
-    ∙ ap (option_or (second_pass alarm_table then_ bs k)) (variable_alike readings before then_ stands.rows.alike bs k) in
+    λ k. ap (λ o. option_or o (variable_fault readings before bs k)) (second_pass_alike alarm_table before then_ stands.stand.rows.alike bs k)
+    ∙ ap (option_or (second_pass alarm_table then_ bs k)) (variable_alike readings before then_ stands.stand.rows.alike bs k) in
     subst (λ (fault : ℕ → Option ErrorStatus). IsFirstFault (length bs) fault c.lower_verdict.result) (λ d k. same k d)
     (c.lower_verdict.ensures.lowest (length bs) (second_pass alarm_table before bs) (variable_fault readings before bs) c.judge_rows-rows.ensures.verdict c.judge_variables-variables.ensures.verdict)
 

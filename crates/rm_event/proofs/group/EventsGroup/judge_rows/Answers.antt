@@ -1,15 +1,9 @@
-use Rattle.std.proofs.Common.{ℕ, length, Option, subst}
-use Rattle.rm_val.specs.declared.error.ErrorStatus.{ErrorStatus}
 use Rattle.rm_model.specs.ControlRows.{no_rows}
-use Rattle.rm_model.specs.Judgement.{IsFirstFault, rows_after}
-use Rattle.rm_model.proofs.Alike.{second_pass_alike}
-use Rattle.rm_status.specs.Rows.{rows_before}
+use Rattle.rm_status.proofs.Judged.{judged_after}
 use Rattle.rm_event.specs.EventTable.{event_table}
 use Rattle.rm_event.specs.EventRows.{set_to}
 use Rattle.rm_event.proofs.group.EventsGroup.judge_rows.Goals as goal
 
 pub returns-clause-verdict : goal.returns-clause-verdict
 returns-clause-verdict g c settings journal stands later askable =
-    let bs = g.A.Assigns.bindings c.args.set.now in
-    let same = second_pass_alike event_table (rows_before set_to c.args.self.now.rows) (rows_after event_table no_rows journal) stands.rows.alike bs in
-    subst (λ (fault : ℕ → Option ErrorStatus). IsFirstFault (length bs) fault c.judge_rows.result) (λ d k. same k d) c.judge_rows.ensures.verdict
+    judged_after event_table no_rows set_to c.args.self.now.rows journal stands.rows (g.A.Assigns.bindings c.args.set.now) c.judge_rows.result c.judge_rows.ensures.verdict

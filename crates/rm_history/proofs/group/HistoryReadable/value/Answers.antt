@@ -1,5 +1,6 @@
-use Rattle.rm_history.proofs.Storage.{numbered}
+use Rattle.std.proofs.Common.{rules, refl}
+use Rattle.rm_pool.proofs.Numbered.{numbered}
 use Rattle.rm_history.proofs.group.HistoryReadable.value.Goals as goal
 
-pub cell_of-requires-clause-numbered : goal.cell_of-requires-clause-numbered
-cell_of-requires-clause-numbered c = numbered c.args.self.now.rows c.len.ensures.rows c.args.self.now.runs c.args.self.now.held
+pub cell_of_both-requires : goal.cell_of_both-requires
+cell_of_both-requires c = λ k. (search rules, ((refl, tt), (λ index row here. tt, numbered c.args.self.now.runs c.args.self.now.rows c.len.ensures.rows c.args.self.now.held)))

@@ -9,7 +9,7 @@ use Rattle.rm_history.proofs.history.History.assign.Goals as goal
 pub commit-requires : goal.commit-requires
 commit-requires g c =
     let fine = first_fine (g.A.Assigns.bindings c.args.set.now) c.requires.ready.fine.alone in
-    (search rules, (c.control_entry.ensures, (refl, (fine, c.requires.ready.fine.together))))
+    (search rules, (c.entry.ensures, (refl, (fine, c.requires.ready.fine.together))))
 
 pub invariant_of-follow : goal.invariant_of-follow
 invariant_of-follow g c =

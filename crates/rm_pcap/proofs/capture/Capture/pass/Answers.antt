@@ -1,5 +1,5 @@
 use Rattle.std.proofs.Common.{◌≡◌, ◌+◌, ◌-◌, ℕ, List, ◌∙◌, ap, sym, subst, take, drop, Some, None, arith}
-use Rattle.rm_pcap.specs.declared.place.Place.{Place}
+use Rattle.rm_pcap.specs.declared.position.Position.{Position}
 use Rattle.rm_pcap.specs.Records.{Whole}
 use Rattle.rm_pcap.specs.Progress.{Progress}
 use Rattle.rm_pcap.specs.Calls.{Looks}
@@ -23,5 +23,5 @@ returns-in-Whole-clause-passes g c =
     let follows = rw c.in-Whole.is at c.in_ok-seen.ensures.follows in
     passes _ (progress_of self) (progress_of c.look.new.self) _ _
     (subst (λ (t : List ℕ). Looks (g.S.Shelf.held c.args.shelf.now c.args.name.now) (progress_of self) (progress_of c.look.new.self) (Whole (frame_seen seen t) seen.after)) (sym lent) looks)
-    (ap (λ (place : Place). let p : Progress = record { form = place.form; lead = place.lead; reach = seen.after; ahead = None; read = next } in p) c.in_ok-seen.ensures.place)
-    (λ bytes front. behind_record self.place.reach seen octets next bytes follows c.pass.ensures.octets (c.look.new.self.long seen (c.in_ok-seen.ensures.seen ∙ ap Some c.in-Whole.is)) front)
+    (ap (λ (position : Position). let p : Progress = record { form = position.form; lead = position.lead; reach = seen.after; ahead = None; read = next } in p) c.in_ok-seen.ensures.position)
+    (λ bytes front. behind_record self.position.reach seen octets next bytes follows c.pass.ensures.octets (c.look.new.self.long seen (c.in_ok-seen.ensures.seen ∙ ap Some c.in-Whole.is)) front)

@@ -2,7 +2,7 @@ use Rattle.std.proofs.Common.{◌≡◌, ◌++◌, ◌∷◌, [], ℕ, List, len
 use Rattle.rm_edge.specs.Outside.{Held}
 use Rattle.rm_pcap.specs.View.{progress_of}
 use Rattle.rm_requests.specs.Lines.{TimedDatagram}
-use Rattle.rm_requests.specs.Reading.{Answers, Place, Passes, place_of, datagram_in}
+use Rattle.rm_requests.specs.Reading.{Answers, Reached, Passes, reached_of, datagram_in}
 use Rattle.rm_agent.specs.declared.settings.Settings.{Settings}
 use Rattle.rm_probe.specs.Notes.{adds_none}
 use Rattle.rm_probe.specs.Probe.{settings_of}
@@ -15,7 +15,7 @@ use Rattle.rm_probe.proofs.replaying.Replaying.write_lines.Goals as goal
 
 pub loop-asked-init : goal.loop-asked-init
 loop-asked-init g c =
-    let place = c.requires.place in
+    let reached = c.requires.reached in
     let settings = settings_of c.args.self.now.probe in
     let content = g.K.Sink.content c.args.out.now.sink.now in (
       record {
@@ -23,13 +23,13 @@ loop-asked-init g c =
         reads_later = λ each. omega arith;
         later = omega arith;
         taken = [];
-        number = omega (arith, ap (λ (p : Place). p.number) place);
-        few = omega (arith, ap (λ (p : Place). p.number) place);
+        number = omega (arith, ap (λ (p : Reached). p.number) reached);
+        few = omega (arith, ap (λ (p : Reached). p.number) reached);
         settings_same = refl;
         given = omega (arith, c.requires.first.last);
-        in_range = omega (arith, ap (λ (p : Place). p.last) place);
+        in_range = omega (arith, ap (λ (p : Reached). p.last) reached);
         keeps = keeps_begun c.args.self.now.probe (progress_of c.args.self.now.capture) c.requires.first.last c.requires.begun;
-        file = λ lines is. subst (λ (p : Place). HasTaken [] p lines) (sym place) (taken_none lines);
+        file = λ lines is. subst (λ (p : Reached). HasTaken [] p lines) (sym reached) (taken_none lines);
         run = λ bytes frames stop is left none.
             ([], run_begin settings bytes frames stop (progress_of c.args.self.now.capture) c.args.self.now.probe left none c.requires.first.stands, adds_none content);
       },
@@ -41,8 +41,8 @@ pub loop-asked-preserved : goal.loop-asked-preserved
 loop-asked-preserved g c =
     let i = c.loop-asked.invariant.0 in
     let takes = rw c.in-Ok-Some.field-0-is at c.in-Ok-Some.ensures.answers in
-    let old = place_of c.loop-asked.reader in
-    let new = place_of c.next.new.self in
+    let old = reached_of c.loop-asked.reader in
+    let new = reached_of c.next.new.self in
     let request : TimedDatagram = record { moment = c.in-Ok-Some.asked.moment; datagram = c.datagram.result.now } in (
       record {
         same = λ each. c.in-Ok.ensures.constant each ∙ (c.in-Ok-Some.ensures.constant each ∙ i.same each);
@@ -76,8 +76,8 @@ pub returns-in-Err-write_answer-clause-text : goal.returns-in-Err-write_answer-c
 returns-in-Err-write_answer-clause-text g c = λ bytes lines frames stop asked is isr left none faultless are.
     let i = c.loop-asked.invariant.0 in
     let takes = rw c.in-Ok-Some.field-0-is at c.in-Ok-Some.ensures.answers in
-    let old = place_of c.loop-asked.reader in
-    let new = place_of c.next.new.self in
+    let old = reached_of c.loop-asked.reader in
+    let new = reached_of c.next.new.self in
     let settings = settings_of c.args.self.now.probe in
     let before = g.K.Sink.content c.args.out.now.sink.now in
     let now = g.K.Sink.content c.loop-asked.out.sink.now in
@@ -117,7 +117,7 @@ returns-in-Ok-None-clause-text g c = λ bytes lines frames stop asked is isr lef
     let after = g.K.Sink.content c.write_last.new.out.sink.now in
     let (sofar, r, added) = i.run bytes frames stop is left none in
     let has = i.file lines isr in
-    let taken = taken_all i.taken (place_of c.loop-asked.reader) lines has (gone lines (i.same c.args.requests.now ∙ isr) has.agrees) i.few in
+    let taken = taken_all i.taken (reached_of c.loop-asked.reader) lines has (gone lines (i.same c.args.requests.now ∙ isr) has.agrees) i.few in
     let same : asked ≡ i.taken = let e = sym are.are ∙ taken.are in cc in
     let count : c.passed.result ≡ length i.taken = omega (arith, c.passed.ensures, stays.number, i.number) in
     let written = c.write_last.ensures.line bytes r.left stop r.journal (c.in-Ok-None.ensures.constant c.args.name.now ∙ (i.same c.args.name.now ∙ is)) r.records_left r.stands in
@@ -143,13 +143,13 @@ returns-in-Err-clause-text g c = λ bytes lines frames stop asked is isr left no
     let i = c.loop-asked.invariant.0 in
     let (sofar, r, added) = i.run bytes frames stop is left none in
     rw c.of_requests.ensures (requests_stop (settings_of c.args.self.now.probe) c.every_line.ensures (g.K.Sink.content c.args.out.now.sink.now) (g.K.Sink.content c.loop-asked.out.sink.now) bytes frames stop i.taken asked (progress_of c.loop-asked.self.capture) c.loop-asked.self.probe sofar
-    (g.F.Shelf.held c.loop-asked.shelf c.args.requests.now) (place_of c.loop-asked.reader) (place_of c.next.new.self) (datagram_in c.next.new.self) lines c.in-Err.fault r added (i.same c.args.requests.now ∙ isr) (i.file lines isr) are c.in-Err.ensures.answers)
+    (g.F.Shelf.held c.loop-asked.shelf c.args.requests.now) (reached_of c.loop-asked.reader) (reached_of c.next.new.self) (datagram_in c.next.new.self) lines c.in-Err.fault r added (i.same c.args.requests.now ∙ isr) (i.file lines isr) are c.in-Err.ensures.answers)
 
 pub returns-in-Err-clause-finds : goal.returns-in-Err-clause-finds
 returns-in-Err-clause-finds g c =
     let i = c.loop-asked.invariant.0 in
-    rw c.of_requests.ensures (requests_find (IsNotLeft (g.F.Shelf.held c.args.shelf.now c.args.name.now) (progress_of c.args.self.now.capture)) (g.F.Shelf.held c.args.shelf.now c.args.requests.now) (place_of c.loop-asked.reader) (place_of c.next.new.self) (datagram_in c.next.new.self)
-    i.taken c.in-Err.fault (subst (λ (h : Held). Answers h (place_of c.loop-asked.reader) (place_of c.next.new.self) (datagram_in c.next.new.self) (Err c.in-Err.fault)) (i.same c.args.requests.now) c.in-Err.ensures.answers) i.file)
+    rw c.of_requests.ensures (requests_find (IsNotLeft (g.F.Shelf.held c.args.shelf.now c.args.name.now) (progress_of c.args.self.now.capture)) (g.F.Shelf.held c.args.shelf.now c.args.requests.now) (reached_of c.loop-asked.reader) (reached_of c.next.new.self) (datagram_in c.next.new.self)
+    i.taken c.in-Err.fault (subst (λ (h : Held). Answers h (reached_of c.loop-asked.reader) (reached_of c.next.new.self) (datagram_in c.next.new.self) (Err c.in-Err.fault)) (i.same c.args.requests.now) c.in-Err.ensures.answers) i.file)
 
 pub returns-in-Err-clause-loud : goal.returns-in-Err-clause-loud
 returns-in-Err-clause-loud g c = rw c.of_requests.ensures (requests_loud c.in-Err.fault)

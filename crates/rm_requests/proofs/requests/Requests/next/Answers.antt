@@ -3,7 +3,7 @@ use Rattle.std.proofs.lemmas.List.{with_items_is}
 use Rattle.rm_edge.specs.Outside.{File}
 use Rattle.rm_window.specs.Filling.{IsFront}
 use Rattle.rm_window.specs.Window.{octets_of}
-use Rattle.rm_requests.specs.Reading.{place_of, HoldsLine, Place}
+use Rattle.rm_requests.specs.Reading.{reached_of, HoldsLine, Reached}
 use Rattle.rm_requests.proofs.FileLemmas.{has_line, wrong_line, falls_line, takes_line}
 use Rattle.rm_window.proofs.WindowLemmas.{front_short}
 use Rattle.rm_requests.proofs.requests.Requests.next.Goals as goal
@@ -29,7 +29,7 @@ returns-in_default-read_request-clause-answers g c =
       omega (arith, c.if-number-gt-MOST_LINES.false),
       λ bytes is front.
           let holds = subst (λ (t : List ℕ). HoldsLine t (drop self.at bytes)) (sym c.octets.ensures) (c.in-Ok.ensures.holds bytes is front) in
-          wrong_line (place_of self) c.octets.result.now c.first_line-passed.result.0.now c.first_line-passed.result.1 bytes holds (omega (arith, c.if-len-eq0.false, c.len.ensures, ap length c.octets.ensures)) c.first_line-passed.ensures
+          wrong_line (reached_of self) c.octets.result.now c.first_line-passed.result.0.now c.first_line-passed.result.1 bytes holds (omega (arith, c.if-len-eq0.false, c.len.ensures, ap length c.octets.ensures)) c.first_line-passed.ensures
           c.in_default-read_request.ensures ∙ ap Err (sym stays.number),
     )
 
@@ -42,7 +42,7 @@ returns-then-moment-self-clause-answers g c =
       omega (arith, c.if-number-gt-MOST_LINES.false),
       λ bytes is front.
           let holds = subst (λ (t : List ℕ). HoldsLine t (drop self.at bytes)) (sym c.octets.ensures) (c.in-Ok.ensures.holds bytes is front) in
-          falls_line (place_of self) c.octets.result.now c.first_line-passed.result.0.now c.first_line-passed.result.1 bytes holds (omega (arith, c.if-len-eq0.false, c.len.ensures, ap length c.octets.ensures)) c.first_line-passed.ensures
+          falls_line (reached_of self) c.octets.result.now c.first_line-passed.result.0.now c.first_line-passed.result.1 bytes holds (omega (arith, c.if-len-eq0.false, c.len.ensures, ap length c.octets.ensures)) c.first_line-passed.ensures
           (record { moment = c.in-Some.moment; datagram = take c.in-Some.count c.read_request.new.into }) c.in-Some.ensures.2 (omega (arith, c.if-moment-self.true, stays.last)) ∙ ap Err (sym stays.number),
     )
 
@@ -61,7 +61,7 @@ returns-clause-answers g c =
       range = c.in-Some.ensures.0;
       passes = λ bytes is front.
           let holds = subst (λ (t : List ℕ). HoldsLine t (drop self.at bytes)) (sym c.octets.ensures) (c.in-Ok.ensures.holds bytes is front) in
-          rw kept (takes_line (place_of self) c.octets.result.now c.first_line-passed.result.0.now c.first_line-passed.result.1 bytes holds (omega (arith, c.if-len-eq0.false, c.len.ensures, ap length c.octets.ensures)) c.first_line-passed.ensures
-          (place_of c.pass.new.self) (record { moment = c.in-Some.moment; datagram = datagram }) c.in-Some.ensures.2 (omega (arith, c.if-moment-self.false, stays.last))
+          rw kept (takes_line (reached_of self) c.octets.result.now c.first_line-passed.result.0.now c.first_line-passed.result.1 bytes holds (omega (arith, c.if-len-eq0.false, c.len.ensures, ap length c.octets.ensures)) c.first_line-passed.ensures
+          (reached_of c.pass.new.self) (record { moment = c.in-Some.moment; datagram = datagram }) c.in-Some.ensures.2 (omega (arith, c.if-moment-self.false, stays.last))
           (omega (arith, c.pass.ensures.at, stays.at)) (omega (arith, c.pass.ensures.number, stays.number)) c.pass.ensures.last (c.pass.ensures.read ∙ ap (drop c.first_line-passed.result.1) (sym c.octets.ensures)));
     }

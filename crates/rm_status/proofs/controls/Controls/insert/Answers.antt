@@ -1,4 +1,4 @@
-use Rattle.std.proofs.Common.{length, ◌<◌, rules}
+use Rattle.std.proofs.Common.{length, ◌<◌, rules, arith}
 use Rattle.rm_status.specs.declared.row.Row.{Row}
 use Rattle.rm_status.proofs.RowCalls.{inserted, place_fits}
 use Rattle.rm_status.proofs.controls.Controls.insert.Goals as goal
@@ -6,7 +6,10 @@ use Rattle.rm_status.proofs.controls.Controls.insert.Goals as goal
 pub insert-requires : goal.insert-requires
 insert-requires g c =
     let fits = place_fits c.self.inside.rows.items c.args.self.now c.args.index c.place_above-place.result c.self.view_is c.place_above-place.ensures in
-    let room : length c.self.inside.rows.items < 16 = rw c.self.view_is c.requires.room in
+    let under : length c.self.inside.rows.items < g.C.Columns.table.most = rw c.self.view_is c.requires.room in
+    let most = c.most.ensures.value in
+    let few = c.most.ensures.room in
+    let room : length c.self.inside.rows.items < 32 = omega (arith, under, most, few) in
     (search rules, (fits, room))
 
 pub invariant_of-self : goal.invariant_of-self

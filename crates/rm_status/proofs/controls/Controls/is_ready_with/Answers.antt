@@ -1,4 +1,4 @@
-use Rattle.std.proofs.Common.{ℕ, Option, None, ap, ◌∙◌, ◌∷◌, []}
+use Rattle.std.proofs.Common.{ℕ, Option, ap, ◌∙◌, ◌∷◌, []}
 use Rattle.std.specs.Option.{option_or}
 use Rattle.rm_val.specs.Val.{Val}
 use Rattle.rm_model.specs.Journal.{value_given}
@@ -16,8 +16,8 @@ returns-in-None g c =
     let given : ℕ → Option Val = λ column. value_given (g.A.Assigns.bindings c.args.set.now) (cell_name C.table.entry column (c.args.row ∷ [])) in
     let rows = c.args.self.now in
     c.is_ready_after.ensures ∙ ap (λ x. is_ready C.table (of_columns C.table (λ column. option_or (given column) (C.set_to x column)))) c.blank.ensures
-    ∙ ready_alike C.table (C.set_to C.blank_row) (λ column. None) given g.met.C.Columns.blank_alike
-    ∙ same_ready C.table given (λ column. None) (set_before (rows_before C.set_to rows) (c.args.row ∷ [])) (set_not_held C.set_to rows c.args.row c.in-None.ensures.value)
+    ∙ ready_alike C.table (C.set_to (C.blank_row c.args.row)) (C.table.rules.first (c.args.row ∷ [])) given (g.met.C.Columns.blank_alike c.args.row)
+    ∙ same_ready C.table given (C.table.rules.first (c.args.row ∷ [])) (set_before C.table (rows_before C.set_to rows) (c.args.row ∷ [])) (set_not_held C.table C.set_to rows c.args.row c.in-None.ensures.value)
 
 pub returns-in-Some : goal.returns-in-Some
 returns-in-Some g c =
@@ -25,4 +25,4 @@ returns-in-Some g c =
     let given : ℕ → Option Val = λ column. value_given (g.A.Assigns.bindings c.args.set.now) (cell_name C.table.entry column (c.args.row ∷ [])) in
     let rows = c.args.self.now in
     c.is_ready_after-in-Some.ensures ∙ same_ready C.table given (C.set_to c.bare.result) (C.set_to c.in-Some.found.now.columns) c.bare.ensures
-    ∙ same_ready C.table given (C.set_to c.in-Some.found.now.columns) (set_before (rows_before C.set_to rows) (c.args.row ∷ [])) (set_held C.set_to rows c.args.row c.len.ensures.rows c.in-Some.found.now c.in-Some.ensures.value)
+    ∙ same_ready C.table given (C.set_to c.in-Some.found.now.columns) (set_before C.table (rows_before C.set_to rows) (c.args.row ∷ [])) (set_held C.table C.set_to rows c.args.row c.len.ensures.rows c.in-Some.found.now c.in-Some.ensures.value)

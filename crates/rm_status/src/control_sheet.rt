@@ -1,0 +1,19 @@
+// The description of a control table, as data.
+use rm_model::{ColumnSheet, StatusKind};
+
+/// A control table.
+#[derive(Clone, Copy)]
+pub struct ControlSheet {
+    /// The identifier of its entry.
+    pub entry: &'static [u32],
+    /// The numbers of all its columns, in rising order.
+    pub shown: &'static [u32],
+    /// The number of the status column.
+    pub status: u32,
+    /// The kind of the status column.
+    pub kind: StatusKind,
+    /// How many rows it has at most. There is room for 32.
+    pub most: usize,
+    /// The columns that can be set, beside the status.
+    pub columns: &'static [ColumnSheet],
+}
