@@ -1,5 +1,5 @@
 -- That channelTable and bufferControlTable depend on what is read after earlier acts only.
-use Rattle.std.proofs.Common.{◌≡◌, ℕ, List, [], ◌∷◌, Bool, true, false, cond, Option, Some, None, refl, ap, ◌∙◌}
+use Rattle.std.proofs.Common.{◌≡◌, ℕ, List, [], ◌∷◌, true, false, cond, Option, Some, None, refl, ap, ◌∙◌}
 use Rattle.std.specs.Prelude.{ℤ, filter}
 use Rattle.std.specs.Option.{option_or}
 use Rattle.rm_model.specs.Settings.{Settings}

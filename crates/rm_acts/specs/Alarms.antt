@@ -7,10 +7,9 @@ use Rattle.rm_val.specs.Val.{Val, int, name}
 pub use Rattle.rm_val.specs.Contents.{number_of, name_of}
 use Rattle.rm_model.specs.Settings.{Settings}
 use Rattle.rm_model.specs.Journal.{Journal, passes, assigns, samples, moment_of}
-use Rattle.rm_model.specs.ControlTable.{Range, Column, ControlTable, no_rules, number, any_name, owner_column}
+use Rattle.rm_model.specs.ControlTable.{Range, Column, ControlTable, number, any_name, up_from, plain_column, needed_column, owner_column, entry_table}
 use Rattle.rm_model.specs.ControlRows.{no_rows, is_valid, state_of, value_of, stays_valid, since, activated}
 use Rattle.rm_acts.specs.Crossings.{Bounds, crossing}
-use Rattle.rm_model.specs.declared.row.StatusKind.TheVariants.{EntryStatus}
 use Rattle.rm_model.specs.declared.row.State.{State}
 use Rattle.rm_model.specs.declared.reading.Reading.{Reading}
 use Rattle.rm_acts.specs.declared.sampled.Sampled.{Sampled}
@@ -20,54 +19,46 @@ use Rattle.rm_acts.specs.declared.sampled.Sampled.TheVariants.{Gone}
 abbrev pub alarm_entry : List ℕ
 alarm_entry = 1 ∷ 3 ∷ 6 ∷ 1 ∷ 2 ∷ 1 ∷ 16 ∷ 3 ∷ 1 ∷ 1 ∷ []
 
--- the numbers from one to another, and those of an INTEGER
-abbrev pub up_from : ℕ → ℕ → List Range
-up_from least greatest = record { least = pos least; greatest = pos greatest } ∷ []
-
+-- the numbers of an INTEGER
 abbrev pub any_number : List Range
 any_number = record { least = negsuc 2147483647; greatest = pos 2147483647 } ∷ []
 
 -- The columns that can be set: alarmInterval, alarmVariable, alarmSampleType, alarmStartupAlarm, alarmRisingThreshold,
 -- alarmFallingThreshold, alarmRisingEventIndex, alarmFallingEventIndex and alarmOwner.
 abbrev pub interval_column : Column
-interval_column = record { number = 2; kind = number (up_from 1 2147483647); always = false; needed = true; default = int (pos 0) }
+interval_column = needed_column 2 (number (up_from 1 2147483647)) (int (pos 0))
 
 abbrev pub variable_column : Column
-variable_column = record { number = 3; kind = any_name; always = false; needed = true; default = name (0 ∷ 0 ∷ []) }
+variable_column = needed_column 3 any_name (name (0 ∷ 0 ∷ []))
 
 abbrev pub sample_type_column : Column
-sample_type_column = record { number = 4; kind = number (up_from 1 2); always = false; needed = false; default = int (pos 1) }
+sample_type_column = plain_column 4 (number (up_from 1 2)) (int (pos 1))
 
 abbrev pub startup_column : Column
-startup_column = record { number = 6; kind = number (up_from 1 3); always = false; needed = false; default = int (pos 3) }
+startup_column = plain_column 6 (number (up_from 1 3)) (int (pos 3))
 
 abbrev pub rising_column : Column
-rising_column = record { number = 7; kind = number any_number; always = false; needed = false; default = int (pos 0) }
+rising_column = plain_column 7 (number any_number) (int (pos 0))
 
 abbrev pub falling_column : Column
-falling_column = record { number = 8; kind = number any_number; always = false; needed = false; default = int (pos 0) }
+falling_column = plain_column 8 (number any_number) (int (pos 0))
 
 abbrev pub rising_event_column : Column
-rising_event_column = record { number = 9; kind = number (up_from 0 65535); always = false; needed = false; default = int (pos 0) }
+rising_event_column = plain_column 9 (number (up_from 0 65535)) (int (pos 0))
 
 abbrev pub falling_event_column : Column
-falling_event_column = record { number = 10; kind = number (up_from 0 65535); always = false; needed = false; default = int (pos 0) }
+falling_event_column = plain_column 10 (number (up_from 0 65535)) (int (pos 0))
 
 -- The control table. Of its columns the owner alone may be set while the row is valid. A row is ready where the falling
 -- threshold isn't above the rising one.
 abbrev pub alarm_table : ControlTable
-alarm_table = record {
-  entry = alarm_entry;
-  status = 12;
-  status_kind = EntryStatus;
-  most = 16;
-  columns =
-      interval_column ∷ variable_column ∷ sample_type_column ∷ startup_column ∷ rising_column ∷ falling_column
-      ∷ rising_event_column ∷ falling_event_column ∷ owner_column 11 ∷ [];
-  go_together = λ value. int_le (number_of (value 8)) (number_of (value 7));
-  rules = no_rules;
-  is_sampled = true;
-}
+alarm_table =
+    record (entry_table alarm_entry 12
+    (interval_column ∷ variable_column ∷ sample_type_column ∷ startup_column ∷ rising_column ∷ falling_column
+    ∷ rising_event_column ∷ falling_event_column ∷ owner_column 11 ∷ [])) {
+      go_together = λ value. int_le (number_of (value 8)) (number_of (value 7));
+      is_sampled = true;
+    }
 
 -- the state of an alarm, and the value of a column of it that can be set
 abbrev pub alarm_state : Journal → ℕ → State

@@ -1,13 +1,11 @@
 -- The control table of capture buffers (RFC 1757, section 5), and the packets that a buffer keeps.
 use Rattle.std.specs.Prelude.{ℕ, ◌+◌, ◌-◌, min, max, pos, negsuc, List, [], ◌∷◌, length, map, filter, reverse, take, drop, Bool, true, false, nat_eq, nat_le, nat_lt, if◌then◌else◌}
-use Rattle.rm_val.specs.Val.{Val, int, octets}
+use Rattle.rm_val.specs.Val.{Val, int}
 use Rattle.rm_model.specs.Settings.{Settings}
 use Rattle.rm_model.specs.Journal.{Frame, Journal}
 use Rattle.rm_model.specs.Cells.{is_one_of}
-use Rattle.rm_model.specs.ControlTable.{ControlTable, no_rules, number, text}
+use Rattle.rm_model.specs.ControlTable.{ControlTable, number, up_from, plain_column, always_column, needed_column, owner_column, entry_table}
 use Rattle.rm_model.specs.ControlRows.{no_rows, value_of}
-use Rattle.rm_acts.specs.Alarms.{up_from}
-use Rattle.rm_model.specs.declared.row.StatusKind.TheVariants.{EntryStatus}
 use Rattle.rm_acts.specs.Rows.{number_in}
 use Rattle.rm_acts.specs.Seen.{Seen, seen_since}
 use Rattle.rm_acts.specs.Fired.{fired, accepting}
@@ -18,24 +16,14 @@ buffer_entry = 1 ∷ 3 ∷ 6 ∷ 1 ∷ 2 ∷ 1 ∷ 16 ∷ 8 ∷ 1 ∷ 1 ∷ []
 -- bufferControlChannelIndex, bufferControlFullAction, bufferControlCaptureSliceSize, bufferControlDownloadSliceSize,
 -- bufferControlDownloadOffset, bufferControlMaxOctetsRequested, bufferControlOwner
 abbrev pub buffer_table : ControlTable
-buffer_table = record {
-  entry = buffer_entry;
-  status = 13;
-  status_kind = EntryStatus;
-  most = 16;
-  columns =
-      record { number = 2; kind = number (up_from 1 65535); always = false; needed = true; default = int (pos 0) }
-      ∷ record { number = 4; kind = number (up_from 1 2); always = false; needed = false; default = int (pos 1) }
-      ∷ record { number = 5; kind = number (up_from 0 262144); always = false; needed = false; default = int (pos 100) }
-      ∷ record { number = 6; kind = number (up_from 0 262144); always = true; needed = false; default = int (pos 100) }
-      ∷ record { number = 7; kind = number (up_from 0 2147483647); always = true; needed = false; default = int (pos 0) }
-      ∷ record { number = 8; kind = number (record { least = negsuc 0; greatest = pos 2147483647 } ∷ []); always = false; needed = false; default = int (negsuc 0) }
-      ∷ record { number = 12; kind = text 127; always = true; needed = false; default = octets [] }
-      ∷ [];
-  go_together = λ value. true;
-  rules = no_rules;
-  is_sampled = false;
-}
+buffer_table =
+    entry_table buffer_entry 13
+    (needed_column 2 (number (up_from 1 65535)) (int (pos 0))
+    ∷ plain_column 4 (number (up_from 1 2)) (int (pos 1))
+    ∷ plain_column 5 (number (up_from 0 262144)) (int (pos 100)) ∷ always_column 6 (number (up_from 0 262144)) (int (pos 100))
+    ∷ always_column 7 (number (up_from 0 2147483647)) (int (pos 0))
+    ∷ plain_column 8 (number (record { least = negsuc 0; greatest = pos 2147483647 } ∷ [])) (int (negsuc 0))
+    ∷ owner_column 12 ∷ [])
 
 -- the channel of a buffer, whether it wraps where it is full, and how many octets of a packet it keeps, 0 for all
 abbrev pub channel_captured : Journal → (buffer : ℕ) → ℕ

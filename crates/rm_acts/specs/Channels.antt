@@ -1,15 +1,13 @@
 -- The control table of channels (RFC 1757, section 5), and the frames that a channel accepts.
-use Rattle.std.specs.Prelude.{◌≡◌, ℕ, pos, List, [], ◌∷◌, length, Bool, true, false, ◌&&◌, not, nat_eq, if◌then◌else◌, filter}
+use Rattle.std.specs.Prelude.{◌≡◌, ℕ, pos, List, [], ◌∷◌, length, Bool, ◌&&◌, not, nat_eq, if◌then◌else◌, filter}
 use Rattle.std.specs.List.{list_any}
-use Rattle.rm_val.specs.Val.{int, octets}
+use Rattle.rm_val.specs.Val.{int}
 use Rattle.rm_model.specs.Settings.{Settings}
 use Rattle.rm_model.specs.Journal.{Frame, Journal}
-use Rattle.rm_model.specs.ControlTable.{Column, ControlTable, no_rules, number, text}
+use Rattle.rm_model.specs.ControlTable.{Column, ControlTable, number, up_from, plain_column, always_column, text_column, owner_column, entry_table}
 use Rattle.rm_model.specs.ControlRows.{no_rows}
 use Rattle.rm_model.specs.Indexes.{indexes_of}
 use Rattle.rm_model.specs.declared.interface.TheConstants.{INTERFACES}
-use Rattle.rm_acts.specs.Alarms.{up_from}
-use Rattle.rm_model.specs.declared.row.StatusKind.TheVariants.{EntryStatus}
 use Rattle.rm_acts.specs.Rows.{number_in, valid_rows}
 use Rattle.rm_acts.specs.Seen.{seen_since}
 use Rattle.rm_acts.specs.Filters.{filter_table, channel_of, matches}
@@ -19,29 +17,19 @@ channel_entry = 1 ∷ 3 ∷ 6 ∷ 1 ∷ 2 ∷ 1 ∷ 16 ∷ 7 ∷ 2 ∷ 1 ∷ []
 
 -- a column with the index of an event, 0 for none
 abbrev pub event_column : ℕ → Column
-event_column column = record { number = column; kind = number (up_from 0 65535); always = false; needed = false; default = int (pos 0) }
+event_column column = plain_column column (number (up_from 0 65535)) (int (pos 0))
 
 -- channelIfIndex, channelAcceptType, channelDataControl, channelTurnOnEventIndex, channelTurnOffEventIndex, channelEventIndex,
 -- channelEventStatus, channelDescription, channelOwner
 abbrev pub channel_table : ControlTable
-channel_table = record {
-  entry = channel_entry;
-  status = 12;
-  status_kind = EntryStatus;
-  most = 16;
-  columns =
-      record { number = 2; kind = number (up_from 1 INTERFACES); always = false; needed = false; default = int (pos 1) }
-      ∷ record { number = 3; kind = number (up_from 1 2); always = false; needed = false; default = int (pos 1) }
-      ∷ record { number = 4; kind = number (up_from 1 2); always = true; needed = false; default = int (pos 2) }
-      ∷ event_column 5 ∷ event_column 6 ∷ event_column 7
-      ∷ record { number = 8; kind = number (up_from 1 3); always = true; needed = false; default = int (pos 1) }
-      ∷ record { number = 10; kind = text 127; always = false; needed = false; default = octets [] }
-      ∷ record { number = 11; kind = text 127; always = true; needed = false; default = octets [] }
-      ∷ [];
-  go_together = λ value. true;
-  rules = no_rules;
-  is_sampled = false;
-}
+channel_table =
+    entry_table channel_entry 12
+    (plain_column 2 (number (up_from 1 INTERFACES)) (int (pos 1))
+    ∷ plain_column 3 (number (up_from 1 2)) (int (pos 1))
+    ∷ always_column 4 (number (up_from 1 2)) (int (pos 2))
+    ∷ event_column 5 ∷ event_column 6 ∷ event_column 7
+    ∷ always_column 8 (number (up_from 1 3)) (int (pos 1))
+    ∷ text_column 10 ∷ owner_column 11 ∷ [])
 
 -- the interface whose frames it judges, how it accepts, which events turn it on and off, and the one that it fires
 abbrev pub interface_of : Journal → (channel : ℕ) → ℕ

@@ -1,12 +1,10 @@
 -- The control table of filters (RFC 1757, section 5), and the frames that a filter matches.
-use Rattle.std.specs.Prelude.{ℕ, ◌%◌, pos, List, [], ◌∷◌, Bool, true, false, ◌&&◌, drop}
+use Rattle.std.specs.Prelude.{ℕ, ◌%◌, pos, List, [], ◌∷◌, Bool, ◌&&◌, drop}
 use Rattle.rm_val.specs.Val.{int, octets}
 use Rattle.rm_model.specs.Settings.{Settings}
 use Rattle.rm_model.specs.Journal.{Frame, Journal}
 use Rattle.rm_model.specs.FrameFacts.{frame_facts}
-use Rattle.rm_model.specs.ControlTable.{Column, ControlTable, no_rules, number, text}
-use Rattle.rm_acts.specs.Alarms.{up_from}
-use Rattle.rm_model.specs.declared.row.StatusKind.TheVariants.{EntryStatus}
+use Rattle.rm_model.specs.ControlTable.{Column, ControlTable, number, text, up_from, plain_column, needed_column, owner_column, entry_table}
 use Rattle.rm_acts.specs.Bits.{test_of, pass}
 use Rattle.rm_acts.specs.Rows.{number_in, text_in}
 
@@ -15,29 +13,19 @@ filter_entry = 1 ∷ 3 ∷ 6 ∷ 1 ∷ 2 ∷ 1 ∷ 16 ∷ 7 ∷ 1 ∷ 1 ∷ []
 
 -- a column with octets of a packet, and one with bits of a status
 abbrev pub packet_column : ℕ → Column
-packet_column column = record { number = column; kind = text 128; always = false; needed = false; default = octets [] }
+packet_column column = plain_column column (text 128) (octets [])
 
 abbrev pub natural_column : ℕ → Column
-natural_column column = record { number = column; kind = number (up_from 0 2147483647); always = false; needed = false; default = int (pos 0) }
+natural_column column = plain_column column (number (up_from 0 2147483647)) (int (pos 0))
 
 -- filterChannelIndex, filterPktDataOffset, filterPktData, filterPktDataMask, filterPktDataNotMask, filterPktStatus,
 -- filterPktStatusMask, filterPktStatusNotMask, filterOwner
 abbrev pub filter_table : ControlTable
-filter_table = record {
-  entry = filter_entry;
-  status = 11;
-  status_kind = EntryStatus;
-  most = 16;
-  columns =
-      record { number = 2; kind = number (up_from 1 65535); always = false; needed = true; default = int (pos 0) }
-      ∷ natural_column 3 ∷ packet_column 4 ∷ packet_column 5 ∷ packet_column 6
-      ∷ natural_column 7 ∷ natural_column 8 ∷ natural_column 9
-      ∷ record { number = 10; kind = text 127; always = true; needed = false; default = octets [] }
-      ∷ [];
-  go_together = λ value. true;
-  rules = no_rules;
-  is_sampled = false;
-}
+filter_table =
+    entry_table filter_entry 11
+    (needed_column 2 (number (up_from 1 65535)) (int (pos 0))
+    ∷ natural_column 3 ∷ packet_column 4 ∷ packet_column 5 ∷ packet_column 6
+    ∷ natural_column 7 ∷ natural_column 8 ∷ natural_column 9 ∷ owner_column 10 ∷ [])
 
 -- the channel of a filter
 abbrev pub channel_of : Journal → (filter : ℕ) → ℕ

@@ -7,7 +7,8 @@ use Rattle.rm_model.specs.Journal.{value_given}
 use Rattle.rm_model.specs.ControlTable.{number}
 use Rattle.rm_model.specs.ControlRows.{cell_name}
 use Rattle.rm_model.specs.Judgement.{Bindings, first_pass}
-use Rattle.rm_acts.specs.Alarms.{alarm_entry, alarm_table, number_of, up_from}
+use Rattle.rm_model.specs.ControlTable.{up_from}
+use Rattle.rm_acts.specs.Alarms.{alarm_entry, alarm_table, number_of}
 use Rattle.rm_status.specs.Kinds.{of_within}
 use Rattle.rm_status.proofs.Bound.{given_fine}
 

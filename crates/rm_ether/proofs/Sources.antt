@@ -1,5 +1,5 @@
 -- Frames of a data source, and sums over frames.
-use Rattle.std.proofs.Common.{◌≡◌, ℕ, ◌+◌, List, ◌∷◌, refl, Bool, true, false, cond, ◌&&◌, nat_eq, filter, arith}
+use Rattle.std.proofs.Common.{◌≡◌, ℕ, ◌+◌, List, ◌∷◌, Bool, true, false, cond, nat_eq, filter, arith}
 use Rattle.std.specs.List.{sum_by}
 use Rattle.std.proofs.Math.Bool.{and-true}
 use Rattle.std.proofs.lemmas.List.Sums.{sum_by-cons}

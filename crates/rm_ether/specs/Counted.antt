@@ -2,7 +2,7 @@
 use Rattle.std.specs.Prelude.{ℕ, Bool, true, false, ◌&&◌, ◌==◌, nat_le, nat_eq, if◌then◌else◌}
 use Rattle.rm_proto.specs.declared.known.Facts.{Facts}
 use Rattle.rm_proto.specs.declared.ethernet.Cast.{Cast}
-use Rattle.rm_proto.specs.declared.ethernet.Cast.TheVariants.{Broad, Multi, Uni}
+use Rattle.rm_proto.specs.declared.ethernet.Cast.TheVariants.{Broad, Multi}
 use Rattle.rm_ether.specs.declared.counter.Counter.{Counter}
 use Rattle.rm_ether.specs.declared.counter.Counter.TheVariants.{DropEvents, Octets, Pkts, BroadcastPkts, MulticastPkts, CRCAlignErrors, UndersizePkts, OversizePkts, Fragments, Jabbers, Collisions, Pkts64Octets, Pkts65to127Octets, Pkts128to255Octets, Pkts256to511Octets, Pkts512to1023Octets, Pkts1024to1518Octets}
 
@@ -14,13 +14,11 @@ one_if false = 0
 -- the class of a frame
 abbrev pub is_broadcast : Cast → Bool
 is_broadcast Broad = true
-is_broadcast Multi = false
-is_broadcast Uni = false
+is_broadcast other = false
 
 abbrev pub is_multicast : Cast → Bool
-is_multicast Broad = false
 is_multicast Multi = true
-is_multicast Uni = false
+is_multicast other = false
 
 -- whether a frame has so many octets, the least and the greatest number included
 abbrev pub has_octets : ℕ → ℕ → Facts → Bool

@@ -1,15 +1,14 @@
 -- The table etherStats (RFC 1757, section 5), and what it shows after a journal.
-use Rattle.std.specs.Prelude.{ℕ, ◌%◌, ◌^◌, List, [], ◌∷◌, Bool, true, false, ◌&&◌, nat_eq, nat_le, if◌then◌else◌, Option, Some, None, codes}
+use Rattle.std.specs.Prelude.{ℕ, ◌%◌, ◌^◌, List, [], ◌∷◌, Bool, false, ◌&&◌, nat_eq, nat_le, if◌then◌else◌, Option, Some, None, codes}
 use Rattle.std.specs.List.{sum_by}
 use Rattle.rm_val.specs.Val.{Val, name, octets, counter}
 use Rattle.rm_model.specs.Settings.{Settings}
 use Rattle.rm_model.specs.Journal.{Frame, Journal, frames_in}
 use Rattle.rm_model.specs.Interfaces.{interface_name, frames_of}
 use Rattle.rm_model.specs.Cells.{Table}
-use Rattle.rm_model.specs.ControlTable.{ControlTable, no_rules, source_column, owner_column}
+use Rattle.rm_model.specs.ControlTable.{ControlTable, source_column, owner_column, entry_table}
 use Rattle.rm_model.specs.ControlCells.{control_cells}
 use Rattle.rm_model.specs.ControlRows.{Beginning, state_of, value_of, since}
-use Rattle.rm_model.specs.declared.row.StatusKind.TheVariants.{EntryStatus}
 use Rattle.rm_model.specs.declared.row.State.{State}
 use Rattle.rm_model.specs.declared.row.State.TheVariants.{Absent, Valid}
 use Rattle.rm_ether.specs.declared.counter.Counter.{Counter}
@@ -24,16 +23,7 @@ ether_entry = 1 ∷ 3 ∷ 6 ∷ 1 ∷ 2 ∷ 1 ∷ 16 ∷ 1 ∷ 1 ∷ 1 ∷ []
 
 -- the control table: a row counts the frames of its data source; its owner may be set at any time
 abbrev pub ether_stats : ControlTable
-ether_stats = record {
-  entry = ether_entry;
-  status = 21;
-  status_kind = EntryStatus;
-  most = 16;
-  columns = source_column 2 ∷ owner_column 20 ∷ [];
-  go_together = λ value. true;
-  rules = no_rules;
-  is_sampled = false;
-}
+ether_stats = entry_table ether_entry 21 (source_column 2 ∷ owner_column 20 ∷ [])
 
 -- whether these numbers are the index of a row of the monitor: there is one for each interface, with its number
 abbrev pub is_of_monitor : Settings → List ℕ → Bool

@@ -1,5 +1,5 @@
 -- The columns of a row of etherStats, as they are kept.
-use Rattle.std.specs.Prelude.{ℕ, [], nat_eq, Option, Some, None, refl, ◌&&◌, if◌then◌else◌, codes}
+use Rattle.std.specs.Prelude.{ℕ, [], nat_eq, Option, None, refl, ◌&&◌, if◌then◌else◌, codes}
 use Rattle.rm_val.specs.Val.{Val}
 use Rattle.rm_model.specs.ControlTable.{source_column, owner_column}
 use Rattle.rm_model.specs.ControlRows.{is_valid}

@@ -1,8 +1,8 @@
 -- What is kept of the columns of a row of eventTable.
 use Rattle.std.specs.Prelude.{ℕ, [], nat_eq, if◌then◌else◌, Option, Some, None, refl}
 use Rattle.rm_val.specs.Val.{Val}
-use Rattle.rm_model.specs.ControlTable.{owner_column}
-use Rattle.rm_acts.specs.Events.{text_column, type_column}
+use Rattle.rm_model.specs.ControlTable.{text_column, owner_column}
+use Rattle.rm_acts.specs.Events.{type_column}
 use Rattle.rm_status.specs.Kinds.{texts}
 use Rattle.rm_status.specs.RowForm.{RowForm}
 use Rattle.rm_status.proofs.ColumnLaws.{no_columns, one_more}

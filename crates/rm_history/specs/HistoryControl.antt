@@ -4,10 +4,9 @@ use Rattle.rm_val.specs.Val.{Val, int}
 use Rattle.rm_model.specs.Journal.{Frame, Journal, frames_in}
 use Rattle.rm_model.specs.Interfaces.{frames_of}
 use Rattle.rm_model.specs.Cells.{Table}
-use Rattle.rm_model.specs.ControlTable.{Column, ControlTable, no_rules, number, source_column, owner_column}
+use Rattle.rm_model.specs.ControlTable.{Column, ControlTable, number, up_from, plain_column, source_column, owner_column, entry_table}
 use Rattle.rm_model.specs.ControlCells.{control_cells}
 use Rattle.rm_model.specs.ControlRows.{no_rows, is_valid, state_of, value_of, since, activated}
-use Rattle.rm_model.specs.declared.row.StatusKind.TheVariants.{EntryStatus}
 use Rattle.rm_model.specs.declared.row.State.{State}
 use Rattle.rm_history.specs.Columns.{control_columns}
 use Rattle.rm_status.specs.RowForm.{with_index}
@@ -20,23 +19,14 @@ control_entry = 1 ∷ 3 ∷ 6 ∷ 1 ∷ 2 ∷ 1 ∷ 16 ∷ 2 ∷ 1 ∷ 1 ∷ []
 
 -- the buckets requested, and the interval in seconds
 abbrev pub requested_column : Column
-requested_column = record { number = 3; kind = number (record { least = pos 1; greatest = pos 65535 } ∷ []); always = false; needed = false; default = int (pos 50) }
+requested_column = plain_column 3 (number (up_from 1 65535)) (int (pos 50))
 
 abbrev pub interval_column : Column
-interval_column = record { number = 5; kind = number (record { least = pos 1; greatest = pos 3600 } ∷ []); always = false; needed = false; default = int (pos 1800) }
+interval_column = plain_column 5 (number (up_from 1 3600)) (int (pos 1800))
 
 -- the control table: a row asks for so many buckets of so many seconds each of the frames of a data source
 abbrev pub history_control : ControlTable
-history_control = record {
-  entry = control_entry;
-  status = 7;
-  status_kind = EntryStatus;
-  most = 16;
-  columns = source_column 2 ∷ requested_column ∷ interval_column ∷ owner_column 6 ∷ [];
-  go_together = λ value. true;
-  rules = no_rules;
-  is_sampled = false;
-}
+history_control = entry_table control_entry 7 (source_column 2 ∷ requested_column ∷ interval_column ∷ owner_column 6 ∷ [])
 
 -- the state of a row
 abbrev pub control_state : Journal → List ℕ → State

@@ -1,10 +1,11 @@
 -- What is fixed of a control table: its columns, and the values that they take.
-use Rattle.std.specs.Prelude.{ℕ, ℤ, List, [], Bool, true, false, ◌&&◌, ◌||◌, not, nat_eq, Option, None, is_some, unwrap_or, find}
+use Rattle.std.specs.Prelude.{ℕ, ℤ, pos, List, [], ◌∷◌, Bool, true, false, ◌&&◌, ◌||◌, not, nat_eq, Option, None, is_some, unwrap_or, find}
 use Rattle.std.specs.List.{list_all}
 use Rattle.std.specs.Option.{option_map_or}
 use Rattle.rm_val.specs.Val.{Val, null, name, octets}
 use Rattle.rm_model.specs.Interfaces.{interface_name}
 use Rattle.rm_model.specs.declared.row.StatusKind.{StatusKind}
+use Rattle.rm_model.specs.declared.row.StatusKind.TheVariants.{EntryStatus}
 
 -- the numbers from the least one to the greatest one
 pub record Range : Type 0 where
@@ -28,13 +29,30 @@ pub record Column : Type 0 where
   pub needed : Bool
   pub default : Val
 
--- A data source, which is interface 1 until it is set.
-abbrev pub source_column : ℕ → Column
-source_column column = record { number = column; kind = data_source; always = false; needed = false; default = name (interface_name 1) }
+-- the numbers from one to another
+abbrev pub up_from : ℕ → ℕ → List Range
+up_from least greatest = record { least = pos least; greatest = pos greatest } ∷ []
 
--- The owner of a row, who may be set at any time.
+-- A column that may be set while its row is under creation alone; one that may be set while the row is valid too; and one that has to
+-- be set before the row is ready.
+abbrev pub plain_column : ℕ → Kind → (default : Val) → Column
+plain_column column kind default = record { number = column; kind = kind; always = false; needed = false; default = default }
+
+abbrev pub always_column : ℕ → Kind → (default : Val) → Column
+always_column column kind default = record { number = column; kind = kind; always = true; needed = false; default = default }
+
+abbrev pub needed_column : ℕ → Kind → (default : Val) → Column
+needed_column column kind default = record { number = column; kind = kind; always = false; needed = true; default = default }
+
+-- A data source, which is interface 1 until it is set; a text; and the owner of a row, who may be set at any time.
+abbrev pub source_column : ℕ → Column
+source_column column = plain_column column data_source (name (interface_name 1))
+
+abbrev pub text_column : ℕ → Column
+text_column column = plain_column column (text 127) (octets [])
+
 abbrev pub owner_column : ℕ → Column
-owner_column column = record { number = column; kind = text 127; always = true; needed = false; default = octets [] }
+owner_column column = always_column column (text 127) (octets [])
 
 -- What goes by the index of a row, where the rows of a table aren't all alike: what a column of a new row is set to at first, if it
 -- doesn't begin with the column's default; which columns of a row can never be set; and which rows were there from the beginning and stay.
@@ -59,6 +77,20 @@ pub record ControlTable : Type 0 where
   pub go_together : (ℕ → Val) → Bool
   pub rules : RowRules
   pub is_sampled : Bool
+
+-- A control table of RFC 1757: its status is an EntryStatus, it has sixteen rows at most, which are all alike, and all values of its
+-- columns go together.
+abbrev pub entry_table : List ℕ → (status : ℕ) → List Column → ControlTable
+entry_table entry status columns = record {
+  entry = entry;
+  status = status;
+  status_kind = EntryStatus;
+  most = 16;
+  columns = columns;
+  go_together = λ value. true;
+  rules = no_rules;
+  is_sampled = false;
+}
 
 -- the writable column with that number
 abbrev pub column_of : ControlTable → ℕ → Option Column

@@ -59,29 +59,20 @@ pub struct ColumnSheet {
 #[macro_export]
 macro_rules! column {
     ($number:expr, $kind:expr, $default:expr) => {
-        $crate::ColumnSheet {
-            number: $number,
-            kind: $kind,
-            settable: $crate::Settable::UnderCreation,
-            needed: false,
-            default: $default,
-        }
+        $crate::column!($number, $kind, $default, UnderCreation, false)
     };
     ($number:expr, $kind:expr, $default:expr, always) => {
-        $crate::ColumnSheet {
-            number: $number,
-            kind: $kind,
-            settable: $crate::Settable::Always,
-            needed: false,
-            default: $default,
-        }
+        $crate::column!($number, $kind, $default, Always, false)
     };
     ($number:expr, $kind:expr, $default:expr, needed) => {
+        $crate::column!($number, $kind, $default, UnderCreation, true)
+    };
+    ($number:expr, $kind:expr, $default:expr, $settable:ident, $needed:expr) => {
         $crate::ColumnSheet {
             number: $number,
             kind: $kind,
-            settable: $crate::Settable::UnderCreation,
-            needed: true,
+            settable: $crate::Settable::$settable,
+            needed: $needed,
             default: $default,
         }
     };

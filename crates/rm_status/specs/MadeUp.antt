@@ -5,34 +5,21 @@ use Rattle.std.proofs.Common.{subst}
 use Rattle.std.specs.Option.{option_map}
 use borrow.Author.Tests.{eqb-true}
 use Rattle.rm_val.specs.Val.{Val, int}
-use Rattle.rm_model.specs.declared.row.StatusKind.{StatusKind}
-use Rattle.rm_model.specs.declared.row.StatusKind.TheVariants.{EntryStatus, RowStatus}
-use Rattle.rm_model.specs.ControlTable.{Range, number, RowRules, no_rules, ControlTable}
+use Rattle.rm_model.specs.declared.row.StatusKind.TheVariants.{RowStatus}
+use Rattle.rm_model.specs.ControlTable.{Range, number, RowRules, ControlTable, up_from, plain_column, always_column, needed_column, entry_table}
 use Rattle.rm_model.specs.Alike.{HasSameColumns}
 use Rattle.rm_model.specs.Judgement.{column_kind, value_fault}
 use Rattle.rm_status.specs.Taken.{number_in, number_taken}
 
 abbrev up_to : ℕ → List Range
-up_to most = record { least = pos 1; greatest = pos most } ∷ []
-
-abbrev pub table : StatusKind → ℕ → RowRules → ControlTable
-table kind most rules = record {
-  entry = 1 ∷ 3 ∷ 6 ∷ 1 ∷ 4 ∷ 1 ∷ 9 ∷ 5 ∷ [];
-  status = 7;
-  status_kind = kind;
-  most = most;
-  columns =
-      record { number = 2; kind = number (up_to 9); always = false; needed = true; default = int (pos 0) }
-      ∷ record { number = 3; kind = number (up_to 3600); always = false; needed = false; default = int (pos 1800) }
-      ∷ record { number = 4; kind = number (up_to 100); always = true; needed = false; default = int (pos 100) }
-      ∷ [];
-  go_together = λ value. true;
-  rules = rules;
-  is_sampled = false;
-}
+up_to most = up_from 1 most
 
 abbrev pub plain : ControlTable
-plain = table EntryStatus 16 no_rules
+plain =
+    entry_table (1 ∷ 3 ∷ 6 ∷ 1 ∷ 4 ∷ 1 ∷ 9 ∷ 5 ∷ []) 7
+    (needed_column 2 (number (up_to 9)) (int (pos 0))
+    ∷ plain_column 3 (number (up_to 3600)) (int (pos 1800))
+    ∷ always_column 4 (number (up_to 100)) (int (pos 100)) ∷ [])
 
 -- whether an index is that one number
 abbrev pub is_row : ℕ → List ℕ → Bool
@@ -53,7 +40,7 @@ rules = record {
 }
 
 abbrev pub ruled : ControlTable
-ruled = table RowStatus 4 rules
+ruled = record plain { status_kind = RowStatus; most = 4; rules = rules }
 
 -- what the columns were set to, by the number in each
 abbrev pub set_to : Option ℤ → Option ℤ → Option ℤ → ℕ → Option Val
