@@ -1,5 +1,7 @@
 -- The samples that fall due, and how many are left to take up to a moment, at most.
-use Rattle.std.specs.Prelude.{◌≡◌, ℕ, zero, suc, ◌+◌, ◌-◌, Option, Some, None}
+use Rattle.std.proofs.Common.{arith}
+use Rattle.std.specs.Prelude.{◌≡◌, ◌↔◌, ℕ, zero, suc, ◌+◌, ◌-◌, Option, Some, None}
+use Rattle.rm_group.specs.Due.{HaveEnded}
 use Rattle.rm_group.specs.declared.due.Due.{Due}
 use Rattle.rm_alarm.specs.declared.alarms.Alarms.{Alarms}
 use Rattle.rm_alarm.specs.Group.{due_in}
@@ -22,3 +24,7 @@ samples_left alarms latest = sum_below (λ alarm. span_to latest (due_in alarms 
 -- what falls due is the next sample of an alarm: samples are of kind 1, and each has the number of its alarm
 abbrev pub IsSampleDue : Alarms → Due → Type 0
 IsSampleDue alarms due = (due.kind ≡ 1) × (due_in alarms due.number ≡ Some due.moment)
+
+-- samples are no ends: nothing of an alarm ends by itself
+pub none_ends : (alarms : Alarms) (moment : ℕ) → Unit {0} ↔ HaveEnded (IsSampleDue alarms) moment
+none_ends alarms moment = (λ _ due is below. absurd (omega (arith, is.0)), λ _. tt)

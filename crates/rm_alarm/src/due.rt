@@ -23,7 +23,7 @@ pub(crate) fn earliest(rows: &Controls<AlarmRow>) -> Option<(u64, u32)>
 }
 
 impl FallsDue for Alarms {
-    ghost use Rattle.rm_alarm.specs.Left.{IsSampleDue, samples_left};
+    ghost use Rattle.rm_alarm.specs.Left.{IsSampleDue, samples_left, none_ends};
 
     ghost falls_due = { IsSampleDue };
 
@@ -39,6 +39,8 @@ impl FallsDue for Alarms {
             None => None,
         }
     }
+
+    ghost asked = { λ s moment. none_ends s moment };
 }
 
 // When the next sample of an alarm is due, None where it isn't valid.

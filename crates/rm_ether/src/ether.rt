@@ -6,7 +6,7 @@ use crate::change::{Counting, Resting};
 use crate::row::{STATUS, StatisticsRow};
 use rm_acts::Firing;
 use rm_group::{
-    Assigns, Commits, Denied, Due, FallsDue, Group, Look, MOST_FRAMES, Objects, Passing, Readable,
+    Assigns, Commits, Denied, Group, Look, MOST_FRAMES, NeverDue, Objects, Passing, Readable,
     Steps, Unsampled,
 };
 use rm_model::{State, StatusKind, Verdict};
@@ -200,13 +200,6 @@ impl Unsampled for Ether {
     ghost begins = { λ s settings earlier moment alarm reading stands later. ether_sampled settings earlier moment alarm reading s stands };
 }
 
-// Nothing of the group falls due.
-impl FallsDue for Ether {
-    ghost falls_due = { λ s due. ⊥ };
-
-    ghost left = { λ s latest. 0 };
-
-    fn next_due(&self) -> Option<Due> {
-        None
-    }
+impl NeverDue for Ether {
+    ghost always_asked = { λ s moment. tt };
 }

@@ -7,7 +7,7 @@ ghost use Rattle.rm_event.specs.Acts.{begun, ended};
 
 use crate::events::Events;
 use rm_acts::Firing;
-use rm_group::{Due, FallsDue, Passing, Steps, Unsampled};
+use rm_group::{NeverDue, Passing, Steps, Unsampled};
 
 impl Steps for Events {
     ghost under_way = { λ s settings act earlier some. (is_set act ≡ false) × IsUnderWay s settings act earlier some };
@@ -25,13 +25,6 @@ impl Unsampled for Events {
     ghost begins = { λ s settings earlier moment alarm reading stands later. (refl, begun s settings (samples moment alarm reading) earlier refl stands) };
 }
 
-// Nothing of the group falls due.
-impl FallsDue for Events {
-    ghost falls_due = { λ s due. ⊥ };
-
-    ghost left = { λ s latest. 0 };
-
-    fn next_due(&self) -> Option<Due> {
-        None
-    }
+impl NeverDue for Events {
+    ghost always_asked = { λ s moment. tt };
 }

@@ -1,7 +1,8 @@
 -- The first of what falls due.
-use Rattle.std.proofs.Common.{◌≡◌, ◌⊎◌, inl, inr, ◌<◌, ◌≤◌, Option, Some, None, sym, ◌∙◌, subst, arith}
+use Rattle.std.proofs.Common.{◌≡◌, ◌⊎◌, inl, inr, ℕ, ◌<◌, ◌≤◌, Option, Some, None, refl, sym, ◌∙◌, subst, ap, arith}
+use Rattle.std.specs.Prelude.{◌↔◌}
 use Rattle.rm_group.specs.declared.due.Due.{Due}
-use Rattle.rm_group.specs.Due.{ComesFirst, IsFirst, IsSooner}
+use Rattle.rm_group.specs.Due.{ComesFirst, IsFirst, IsSooner, HaveEnded}
 
 pub through : (a b c : Due) → ComesFirst a b → ComesFirst b c → ComesFirst a c
 through a b c (inl x) (inl y) = inl (omega (arith, x, y))
@@ -47,3 +48,13 @@ of_sooner some others (Some one) (Some other) result is first second =
       | inl x ↦ subst (IsFirst (λ due. some due ⊎ others due)) (sym x.0) (of_both some others one other first second x.1)
       | inr y ↦ subst (IsFirst (λ due. some due ⊎ others due)) (sym y.0) (of_both_second some others one other first second y.1)
     ]
+
+-- A report that ends at 5: all has ended at 4, but not at 5. So a group of which it falls due can't be one that may always be asked.
+abbrev end_at : ℕ → Due
+end_at moment = record { moment = moment; kind = 0; number = 1 }
+
+ended_before : HaveEnded (λ due. due ≡ end_at 5) 4
+ended_before due is below = let at : due.moment ≡ 5 = ap (λ (d : Due). d.moment) is in omega (arith, at)
+
+not_always_asked : ((moment : ℕ) → Unit {0} ↔ HaveEnded (λ due. due ≡ end_at 5) moment) → ⊥
+not_always_asked asked = let late : 5 < 5 = (asked 5).0 tt (end_at 5) refl (omega arith) in omega (arith, late)

@@ -1,9 +1,11 @@
 // Things that fall due.
-ghost use Rattle.std.specs.Prelude.{◌≡◌, ℕ, ◌+◌, ◌⊎◌, true, false};
-ghost use Rattle.rm_group.specs.Due.{ComesFirst, IsFirst, IsSooner};
+ghost use Rattle.std.specs.Prelude.{◌≡◌, ◌↔◌, ℕ, ◌+◌, ◌⊎◌, true, false};
+ghost use Rattle.rm_group.specs.Due.{ComesFirst, IsFirst, IsSooner, HaveEnded, none_ends, both_end};
 ghost use Rattle.rm_group.specs.declared.due.Due.{Due as Falling};
 
+use crate::beside::Beside;
 use crate::both::Both;
+use crate::group::Group;
 use crate::system::System;
 
 /// What falls due: its moment in milliseconds, its kind and its number.
@@ -21,8 +23,8 @@ pub struct Due {
 pub const SAMPLES: u32 = 1;
 
 /// A group with things that fall due, each at a moment. At one moment those of a lower kind come first, and of one kind those with
-/// a lower number.
-pub trait FallsDue {
+/// a lower number. What is of a lower kind than samples ends by itself, as a report does: no act of the journal tells of it.
+pub trait FallsDue: Group {
     /// Something falls due next.
     ghost falls_due: { Self → Falling → Type 0 };
 
@@ -32,9 +34,18 @@ pub trait FallsDue {
     /// The one that is taken next. None where nothing ever falls due.
     fn next_due(&self) -> Option<Due>
         ensures { IsFirst (falls_due self.now) result };
+
+    /// The group may be asked at a moment in milliseconds exactly where all has ended that ends by itself and is due up to it.
+    ghost asked: { (s : Self) (moment : ℕ) → Self.Group.askable s moment ↔ HaveEnded (falls_due s) moment };
 }
 
-impl FallsDue for System {
+/// A group of which nothing ever falls due.
+pub trait NeverDue: Group {
+    /// It may be asked at every moment.
+    ghost always_asked: { (s : Self) (moment : ℕ) → Self.Group.askable s moment };
+}
+
+impl<G: NeverDue> FallsDue for G {
     ghost falls_due = { λ s due. ⊥ };
 
     ghost left = { λ s latest. 0 };
@@ -42,9 +53,15 @@ impl FallsDue for System {
     fn next_due(&self) -> Option<Due> {
         None
     }
+
+    ghost asked = { λ s moment. none_ends moment (G.always_asked s moment) };
 }
 
-impl<G: FallsDue, H: FallsDue> FallsDue for Both<G, H> {
+impl NeverDue for System {
+    ghost always_asked = { λ s moment. tt };
+}
+
+impl<G: FallsDue, H: FallsDue + Beside<G>> FallsDue for Both<G, H> {
     ghost falls_due = { λ s due. G.falls_due s.first due ⊎ H.falls_due s.second due };
 
     ghost left = { λ s latest. G.left s.first latest + H.left s.second latest };
@@ -52,6 +69,9 @@ impl<G: FallsDue, H: FallsDue> FallsDue for Both<G, H> {
     fn next_due(&self) -> Option<Due> {
         sooner(self.first.next_due(), self.second.next_due())
     }
+
+    ghost asked = { λ s moment.
+        both_end (G.falls_due s.first) (H.falls_due s.second) moment (G.asked s.first moment) (H.asked s.second moment) };
 }
 
 // Whether one comes before another, or is it.

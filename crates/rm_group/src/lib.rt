@@ -35,7 +35,7 @@ pub use both::Both;
 pub use bounds::{MOST_FRAMES, MOST_OCTETS};
 pub use commits::Commits;
 pub use denied::Denied;
-pub use due::{Due, FallsDue, SAMPLES, sooner};
+pub use due::{Due, FallsDue, NeverDue, SAMPLES, sooner};
 pub use group::Group;
 pub use instance::{append_from, instance_of, numbers_from};
 pub use laws::{next_or_none, order_does_not_matter};

@@ -8,8 +8,8 @@ use crate::history::History;
 use crate::samples::Samples;
 use rm_acts::Firing;
 use rm_group::{
-    Assigns, Commits, Denied, Due, FallsDue, Group, Look, Objects, Passing, Readable, Steps,
-    Unsampled, is_of_column, judge_read_only, lower_verdict,
+    Assigns, Commits, Denied, Group, Look, NeverDue, Objects, Passing, Readable, Steps, Unsampled,
+    is_of_column, judge_read_only, lower_verdict,
 };
 use rm_model::Verdict;
 use rm_nested::{InnerCells, cell_of_both, next_of_both};
@@ -168,13 +168,6 @@ impl Unsampled for History {
     ghost begins = { λ s settings earlier moment alarm reading stands later. history_sampled settings earlier moment alarm reading later s stands };
 }
 
-// Nothing of the group falls due.
-impl FallsDue for History {
-    ghost falls_due = { λ s due. ⊥ };
-
-    ghost left = { λ s latest. 0 };
-
-    fn next_due(&self) -> Option<Due> {
-        None
-    }
+impl NeverDue for History {
+    ghost always_asked = { λ s moment. tt };
 }
