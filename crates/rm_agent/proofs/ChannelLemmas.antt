@@ -12,18 +12,21 @@ use Rattle.rm_model.specs.Judgement.{Bindings, name_at, value_at, unless}
 use Rattle.rm_acts.specs.Channels.{channel_entry, channel_table, HasNoChannel}
 use Rattle.rm_acts.proofs.ChannelLaws.{of_another_entry, NamesNoChannel, none_named}
 use Rattle.rm_group.specs.Alone.{AreFineAlone}
-use Rattle.rm_group.specs.System.{system_entry, system_columns}
+use Rattle.rm_group.specs.Listed.{ListedTable, is_listed}
+use Rattle.rm_group.specs.System.{system_entry, system_columns, system_tables}
 use Rattle.rm_ether.specs.Columns.{ether_columns}
 use Rattle.rm_ether.specs.EtherStats.{ether_entry}
+use Rattle.rm_ether.specs.Group.{ether_tables}
 use Rattle.rm_history.specs.Columns.{control_columns, sample_columns}
 use Rattle.rm_history.specs.HistoryControl.{control_entry}
 use Rattle.rm_history.specs.EtherHistory.{sample_entry}
-use Rattle.rm_history.specs.Group.{history_objects}
+use Rattle.rm_history.specs.Group.{history_tables}
 use Rattle.rm_event.specs.Columns.{event_columns, log_columns}
 use Rattle.rm_event.specs.EventTable.{event_entry}
 use Rattle.rm_event.specs.Tables.{log_entry}
-use Rattle.rm_event.specs.Group.{event_objects}
+use Rattle.rm_event.specs.Group.{event_tables}
 use Rattle.rm_alarm.specs.AlarmTable.{alarm_columns}
+use Rattle.rm_alarm.specs.Group.{alarm_tables}
 use Rattle.rm_acts.specs.Alarms.{alarm_entry}
 use Rattle.rm_pdu.specs.Message.{Message}
 use Rattle.rm_pdu.specs.declared.kind.Kind.{Kind}
@@ -37,16 +40,26 @@ by_either : {A : Type 0} (a b : Bool) → (a ≡ true → A) → (b ≡ true →
 by_either true b one other is = one refl
 by_either false b one other is = other is
 
+-- none of these tables has the entry of channels, nor one that goes on from it or that it goes on from
+abbrev AreOthers : List ListedTable → Type 0
+AreOthers [] = Unit {0}
+AreOthers (table ∷ more) = ((name : List ℕ) → is_of_column table.entry table.columns name ≡ true → behind channel_entry name ≡ None) × AreOthers more
+
+under_others : (tables : List ListedTable) → AreOthers tables → (name : List ℕ) → is_listed tables name ≡ true → behind channel_entry name ≡ None
+under_others [] others name listed = absurd (cc)
+under_others (table ∷ more) others name listed =
+    by_either (is_of_column table.entry table.columns name) (is_listed more name) (others.0 name) (under_others more others.1 name) listed
+
 -- a name of an object of the agent isn't under channelEntry
 not_channel : (name : List ℕ) → objects name ≡ true → behind channel_entry name ≡ None
 not_channel name =
-    by_either (is_of_column system_entry system_columns name) _ (of_another_entry system_entry system_columns name (λ column. refl))
-    (by_either (event_objects name) _
-    (by_either (is_of_column event_entry event_columns name) _ (of_another_entry event_entry event_columns name (λ column. refl)) (of_another_entry log_entry log_columns name (λ column. refl)))
-    (by_either (is_of_column ether_entry ether_columns name || history_objects name) _
-    (by_either (is_of_column ether_entry ether_columns name) _ (of_another_entry ether_entry ether_columns name (λ column. refl))
-    (by_either (is_of_column control_entry control_columns name) _ (of_another_entry control_entry control_columns name (λ column. refl)) (of_another_entry sample_entry sample_columns name (λ column. refl))))
-    (of_another_entry alarm_entry alarm_columns name (λ column. refl))))
+    by_either (is_listed system_tables name) _ (under_others system_tables (λ n. of_another_entry system_entry system_columns n (λ column. refl), tt) name)
+    (by_either (is_listed event_tables name) _
+    (under_others event_tables (λ n. of_another_entry event_entry event_columns n (λ column. refl), (λ n. of_another_entry log_entry log_columns n (λ column. refl), tt)) name)
+    (by_either (is_listed ether_tables name || is_listed history_tables name) _
+    (by_either (is_listed ether_tables name) _ (under_others ether_tables (λ n. of_another_entry ether_entry ether_columns n (λ column. refl), tt) name)
+    (under_others history_tables (λ n. of_another_entry control_entry control_columns n (λ column. refl), (λ n. of_another_entry sample_entry sample_columns n (λ column. refl), tt)) name))
+    (under_others alarm_tables (λ n. of_another_entry alarm_entry alarm_columns n (λ column. refl), tt) name)))
 
 -- a name with which nothing is wrong is that of an object
 is_object : (name : List ℕ) (value : Val) → alone_among objects alone name value ≡ None → objects name ≡ true

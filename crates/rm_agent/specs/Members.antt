@@ -6,34 +6,34 @@ use Rattle.rm_val.specs.Val.{Val}
 use Rattle.rm_val.specs.declared.error.ErrorStatus.{ErrorStatus}
 use Rattle.rm_model.specs.Settings.{Settings}
 use Rattle.rm_model.specs.Journal.{Journal}
-use Rattle.rm_acts.specs.Alarms.{alarm_entry, alarm_table}
+use Rattle.rm_acts.specs.Alarms.{alarm_table}
 use Rattle.rm_model.specs.Cells.{Cells, cells_of, is_of_column}
 use Rattle.rm_model.specs.ControlRows.{no_rows}
 use Rattle.rm_model.specs.Judgement.{Bindings, second_pass, rows_after}
 use Rattle.rm_model.specs.Reserves.{Reserves as ReservesRow}
 use Rattle.rm_group.specs.Alone.{read_only}
-use Rattle.rm_group.specs.System.{system_entry, system_columns, system_table}
+use Rattle.rm_group.specs.Listed.{is_listed}
+use Rattle.rm_group.specs.System.{system_entry, system_columns, system_tables, system_table}
 use Rattle.rm_acts.specs.Recurring.{Sampleable}
 use Rattle.rm_group.specs.Both.{StandAsOne}
 use Rattle.rm_group.specs.declared.due.Due.{Due}
 use Rattle.rm_group.specs.declared.both.Both.{Both}
 use Rattle.rm_group.specs.declared.system.System.{System}
-use Rattle.rm_ether.specs.Columns.{ether_columns}
-use Rattle.rm_ether.specs.EtherStats.{ether_entry, ether_stats, ether_beginning, ether_table}
-use Rattle.rm_ether.specs.Group.{Stands as EtherStands, frames_given as ether_frames, last_given as ether_last, ether_alone}
+use Rattle.rm_ether.specs.EtherStats.{ether_stats, ether_beginning, ether_table}
+use Rattle.rm_ether.specs.Group.{Stands as EtherStands, frames_given as ether_frames, last_given as ether_last, ether_tables, ether_alone}
 use Rattle.rm_ether.specs.declared.ether.Ether.{Ether}
 use Rattle.rm_history.specs.HistoryControl.{history_control, control_table}
 use Rattle.rm_history.specs.EtherHistory.{sample_table}
-use Rattle.rm_history.specs.Group.{Stands as HistoryStands, IsStocked as IsHistoryStocked, frames_given as history_frames, last_given as history_last, history_alone, history_objects}
+use Rattle.rm_history.specs.Group.{Stands as HistoryStands, IsStocked as IsHistoryStocked, frames_given as history_frames, last_given as history_last, history_tables, history_alone}
 use Rattle.rm_history.specs.declared.history.History.{History}
-use Rattle.rm_alarm.specs.AlarmTable.{alarm_columns, alarms_table}
-use Rattle.rm_alarm.specs.Group.{alarm_alone, alarm_together}
+use Rattle.rm_alarm.specs.AlarmTable.{alarms_table}
+use Rattle.rm_alarm.specs.Group.{alarm_tables, alarm_alone, alarm_together}
 use Rattle.rm_alarm.specs.Left.{IsSampleDue, samples_left}
 use Rattle.rm_alarm.specs.Standing.{AreWhole}
 use Rattle.rm_alarm.specs.Watched.{ReadsFrom}
 use Rattle.rm_alarm.specs.declared.alarms.Alarms.{Alarms}
 use Rattle.rm_event.specs.EventTable.{event_table}
-use Rattle.rm_event.specs.Group.{event_cells, event_objects, event_alone, IsStocked as IsEventStocked}
+use Rattle.rm_event.specs.Group.{event_cells, event_tables, event_alone, IsStocked as IsEventStocked}
 use Rattle.rm_event.specs.Standing.{Stands as EventsStand}
 use Rattle.rm_event.specs.declared.events.Events.{Events}
 
@@ -115,7 +115,7 @@ system = record {
   falls_due = λ keeps due. ⊥;
   left = λ keeps latest. 0;
   cells = λ settings journal now. cells_of (system_table now);
-  objects = is_of_column system_entry system_columns;
+  objects = is_listed system_tables;
   alone = read_only (is_of_column system_entry system_columns);
   together = λ settings journal now bindings place. None;
   reserves = λ journal bindings index. ⊥;
@@ -132,7 +132,7 @@ events = record {
   falls_due = λ keeps due. ⊥;
   left = λ keeps latest. 0;
   cells = λ settings journal now. event_cells settings journal;
-  objects = event_objects;
+  objects = is_listed event_tables;
   alone = event_alone;
   together = λ settings journal now. second_pass event_table (rows_after event_table no_rows journal);
   reserves = λ journal. ReservesRow event_table (rows_after event_table no_rows journal);
@@ -149,7 +149,7 @@ ether = record {
   falls_due = λ keeps due. ⊥;
   left = λ keeps latest. 0;
   cells = λ settings journal now. cells_of (ether_table settings journal);
-  objects = is_of_column ether_entry ether_columns;
+  objects = is_listed ether_tables;
   alone = ether_alone;
   together = λ settings journal now. second_pass ether_stats (rows_after ether_stats (ether_beginning settings) journal);
   reserves = λ journal bindings index. ⊥;
@@ -166,7 +166,7 @@ history = record {
   falls_due = λ keeps due. ⊥;
   left = λ keeps latest. 0;
   cells = λ settings journal now name. option_or (cells_of (control_table journal) name) (cells_of (sample_table settings journal now) name);
-  objects = history_objects;
+  objects = is_listed history_tables;
   alone = history_alone;
   together = λ settings journal now. second_pass history_control (rows_after history_control no_rows journal);
   reserves = λ journal. ReservesRow history_control (rows_after history_control no_rows journal);
@@ -184,7 +184,7 @@ alarms sampleable = record {
   falls_due = IsSampleDue;
   left = samples_left;
   cells = λ settings journal now. cells_of (alarms_table settings journal);
-  objects = is_of_column alarm_entry alarm_columns;
+  objects = is_listed alarm_tables;
   alone = alarm_alone;
   together = λ settings journal now. alarm_together (settings.readings journal now) (rows_after alarm_table no_rows journal);
   reserves = λ journal bindings index. ⊥;

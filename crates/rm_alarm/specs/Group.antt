@@ -26,11 +26,16 @@ use Rattle.rm_model.specs.declared.verdict.Verdict.TheVariants.{Fine}
 use Rattle.rm_status.specs.declared.row.Row.{Row}
 use Rattle.rm_status.specs.Rows.{row_in, rows_before}
 use Rattle.rm_group.specs.Alone.{AreFineAlone}
+use Rattle.rm_group.specs.Listed.{ListedTable}
 use Rattle.rm_alarm.specs.declared.alarms.Alarms.{Alarms}
 use Rattle.rm_alarm.specs.declared.row.AlarmRow.{AlarmRow}
 use Rattle.rm_alarm.specs.Rows.{set_to}
 use Rattle.rm_alarm.specs.Due.{due_at}
-use Rattle.rm_alarm.specs.AlarmTable.{alarms_table}
+use Rattle.rm_alarm.specs.AlarmTable.{alarm_columns, alarms_table}
+
+-- the one table of the group
+abbrev pub alarm_tables : List ListedTable
+alarm_tables = record { entry = alarm_entry; columns = alarm_columns } ∷ []
 
 -- what is wrong with a binding alone
 abbrev pub alarm_alone : List ℕ → Val → Option ErrorStatus

@@ -10,15 +10,16 @@ use crate::sample_type::SampleType;
 use crate::startup_alarm::StartupAlarm;
 use crate::thresholds::Thresholds;
 use arrayvec::ArrayVec;
+use rm_group::TableObjects;
 use rm_model::Setting::{Empty, NoName, Number};
 use rm_model::{ColumnKind, StatusKind, column, numbers};
 use rm_status::{ControlRow, ControlSheet, Numbered, name_in, number_in, put_text, same_text};
 use rm_val::{Oid, Value};
 
-/// alarmTable (RFC 1757, section 5)
-const TABLE: ControlSheet = ControlSheet {
+/// The objects of alarmTable.
+pub(crate) const ALARM_OBJECTS: TableObjects = TableObjects {
     entry: &[1, 3, 6, 1, 2, 1, 16, 3, 1, 1],
-    shown: &[
+    columns: &[
         INDEX,
         INTERVAL,
         VARIABLE,
@@ -32,6 +33,11 @@ const TABLE: ControlSheet = ControlSheet {
         OWNER,
         STATUS,
     ],
+};
+
+/// alarmTable (RFC 1757, section 5)
+const TABLE: ControlSheet = ControlSheet {
+    objects: ALARM_OBJECTS,
     status: STATUS,
     kind: StatusKind::EntryStatus,
     most: 16,

@@ -10,15 +10,19 @@ ghost use Rattle.rm_alarm.specs.Group.{alarm_alone, alarm_together, AreFine, Has
 use crate::alarms::Alarms;
 use crate::cell::LastValue;
 use crate::column::STATUS;
+use crate::columns::ALARM_OBJECTS;
 use crate::judging::judge_variables;
 use crate::laws::frames_pass;
 use crate::row::AlarmRow;
 use rm_acts::Firing;
-use rm_group::{Assigns, Denied, Group, Look, Objects, Passing, Steps, lower_verdict};
+use rm_group::{Assigns, Denied, Group, Look, Passing, Steps, TableObjects, Tables, lower_verdict};
 use rm_model::Verdict;
-use rm_status::{ControlRow, Controls};
+use rm_status::ControlRow;
 use rm_val::{Oid, Value};
 use std::alloc::Global;
+
+/// The tables of the group.
+const OBJECTS: &[TableObjects] = &[ALARM_OBJECTS];
 
 impl Group for Alarms {
     ghost stands = { AreWhole };
@@ -84,23 +88,23 @@ impl Group for Alarms {
     }
 }
 
-impl Objects for Alarms {
-    ghost use Rattle.rm_model.specs.Cells.{is_of_column};
-    ghost use Rattle.rm_acts.specs.Alarms.{alarm_entry, alarm_table};
+impl Tables for Alarms {
+    ghost use Rattle.rm_acts.specs.Alarms.{alarm_table};
     ghost use Rattle.rm_alarm.specs.AlarmTable.{alarm_columns, alarms_table};
-    ghost use Rattle.rm_group.specs.Listed.{is_settable, of_columns, control_refused};
+    ghost use Rattle.rm_alarm.specs.Group.{alarm_tables};
+    ghost use Rattle.rm_group.specs.Listed.{is_settable, of_table, control_listed};
 
-    ghost objects = { is_of_column alarm_entry alarm_columns };
+    ghost tables = { alarm_tables };
 
-    ghost settable = { is_settable alarm_table };
+    ghost can_be_set = { is_settable alarm_table };
 
-    ghost listed = { λ settings journal now. of_columns (alarms_table settings journal) };
-
-    ghost refused = { control_refused alarm_table alarm_columns };
-
-    fn has_object(name: &Oid) -> bool {
-        Controls::<AlarmRow>::has_object(name)
+    fn tables() -> &'static [TableObjects] {
+        OBJECTS
     }
+
+    ghost shows_listed = { λ settings journal now. of_table (alarms_table settings journal) };
+
+    ghost refuses_listed = { control_listed alarm_table alarm_columns };
 }
 
 // Alarms take part in an act as it begins: a frame makes no difference to them, and no firing does.

@@ -9,6 +9,8 @@ use Rattle.rm_model.specs.declared.verdict.Verdict.TheVariants.{Fine}
 use Rattle.rm_status.specs.declared.row.Row.{Row}
 use Rattle.rm_status.specs.Rows.{row_in, rows_before}
 use Rattle.rm_group.specs.Alone.{AreFineAlone}
+use Rattle.rm_group.specs.Listed.{ListedTable}
+use Rattle.rm_ether.specs.Columns.{ether_columns}
 use Rattle.rm_status.specs.RowsAfter.{AreRowsAfter}
 use Rattle.rm_ether.specs.declared.counter.Counter.{Counter}
 use Rattle.rm_ether.specs.declared.row.StatisticsRow.{StatisticsRow}
@@ -35,6 +37,10 @@ AreCounted rows settings journal =
 pub record Stands (ether : Ether) (settings : Settings) (journal : Journal) : Type 0 where
   pub rows : AreRowsAfter ether_stats (ether_beginning settings) set_to ether.rows journal
   pub counters : AreCounted ether.rows settings journal
+
+-- the one table of the group
+abbrev pub ether_tables : List ListedTable
+ether_tables = record { entry = ether_entry; columns = ether_columns } ∷ []
 
 -- what is wrong with a binding alone
 abbrev pub ether_alone : List ℕ → Val → Option ErrorStatus

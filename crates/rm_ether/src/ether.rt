@@ -3,17 +3,20 @@ ghost use Rattle.std.specs.Prelude.{◌≡◌, ◌+◌, ◌<◌, ◌≤◌, [], 
 
 use crate::cell::Counters;
 use crate::change::{Counting, Resting};
-use crate::row::{STATUS, StatisticsRow};
+use crate::row::{ETHER_OBJECTS, STATUS, StatisticsRow};
 use rm_acts::Firing;
 use rm_group::{
-    Assigns, Commits, Denied, Group, Look, MOST_FRAMES, NeverDue, Objects, Passing, Readable,
-    Steps, Unsampled,
+    Assigns, Commits, Denied, Group, Look, MOST_FRAMES, NeverDue, Passing, Readable, Steps,
+    TableObjects, Tables, Unsampled,
 };
 use rm_model::{State, StatusKind, Verdict};
 use rm_proto::Facts;
 use rm_status::{ControlRow, Controls};
 use rm_val::{Oid, Value};
 use std::alloc::Global;
+
+/// The tables of the group.
+const OBJECTS: &[TableObjects] = &[ETHER_OBJECTS];
 
 /// The index of the row of the monitor.
 const ROW: u32 = 1;
@@ -139,23 +142,23 @@ impl Commits for Ether {
     }
 }
 
-impl Objects for Ether {
-    ghost use Rattle.rm_model.specs.Cells.{is_of_column};
+impl Tables for Ether {
     ghost use Rattle.rm_ether.specs.Columns.{ether_columns};
-    ghost use Rattle.rm_ether.specs.EtherStats.{ether_entry, ether_stats, ether_table};
-    ghost use Rattle.rm_group.specs.Listed.{is_settable, of_columns, control_refused};
+    ghost use Rattle.rm_ether.specs.EtherStats.{ether_stats, ether_table};
+    ghost use Rattle.rm_ether.specs.Group.{ether_tables};
+    ghost use Rattle.rm_group.specs.Listed.{is_settable, of_table, control_listed};
 
-    ghost objects = { is_of_column ether_entry ether_columns };
+    ghost tables = { ether_tables };
 
-    ghost settable = { is_settable ether_stats };
+    ghost can_be_set = { is_settable ether_stats };
 
-    ghost listed = { λ settings journal now. of_columns (ether_table settings journal) };
-
-    ghost refused = { control_refused ether_stats ether_columns };
-
-    fn has_object(name: &Oid) -> bool {
-        Controls::<StatisticsRow>::has_object(name)
+    fn tables() -> &'static [TableObjects] {
+        OBJECTS
     }
+
+    ghost shows_listed = { λ settings journal now. of_table (ether_table settings journal) };
+
+    ghost refuses_listed = { control_listed ether_stats ether_columns };
 }
 
 impl Readable for Ether {

@@ -3,6 +3,7 @@ ghost use Rattle.std.specs.Prelude.{◌≡◌};
 
 use crate::statistics::Statistics;
 use arrayvec::ArrayVec;
+use rm_group::TableObjects;
 use rm_model::Setting::{Empty, Interface};
 use rm_model::{ColumnKind, StatusKind, column};
 use rm_status::{ControlRow, ControlSheet, interface_in, interface_name, put_text, same_text};
@@ -14,12 +15,17 @@ const MOST_OWNER: usize = 127;
 /// The number of etherStatsStatus.
 pub(crate) const STATUS: u32 = 21;
 
-/// etherStats (RFC 1757, section 5). Its data source and its owner can be set.
-const TABLE: ControlSheet = ControlSheet {
+/// The objects of etherStats.
+pub(crate) const ETHER_OBJECTS: TableObjects = TableObjects {
     entry: &[1, 3, 6, 1, 2, 1, 16, 1, 1, 1],
-    shown: &[
+    columns: &[
         1, 2, 3, 4, 5, 6, 7, 8, 9, 10, 11, 12, 13, 14, 15, 16, 17, 18, 19, 20, 21,
     ],
+};
+
+/// etherStats (RFC 1757, section 5). Its data source and its owner can be set.
+const TABLE: ControlSheet = ControlSheet {
+    objects: ETHER_OBJECTS,
     status: STATUS,
     kind: StatusKind::EntryStatus,
     most: 16,

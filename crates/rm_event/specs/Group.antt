@@ -1,16 +1,16 @@
 -- The group event, as a caller sees it.
-use Rattle.std.specs.Prelude.{ℕ, ◌≤◌, max, List, length, Bool, ◌||◌, Option}
+use Rattle.std.specs.Prelude.{ℕ, ◌≤◌, max, List, [], ◌∷◌, length, Option}
 use Rattle.std.specs.Option.{option_or}
 use Rattle.rm_val.specs.Val.{Val}
 use Rattle.rm_val.specs.declared.error.ErrorStatus.{ErrorStatus}
 use Rattle.rm_model.specs.Settings.{Settings}
 use Rattle.rm_model.specs.Journal.{Journal}
-use Rattle.rm_model.specs.Cells.{Cells, cells_of, is_of_column}
-use Rattle.rm_model.specs.Judgement.{Bindings, place_of, alone_fault, first_pass, second_pass, IsFirstFault}
+use Rattle.rm_model.specs.Cells.{Cells, cells_of}
+use Rattle.rm_model.specs.Judgement.{Bindings, first_pass, second_pass, IsFirstFault}
 use Rattle.rm_model.specs.Reserves.{count_valid, count_valid_after}
 use Rattle.rm_model.specs.declared.verdict.Verdict.TheVariants.{Fine}
 use Rattle.rm_status.specs.Rows.{rows_before}
-use Rattle.rm_group.specs.Alone.{read_only}
+use Rattle.rm_group.specs.Listed.{ListedTable, alone_beside}
 use Rattle.rm_event.specs.declared.events.Events.{Events}
 use Rattle.rm_event.specs.Columns.{event_columns, log_columns}
 use Rattle.rm_event.specs.EventTable.{event_entry, event_table}
@@ -22,14 +22,16 @@ abbrev pub event_cells : Settings → Journal → Cells
 event_cells settings journal name =
     option_or (cells_of (events_table settings journal) name) (cells_of (log_table settings journal) name)
 
--- whether a name begins with the identifier of an object of one of them
-abbrev pub event_objects : List ℕ → Bool
-event_objects name = is_of_column event_entry event_columns name || is_of_column log_entry log_columns name
+-- logTable, and the tables of the group
+abbrev pub log_listed : ListedTable
+log_listed = record { entry = log_entry; columns = log_columns }
+
+abbrev pub event_tables : List ListedTable
+event_tables = record { entry = event_entry; columns = event_columns } ∷ log_listed ∷ []
 
 -- what is wrong with a binding alone: the columns of logTable are read only
 abbrev pub event_alone : List ℕ → Val → Option ErrorStatus
-event_alone name value =
-    option_or (alone_fault event_table (place_of event_entry name) value) (read_only (is_of_column log_entry log_columns) name value)
+event_alone = alone_beside event_table log_listed
 
 -- both passes find nothing wrong with a Set, by the rows that are kept
 pub record AreFine (events : Events) (bindings : Bindings) : Type 0 where

@@ -7,17 +7,18 @@ ghost use Rattle.rm_event.specs.Shown.{shows, description_in, entry_value};
 
 use crate::event_row::EventRow;
 use crate::log::Log;
+use rm_group::TableObjects;
 use rm_model::Instance;
 use rm_nested::{InnerCells, InnerRows, first_number, one_number_above};
 use rm_pool::Pool;
 use rm_status::Controls;
 use rm_val::{Oid, Value};
 
-/// logEntry (RFC 1757, section 5)
-const LOG_ENTRY: &[u32] = &[1, 3, 6, 1, 2, 1, 16, 9, 2, 1];
-
-/// The numbers of all columns: logEventIndex, logIndex, logTime and logDescription.
-const LOG_SHOWN: &[u32] = &[1, 2, 3, 4];
+/// The objects of logTable (RFC 1757, section 5): logEventIndex, logIndex, logTime and logDescription.
+pub(crate) const LOG_OBJECTS: TableObjects = TableObjects {
+    entry: &[1, 3, 6, 1, 2, 1, 16, 9, 2, 1],
+    columns: &[1, 2, 3, 4],
+};
 
 /// The entries that logs show, by the events of the logs and their numbers.
 #[derive(Clone, Copy, Drop)]
@@ -74,13 +75,13 @@ impl<'a> InnerCells<'a> for Entries<'a> {
     fn entry() -> Oid
         ensures { result ≡ log_entry }
     {
-        Oid::from_slice(LOG_ENTRY).unwrap()
+        Oid::from_slice(LOG_OBJECTS.entry).unwrap()
     }
 
     fn columns() -> &'static [u32]
         ensures { result.now ≡ log_columns }
     {
-        LOG_SHOWN
+        LOG_OBJECTS.columns
     }
 
     fn value(&self, at: &Instance, _now: u32) -> Option<Value<'a>> {

@@ -4,6 +4,7 @@ ghost use Rattle.rm_event.specs.EventRows.{blank_row, event_rows};
 
 use crate::event_type::EventType;
 use arrayvec::ArrayVec;
+use rm_group::TableObjects;
 use rm_model::Setting::{Empty, Number};
 use rm_model::{ColumnKind, StatusKind, column, numbers};
 use rm_status::{ControlRow, ControlSheet, Numbered, put_text, same_text};
@@ -15,10 +16,15 @@ const MOST_TEXT: usize = 127;
 /// The number of eventStatus.
 pub const EVENT_STATUS: u32 = 7;
 
+/// The objects of eventTable.
+pub(crate) const EVENT_OBJECTS: TableObjects = TableObjects {
+    entry: &[1, 3, 6, 1, 2, 1, 16, 9, 1, 1],
+    columns: &[1, 2, 3, 4, 5, 6, 7],
+};
+
 /// eventTable (RFC 1757, section 5). Its descriptions, types, communities and owners can be set.
 const TABLE: ControlSheet = ControlSheet {
-    entry: &[1, 3, 6, 1, 2, 1, 16, 9, 1, 1],
-    shown: &[1, 2, 3, 4, 5, 6, 7],
+    objects: EVENT_OBJECTS,
     status: EVENT_STATUS,
     kind: StatusKind::EntryStatus,
     most: 16,

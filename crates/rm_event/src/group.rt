@@ -1,17 +1,20 @@
 // The group event, as a group of objects.
 
-use crate::entries::Entries;
+use crate::entries::{Entries, LOG_OBJECTS};
 use crate::event_cell::Sent;
-use crate::event_row::{EVENT_STATUS, EventRow};
+use crate::event_row::{EVENT_OBJECTS, EVENT_STATUS, EventRow};
 use crate::events::Events;
 use rm_group::{
-    Assigns, Commits, Denied, Group, Look, Objects, is_of_column, judge_read_only, lower_verdict,
+    Assigns, Commits, Denied, Group, Look, TableObjects, Tables, judge_read_only, lower_verdict,
 };
 use rm_model::Verdict;
 use rm_nested::{InnerCells, cell_of_both, next_of_both};
-use rm_status::{ControlRow, Controls};
+use rm_status::ControlRow;
 use rm_val::{Oid, Value};
 use std::alloc::Global;
+
+/// The tables of the group.
+const OBJECTS: &[TableObjects] = &[EVENT_OBJECTS, LOG_OBJECTS];
 
 impl Group for Events {
     ghost use Rattle.rm_model.specs.ControlRows.{no_rows};
@@ -92,29 +95,25 @@ impl Commits for Events {
     }
 }
 
-impl Objects for Events {
-    ghost use Rattle.rm_event.specs.Group.{event_objects};
-    ghost use Rattle.rm_model.specs.Cells.{cells_of, is_of_column};
-    ghost use Rattle.rm_model.specs.Judgement.{place_of, alone_fault};
-    ghost use Rattle.rm_event.specs.Columns.{event_columns, log_columns};
-    ghost use Rattle.rm_event.specs.EventTable.{event_entry, event_table};
-    ghost use Rattle.rm_event.specs.Tables.{events_table, log_entry, log_table};
-    ghost use Rattle.rm_group.specs.Listed.{is_settable, of_columns, both_of_objects, control_refused, with_read_only};
+impl Tables for Events {
+    ghost use Rattle.std.specs.Prelude.{[], ◌∷◌};
+    ghost use Rattle.rm_model.specs.Cells.{cells_of};
+    ghost use Rattle.rm_event.specs.Columns.{event_columns};
+    ghost use Rattle.rm_event.specs.EventTable.{event_table};
+    ghost use Rattle.rm_event.specs.Group.{event_tables, log_listed};
+    ghost use Rattle.rm_event.specs.Tables.{events_table, log_table};
+    ghost use Rattle.rm_group.specs.Listed.{is_settable, of_table, with_table, beside_listed};
 
-    ghost objects = { event_objects };
+    ghost tables = { event_tables };
 
-    ghost settable = { is_settable event_table };
+    ghost can_be_set = { is_settable event_table };
 
-    ghost listed = { λ settings journal now.
-        both_of_objects (is_of_column event_entry event_columns) (is_of_column log_entry log_columns)
-        (cells_of (events_table settings journal)) (cells_of (log_table settings journal))
-        (of_columns (events_table settings journal)) (of_columns (log_table settings journal)) };
-
-    ghost refused = { with_read_only (is_of_column event_entry event_columns) (is_of_column log_entry log_columns) (is_settable event_table)
-        (λ name value. alone_fault event_table (place_of event_entry name) value) (control_refused event_table event_columns) };
-
-    fn has_object(name: &Oid) -> bool {
-        Controls::<EventRow>::has_object(name)
-            || is_of_column(name, &Entries::entry(), Entries::columns())
+    fn tables() -> &'static [TableObjects] {
+        OBJECTS
     }
+
+    ghost shows_listed = { λ settings journal now.
+        with_table (events_table settings journal) (log_listed ∷ []) (cells_of (log_table settings journal)) (of_table (log_table settings journal)) };
+
+    ghost refuses_listed = { beside_listed event_table event_columns log_listed };
 }

@@ -3,3 +3,4 @@ mod StartLemmas
 pub mod Finds
 pub mod ReadOnly
 pub mod Dues
+mod Listing

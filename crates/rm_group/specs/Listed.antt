@@ -12,7 +12,26 @@ use Rattle.rm_model.specs.ControlTable.{Column, ControlTable}
 use Rattle.rm_model.specs.Judgement.{place_behind, place_of, alone_fault, writable_kind, unless}
 use Rattle.rm_model.specs.declared.instance.Instance.{Instance}
 use Rattle.rm_group.specs.Alone.{read_only}
+use Rattle.rm_group.specs.declared.objects.TableObjects.{TableObjects}
 use Rattle.rm_group.specs.ColumnLemmas.{is_of_column-instance}
+
+-- a table that a group lists: the identifier of its entry, and the numbers of its columns
+pub record ListedTable : Type 0 where
+  pub entry : List ℕ
+  pub columns : List ℕ
+
+-- the tables that a list of the code lists
+abbrev pub tables_of : List TableObjects → List ListedTable
+tables_of tables = map (λ table. record { entry = table.entry.now; columns = table.columns.now }) tables
+
+-- whether a name begins with a column of one of these tables
+abbrev pub is_listed : List ListedTable → List ℕ → Bool
+is_listed tables name = list_any (λ table. is_of_column table.entry table.columns name) tables
+
+-- what is wrong with a binding alone where a control table stands beside a table of which no column is writable
+abbrev pub alone_beside : ControlTable → ListedTable → List ℕ → Val → Option ErrorStatus
+alone_beside table other name value =
+    option_or (alone_fault table (place_of table.entry name) value) (read_only (is_of_column other.entry other.columns) name value)
 
 -- each cell has a name that begins with an object of these
 abbrev pub AreOfObjects : (List ℕ → Bool) → Cells → Type 0
@@ -36,9 +55,13 @@ at_instance table None has = absurd (cc)
 at_instance table (Some at) has = refl
 
 -- the cells of a table have names that begin with its columns
-pub of_columns : (table : Table) → AreOfObjects (is_of_column table.entry table.columns) (cells_of table)
+of_columns : (table : Table) → AreOfObjects (is_of_column table.entry table.columns) (cells_of table)
 of_columns table name has =
     sym (is_of_column-instance table.entry table.columns name) ∙ at_instance table (instance_of table.entry table.columns name) has
+
+-- the columns of a table, as a group lists them
+abbrev listed_as : Table → ListedTable
+listed_as table = record { entry = table.entry; columns = table.columns }
 
 either_listed : (a b : Bool) → a ≡ true → (a || b) ≡ true
 either_listed a b h = cc
@@ -55,13 +78,16 @@ both_of_objects objects others cells more one other name has =
       | Some value ↦ λ is _. either_listed (objects name) (others name) (one name (ap is_some is))
     ] refl has
 
+-- the tables of a group: one, or one more
+pub of_table : (table : Table) → AreOfObjects (is_listed (listed_as table ∷ [])) (cells_of table)
+of_table table name has = either_listed (is_of_column table.entry table.columns name) false (of_columns table name has)
+
+pub with_table : (table : Table) (tables : List ListedTable) (cells : Cells) → AreOfObjects (is_listed tables) cells → AreOfObjects (is_listed (listed_as table ∷ tables)) (λ name. option_or (cells_of table name) (cells name))
+with_table table tables cells = both_of_objects (is_of_column table.entry table.columns) (is_listed tables) (cells_of table) cells (of_columns table)
+
 read_only_name : (listed : Bool) → (unless (not listed) NotWritable ≡ Some NotWritable) ⊎ ((listed ≡ false) × (unless (not listed) NotWritable ≡ None))
 read_only_name true = inl refl
 read_only_name false = inr (refl, refl)
-
--- objects of which none can be set
-pub read_only_refused : (objects : List ℕ → Bool) → AreRefused objects (λ name. false) (read_only objects)
-read_only_refused objects name value none = read_only_name (objects name)
 
 module _ (table : ControlTable) (columns : List ℕ) where
   no_column : (others : List Column) (number : ℕ) → list_any (λ other. nat_eq other number) (map (λ c. c.number) others) ≡ false → find (λ c. nat_eq c.number number) others ≡ None
@@ -100,7 +126,7 @@ module _ (table : ControlTable) (columns : List ℕ) where
   refused_behind (Some (column ∷ row ∷ next ∷ more)) value none = inl (rw (no_kind column (row ∷ next ∷ more) none) refl)
 
   -- the columns of a control table
-  pub control_refused : AreRefused (is_of_column table.entry columns) (is_settable table) (λ name value. alone_fault table (place_of table.entry name) value)
+  control_refused : AreRefused (is_of_column table.entry columns) (is_settable table) (λ name value. alone_fault table (place_of table.entry name) value)
   control_refused name value none =
       rw (sym (is_of_column-instance table.entry columns name)) (refused_behind (behind table.entry name) value (is_of_column-instance table.entry settable_columns name ∙ none))
 
@@ -121,8 +147,24 @@ both_refused objects others settable more alone other one two name value none =
       | false ↦ λ is there. join (objects name) (others name) (alone name value) (other name value) (one name value is) (two name value there)
     ] refl none
 
--- objects, and others of which none can be set
-pub with_read_only : (objects others settable : List ℕ → Bool) (alone : List ℕ → Val → Option ErrorStatus) → AreRefused objects settable alone
-    → AreRefused (λ name. objects name || others name) settable (λ name value. option_or (alone name value) (read_only others name value))
-with_read_only objects others settable alone one name value none =
-    join (objects name) (others name) (alone name value) (read_only others name value) (one name value none) (read_only_name (others name))
+one_of_none : (a : Bool) (x : Option ErrorStatus) → Refused a x → Refused (a || false) x
+one_of_none true x is = is
+one_of_none false x is = is
+
+-- a table of which no column can be set, a control table, and the two of them
+pub read_only_listed : (table : ListedTable) → AreRefused (is_listed (table ∷ [])) (λ name. false) (read_only (is_of_column table.entry table.columns))
+read_only_listed table name value none =
+    one_of_none (is_of_column table.entry table.columns name) (read_only (is_of_column table.entry table.columns) name value)
+    (read_only_name (is_of_column table.entry table.columns name))
+
+pub control_listed : (table : ControlTable) (columns : List ℕ)
+    → AreRefused (is_listed (record { entry = table.entry; columns = columns } ∷ [])) (is_settable table) (λ name value. alone_fault table (place_of table.entry name) value)
+control_listed table columns name value none =
+    one_of_none (is_of_column table.entry columns name) (alone_fault table (place_of table.entry name) value) (control_refused table columns name value none)
+
+pub beside_listed : (table : ControlTable) (columns : List ℕ) (other : ListedTable)
+    → AreRefused (is_listed (record { entry = table.entry; columns = columns } ∷ other ∷ [])) (is_settable table) (alone_beside table other)
+beside_listed table columns other name value none =
+    join (is_of_column table.entry columns name) (is_of_column other.entry other.columns name || false)
+    (alone_fault table (place_of table.entry name) value) (read_only (is_of_column other.entry other.columns) name value)
+    (control_refused table columns name value none) (read_only_listed other name value refl)

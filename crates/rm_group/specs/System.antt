@@ -3,6 +3,7 @@ use Rattle.std.specs.Prelude.{ℕ, ◌/◌, List, [], ◌∷◌, nat_eq, if◌th
 use Rattle.std.specs.Str.{bytes_eq}
 use Rattle.rm_val.specs.Val.{Val, octets, ticks}
 use Rattle.rm_model.specs.Cells.{Table}
+use Rattle.rm_group.specs.Listed.{ListedTable}
 
 -- the identifier of the group, and the numbers of sysDescr and sysUpTime
 abbrev pub system_entry : List ℕ
@@ -10,6 +11,10 @@ system_entry = 1 ∷ 3 ∷ 6 ∷ 1 ∷ 2 ∷ 1 ∷ 1 ∷ []
 
 abbrev pub system_columns : List ℕ
 system_columns = 1 ∷ 3 ∷ []
+
+-- the one table of the group
+abbrev pub system_tables : List ListedTable
+system_tables = record { entry = system_entry; columns = system_columns } ∷ []
 
 -- their values: a text, and the moment in hundredths of a second
 abbrev pub system_value : ℕ → ℕ → Val

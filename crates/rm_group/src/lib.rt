@@ -42,7 +42,7 @@ pub use laws::{next_or_none, order_does_not_matter};
 pub use look::Look;
 pub use lower::lower_verdict;
 pub use nearer::choose_nearer;
-pub use objects::{Objects, is_of_column};
+pub use objects::{Objects, TableObjects, Tables, is_listed, is_of_column};
 pub use one_row::OneRow;
 pub use passing::Passing;
 pub use read_only::judge_read_only;

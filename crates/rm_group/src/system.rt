@@ -6,8 +6,8 @@ ghost use Rattle.rm_val.specs.Spellable.{HasSpelling};
 ghost use Rattle.rm_model.specs.Cells.{cells_of, is_of_column};
 ghost use Rattle.rm_model.proofs.Finite.{one_row_finite};
 ghost use Rattle.rm_group.specs.Alone.{read_only};
-ghost use Rattle.rm_group.specs.Listed.{of_columns, read_only_refused};
-ghost use Rattle.rm_group.specs.System.{system_entry, system_columns, system_table};
+ghost use Rattle.rm_group.specs.Listed.{of_table, read_only_listed};
+ghost use Rattle.rm_group.specs.System.{system_entry, system_columns, system_tables, system_table};
 
 use crate::assigns::Assigns;
 use crate::commits::Commits;
@@ -15,7 +15,7 @@ use crate::denied::Denied;
 use crate::group::Group;
 use crate::instance::instance_of;
 use crate::look::Look;
-use crate::objects::{Objects, is_of_column};
+use crate::objects::{TableObjects, Tables};
 use crate::one_row::OneRow;
 use crate::read_only::judge_read_only;
 use crate::search::next_name;
@@ -23,8 +23,11 @@ use rm_model::Verdict;
 use rm_val::{Oid, Value};
 use std::alloc::Global;
 
-/// The columns of the group: sysDescr and sysUpTime.
-const COLUMNS: [u32; 2] = [SYS_DESCR, SYS_UP_TIME];
+/// The group's objects: sysDescr and sysUpTime.
+const OBJECTS: TableObjects = TableObjects {
+    entry: &[1, 3, 6, 1, 2, 1, 1],
+    columns: &[SYS_DESCR, SYS_UP_TIME],
+};
 
 const SYS_DESCR: u32 = 1;
 
@@ -70,12 +73,12 @@ impl Group for System {
     }
 
     fn after(&self, name: &Oid, now: u32, out: &mut Oid) -> Option<Value<'_>> {
-        *out = next_name(&SCALARS, &identifier(), &COLUMNS, name, now)?;
+        *out = next_name(&SCALARS, &identifier(), OBJECTS.columns, name, now)?;
         scalar(out, now)
     }
 
     fn judge_alone<A: Assigns>(&self, set: &A) -> Verdict {
-        judge_read_only(set, &identifier(), &COLUMNS)
+        judge_read_only(set, &identifier(), OBJECTS.columns)
     }
 
     fn judge_rows<A: Assigns, L: Look>(&self, _set: &A, _now: u32, _look: &L) -> Verdict {
@@ -99,18 +102,18 @@ impl Commits for System {
     fn commit<A: Assigns>(&mut self, _set: &A, _now: u32) {}
 }
 
-impl Objects for System {
-    ghost objects = { is_of_column system_entry system_columns };
+impl Tables for System {
+    ghost tables = { system_tables };
 
-    ghost settable = { λ name. false };
+    ghost can_be_set = { λ name. false };
 
-    ghost listed = { λ settings journal now. of_columns (system_table now) };
-
-    ghost refused = { read_only_refused (is_of_column system_entry system_columns) };
-
-    fn has_object(name: &Oid) -> bool {
-        is_of_column(name, &identifier(), &COLUMNS)
+    fn tables() -> &'static [TableObjects] {
+        &[OBJECTS]
     }
+
+    ghost shows_listed = { λ settings journal now. of_table (system_table now) };
+
+    ghost refuses_listed = { read_only_listed (record { entry = system_entry; columns = system_columns }) };
 }
 
 /// The value of the scalar with that name at a moment in milliseconds. None where the group has no such scalar.
@@ -118,7 +121,7 @@ pub(crate) fn scalar(name: &Oid, now: u32) -> Option<Value<'static>>
     ensures value { option_map val_of result ≡ cells_of (system_table now) name.now }
     ensures spelling { IfSome result (λ value. HasSpelling (val_of value)) }
 {
-    let at = instance_of(name, &identifier(), &COLUMNS)?;
+    let at = instance_of(name, &identifier(), OBJECTS.columns)?;
     if !SCALARS.has(&at.index) {
         return None;
     }
@@ -132,5 +135,5 @@ pub(crate) fn scalar(name: &Oid, now: u32) -> Option<Value<'static>>
 fn identifier() -> Oid
     ensures { result ≡ system_entry }
 {
-    Oid::from_slice(&[1, 3, 6, 1, 2, 1, 1]).unwrap()
+    Oid::from_slice(OBJECTS.entry).unwrap()
 }

@@ -1,17 +1,16 @@
 -- The group history, as a caller sees it.
-use Rattle.std.specs.Prelude.{ℕ, ◌≤◌, max, List, length, Bool, ◌||◌, Option}
-use Rattle.std.specs.Option.{option_or}
+use Rattle.std.specs.Prelude.{ℕ, ◌≤◌, max, List, [], ◌∷◌, length, Option}
 use Rattle.rm_val.specs.Val.{Val}
 use Rattle.rm_val.specs.declared.error.ErrorStatus.{ErrorStatus}
 use Rattle.rm_model.specs.Settings.{Settings}
 use Rattle.rm_model.specs.Journal.{Journal}
-use Rattle.rm_model.specs.Cells.{is_of_column}
 use Rattle.rm_model.specs.ControlRows.{no_rows}
-use Rattle.rm_model.specs.Judgement.{Bindings, place_of, alone_fault, second_pass, IsFirstFault}
+use Rattle.rm_model.specs.Judgement.{Bindings, second_pass, IsFirstFault}
 use Rattle.rm_model.specs.Reserves.{count_valid, count_valid_after}
 use Rattle.rm_model.specs.declared.verdict.Verdict.TheVariants.{Fine}
 use Rattle.rm_status.specs.Rows.{rows_before}
-use Rattle.rm_group.specs.Alone.{AreFineAlone, read_only}
+use Rattle.rm_group.specs.Alone.{AreFineAlone}
+use Rattle.rm_group.specs.Listed.{ListedTable, alone_beside}
 use Rattle.rm_status.specs.RowsAfter.{AreRowsAfter}
 use Rattle.rm_history.specs.declared.history.History.{History}
 use Rattle.rm_history.specs.Columns.{control_columns, sample_columns}
@@ -34,14 +33,16 @@ pub record Stands (history : History) (settings : Settings) (journal : Journal) 
   pub rows : AreRowsAfter history_control no_rows set_to history.rows journal
   pub histories : AreHistories history.runs settings journal
 
--- the objects of the group: the columns of both tables
-abbrev pub history_objects : List ℕ → Bool
-history_objects name = is_of_column control_entry control_columns name || is_of_column sample_entry sample_columns name
+-- etherHistory, and the tables of the group
+abbrev pub sample_listed : ListedTable
+sample_listed = record { entry = sample_entry; columns = sample_columns }
+
+abbrev pub history_tables : List ListedTable
+history_tables = record { entry = control_entry; columns = control_columns } ∷ sample_listed ∷ []
 
 -- what is wrong with a binding alone: no column of etherHistory is writable
 abbrev pub history_alone : List ℕ → Val → Option ErrorStatus
-history_alone name value =
-    option_or (alone_fault history_control (place_of control_entry name) value) (read_only (is_of_column sample_entry sample_columns) name value)
+history_alone = alone_beside history_control sample_listed
 
 -- both passes find nothing wrong with a Set, by the rows that are kept
 pub record AreFine (history : History) (bindings : Bindings) : Type 0 where

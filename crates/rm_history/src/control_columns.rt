@@ -3,6 +3,7 @@ ghost use Rattle.std.specs.Prelude.{◌≡◌};
 ghost use Rattle.rm_history.specs.ControlColumns.{blank_columns, control_rows};
 
 use arrayvec::ArrayVec;
+use rm_group::TableObjects;
 use rm_model::Setting::{Empty, Interface, Number};
 use rm_model::{ColumnKind, StatusKind, column, numbers};
 use rm_status::{
@@ -16,10 +17,15 @@ pub const STATUS: u32 = 7;
 /// How many octets an owner has at most.
 const MOST_OWNER: usize = 127;
 
+/// The objects of historyControl.
+pub(crate) const CONTROL_OBJECTS: TableObjects = TableObjects {
+    entry: &[1, 3, 6, 1, 2, 1, 16, 2, 1, 1],
+    columns: &[1, 2, 3, 4, 5, 6, 7],
+};
+
 /// historyControl (RFC 1757, section 5). Its data source, buckets requested, interval and owner can be set.
 const TABLE: ControlSheet = ControlSheet {
-    entry: &[1, 3, 6, 1, 2, 1, 16, 2, 1, 1],
-    shown: &[1, 2, 3, 4, 5, 6, 7],
+    objects: CONTROL_OBJECTS,
     status: STATUS,
     kind: StatusKind::EntryStatus,
     most: 16,

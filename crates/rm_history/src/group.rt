@@ -3,19 +3,22 @@ ghost use Rattle.std.specs.Prelude.{◌∷◌};
 ghost use Rattle.std.specs.Option.{option_or};
 
 use crate::control_cell::BucketsGranted;
-use crate::control_columns::{ControlColumns, STATUS};
+use crate::control_columns::{CONTROL_OBJECTS, ControlColumns, STATUS};
 use crate::history::History;
-use crate::samples::Samples;
+use crate::samples::{SAMPLE_OBJECTS, Samples};
 use rm_acts::Firing;
 use rm_group::{
-    Assigns, Commits, Denied, Group, Look, NeverDue, Objects, Passing, Readable, Steps, Unsampled,
-    is_of_column, judge_read_only, lower_verdict,
+    Assigns, Commits, Denied, Group, Look, NeverDue, Passing, Readable, Steps, TableObjects,
+    Tables, Unsampled, judge_read_only, lower_verdict,
 };
 use rm_model::Verdict;
 use rm_nested::{InnerCells, cell_of_both, next_of_both};
-use rm_status::{ControlRow, Controls};
+use rm_status::ControlRow;
 use rm_val::{Oid, Value};
 use std::alloc::Global;
+
+/// The tables of the group.
+const OBJECTS: &[TableObjects] = &[CONTROL_OBJECTS, SAMPLE_OBJECTS];
 
 impl Group for History {
     ghost use Rattle.rm_model.specs.Cells.{cells_of};
@@ -96,31 +99,27 @@ impl Commits for History {
     }
 }
 
-impl Objects for History {
-    ghost use Rattle.rm_history.specs.Group.{history_objects};
-    ghost use Rattle.rm_model.specs.Cells.{cells_of, is_of_column};
-    ghost use Rattle.rm_model.specs.Judgement.{place_of, alone_fault};
-    ghost use Rattle.rm_history.specs.Columns.{control_columns, sample_columns};
-    ghost use Rattle.rm_history.specs.HistoryControl.{control_entry, history_control, control_table};
-    ghost use Rattle.rm_history.specs.EtherHistory.{sample_entry, sample_table};
-    ghost use Rattle.rm_group.specs.Listed.{is_settable, of_columns, both_of_objects, control_refused, with_read_only};
+impl Tables for History {
+    ghost use Rattle.std.specs.Prelude.{[]};
+    ghost use Rattle.rm_model.specs.Cells.{cells_of};
+    ghost use Rattle.rm_history.specs.Columns.{control_columns};
+    ghost use Rattle.rm_history.specs.HistoryControl.{history_control, control_table};
+    ghost use Rattle.rm_history.specs.EtherHistory.{sample_table};
+    ghost use Rattle.rm_history.specs.Group.{history_tables, sample_listed};
+    ghost use Rattle.rm_group.specs.Listed.{is_settable, of_table, with_table, beside_listed};
 
-    ghost objects = { history_objects };
+    ghost tables = { history_tables };
 
-    ghost settable = { is_settable history_control };
+    ghost can_be_set = { is_settable history_control };
 
-    ghost listed = { λ settings journal now.
-        both_of_objects (is_of_column control_entry control_columns) (is_of_column sample_entry sample_columns)
-        (cells_of (control_table journal)) (cells_of (sample_table settings journal now))
-        (of_columns (control_table journal)) (of_columns (sample_table settings journal now)) };
-
-    ghost refused = { with_read_only (is_of_column control_entry control_columns) (is_of_column sample_entry sample_columns) (is_settable history_control)
-        (λ name value. alone_fault history_control (place_of control_entry name) value) (control_refused history_control control_columns) };
-
-    fn has_object(name: &Oid) -> bool {
-        Controls::<ControlColumns>::has_object(name)
-            || is_of_column(name, &Samples::entry(), Samples::columns())
+    fn tables() -> &'static [TableObjects] {
+        OBJECTS
     }
+
+    ghost shows_listed = { λ settings journal now.
+        with_table (control_table journal) (sample_listed ∷ []) (cells_of (sample_table settings journal now)) (of_table (sample_table settings journal now)) };
+
+    ghost refuses_listed = { beside_listed history_control control_columns sample_listed };
 }
 
 impl Readable for History {

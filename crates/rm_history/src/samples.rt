@@ -15,18 +15,19 @@ ghost use Rattle.rm_history.specs.EtherHistory.{sample_entry};
 use crate::plan::Plan;
 use crate::run::Run;
 use rm_ether::{Counter, Statistics};
+use rm_group::TableObjects;
 use rm_model::Instance;
 use rm_nested::{InnerCells, InnerRows, first_number, one_number_above};
 use rm_pool::Pool;
 use rm_status::counter_32;
 use rm_val::{Oid, Value};
 
-/// etherHistoryEntry (RFC 1757, section 5)
-const SAMPLE_ENTRY: &[u32] = &[1, 3, 6, 1, 2, 1, 16, 2, 2, 1];
-
-/// The numbers of its columns: etherHistoryIndex, etherHistorySampleIndex, etherHistoryIntervalStart, the counters, and
-/// etherHistoryUtilization.
-const SAMPLE_SHOWN: &[u32] = &[1, 2, 3, 4, 5, 6, 7, 8, 9, 10, 11, 12, 13, 14, 15];
+/// The objects of etherHistory (RFC 1757, section 5): etherHistoryIndex, etherHistorySampleIndex, etherHistoryIntervalStart, the
+/// counters, and etherHistoryUtilization.
+pub(crate) const SAMPLE_OBJECTS: TableObjects = TableObjects {
+    entry: &[1, 3, 6, 1, 2, 1, 16, 2, 2, 1],
+    columns: &[1, 2, 3, 4, 5, 6, 7, 8, 9, 10, 11, 12, 13, 14, 15],
+};
 
 /// A utilization of 100 percent, in hundredths of a percent.
 const MOST_UTILIZATION: u128 = 10_000;
@@ -75,13 +76,13 @@ impl<'a> InnerCells<'a> for Samples<'a> {
     fn entry() -> Oid
         ensures { result ≡ sample_entry }
     {
-        Oid::from_slice(SAMPLE_ENTRY).unwrap()
+        Oid::from_slice(SAMPLE_OBJECTS.entry).unwrap()
     }
 
     fn columns() -> &'static [u32]
         ensures { result.now ≡ sample_columns }
     {
-        SAMPLE_SHOWN
+        SAMPLE_OBJECTS.columns
     }
 
     fn value(&self, at: &Instance, now: u32) -> Option<Value<'a>> {

@@ -24,8 +24,8 @@ pub trait ControlRow: Default + Drop {
 
     /// The description of the table.
     fn table() -> ControlSheet
-        ensures entry { result.entry.now ≡ form.table.entry }
-        ensures shown { result.shown.now ≡ form.shown }
+        ensures entry { result.objects.entry.now ≡ form.table.entry }
+        ensures shown { result.objects.columns.now ≡ form.shown }
         ensures status { result.status ≡ form.table.status }
         ensures kind { result.kind ≡ form.table.status_kind }
         ensures most { result.most ≡ form.table.most }
@@ -36,7 +36,7 @@ pub trait ControlRow: Default + Drop {
     fn entry() -> Oid
         ensures { result ≡ form.table.entry }
     {
-        Oid::from_slice(Self::table().entry).unwrap()
+        Oid::from_slice(Self::table().objects.entry).unwrap()
     }
 
     /// A new row with that index.

@@ -1,13 +1,12 @@
 // The description of a control table, as data.
+use rm_group::TableObjects;
 use rm_model::{ColumnSheet, StatusKind};
 
 /// A control table.
 #[derive(Clone, Copy)]
 pub struct ControlSheet {
-    /// The identifier of its entry.
-    pub entry: &'static [u32],
-    /// The numbers of all its columns, in rising order.
-    pub shown: &'static [u32],
+    /// Its objects: its entry, and all its columns, in rising order.
+    pub objects: TableObjects,
     /// The number of the status column.
     pub status: u32,
     /// The kind of the status column.

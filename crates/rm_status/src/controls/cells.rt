@@ -3,13 +3,13 @@ ghost use Rattle.std.specs.Prelude.{◌≡◌, ◌≤◌, Some, IfSome, OnSome, 
 ghost use Rattle.std.specs.Option.{option_map};
 ghost use Rattle.rm_val.specs.Val.{val_of};
 ghost use Rattle.rm_val.specs.Spellable.{IsSpellable, HasSpelling};
-ghost use Rattle.rm_model.specs.Cells.{cells_of, cell_at, is_of_column, IsNext};
+ghost use Rattle.rm_model.specs.Cells.{cells_of, cell_at, IsNext};
 ghost use Rattle.rm_status.specs.RowForm.{AreSpelled, rows_shown};
 
 use crate::control_row::ControlRow;
 use crate::controls::Controls;
 use crate::other_columns::OtherColumns;
-use rm_group::{instance_of, is_of_column, next_name};
+use rm_group::{instance_of, next_name};
 use rm_model::Instance;
 use rm_val::{Oid, Value};
 
@@ -24,7 +24,7 @@ impl<R: ControlRow> Controls<R> {
         ensures value { option_map val_of result ≡ cells_of (rows_shown R.form (O.others others.now self.now) self.now) name.now }
         ensures spelling { IfSome result (λ value. HasSpelling (val_of value)) }
     {
-        let at = instance_of(name, &R::entry(), R::table().shown)?;
+        let at = instance_of(name, &R::entry(), R::table().objects.columns)?;
         self.cell_at(others, &at)
     }
 
@@ -42,15 +42,8 @@ impl<R: ControlRow> Controls<R> {
         ensures name_spelling { OnSome result (IsSpellable out.new) }
         ensures spelling { IfSome result (λ value. HasSpelling (val_of value)) }
     {
-        *out = next_name(self, &R::entry(), R::table().shown, name, 0)?;
+        *out = next_name(self, &R::entry(), R::table().objects.columns, name, 0)?;
         self.cell(others, out)
-    }
-
-    /// Whether a name begins with the identifier of one of the table's columns.
-    pub fn has_object(name: &Oid) -> bool
-        ensures { result ≡ is_of_column R.form.table.entry R.form.shown name.now }
-    {
-        is_of_column(name, &R::entry(), R::table().shown)
     }
 
     // The value at an instance, if there is such a row.

@@ -2,7 +2,8 @@
 ghost use Rattle.rm_model.specs.ControlRows.{index_value};
 
 use crate::tests::made_up::{MadeUp, STATUS};
-use crate::{Controls, OtherColumns, Row};
+use crate::{ControlRow, Controls, OtherColumns, Row};
+use rm_group::is_listed;
 use rm_model::{State, StatusKind};
 use rm_val::{Oid, Value};
 use std::test::Fail;
@@ -56,7 +57,7 @@ fn cells_in_order(rt: HostRuntime) -> Result<(), Fail> {
                 next.compare(&name_of(column, row)?).is_eq(),
                 "{column} {row}"
             );
-            assert!(rt; Controls::<MadeUp>::has_object(&next));
+            assert!(rt; is_listed(&next, &[MadeUp::table().objects]));
             assert!(rt; rows.cell(&Again, &next).is_some());
             name = next;
         }

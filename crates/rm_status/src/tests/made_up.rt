@@ -6,7 +6,7 @@ ghost use Rattle.rm_status.specs.MadeUp.{plain, ruled, second_at_first, set_to, 
 
 use crate::{ControlRow, ControlSheet};
 use arrayvec::ArrayVec;
-use rm_group::Assigns;
+use rm_group::{Assigns, TableObjects};
 use rm_model::Setting::Number;
 use rm_model::{StatusKind, column, numbers};
 use rm_val::{Oid, Value};
@@ -14,8 +14,10 @@ use rm_val::{Oid, Value};
 pub const STATUS: u32 = 7;
 
 const TABLE: ControlSheet = ControlSheet {
-    entry: &[1, 3, 6, 1, 4, 1, 9, 5],
-    shown: &[1, 2, 3, 4, 6, 7],
+    objects: TableObjects {
+        entry: &[1, 3, 6, 1, 4, 1, 9, 5],
+        columns: &[1, 2, 3, 4, 6, 7],
+    },
     status: STATUS,
     kind: StatusKind::EntryStatus,
     most: 16,
