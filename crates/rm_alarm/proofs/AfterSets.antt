@@ -74,8 +74,8 @@ with_given (Some v) (Some n) x e = ap name_of (in_some (name n) v e)
 module _ (settings : Settings) (journal : Journal) (now : ℕ) (bs : Bindings) (values : Assignments)
     (gives : (name : List ℕ) → value_given values name ≡ value_given bs name)
     (alone : (k : ℕ) → k < length bs → first_pass alarm_table bs k ≡ None)
-    (rows middle new : List (Row AlarmRow)) (held : AreControlRows rows)
-    (together : (k : ℕ) → k < length bs → second_pass alarm_table (rows_before set_to rows) bs k ≡ None)
+    (rows middle new : List (Row AlarmRow)) (held : AreControlRows alarm_table rows)
+    (together : (k : ℕ) → k < length bs → second_pass alarm_table (rows_before alarm_table set_to rows) bs k ≡ None)
     (after : (i : ℕ) → row_in middle i ≡ row_after alarm_table with_column new_row bs i (row_in rows i))
     (settles : (i : ℕ) → row_in new i ≡ option_map (changed_row (λ index state row. settled now state row)) (row_in middle i))
     (is : AreRowsAfter alarm_table no_rows set_to rows journal) (kept : AreKept rows settings journal) where
@@ -122,7 +122,7 @@ module _ (settings : Settings) (journal : Journal) (now : ℕ) (bs : Bindings) (
           stays : stays_valid alarm_table no_rows set journal (i ∷ []) ≡ true
           stays = ap (λ s. is_valid (alarm_state journal i) && is_valid s) state_now ∙ ap (λ s. is_valid s && true) state_before
 
-          seen : (rows_before set_to rows).state (i ∷ []) ≡ Valid
+          seen : (rows_before alarm_table set_to rows).state (i ∷ []) ≡ Valid
           seen = ap state_seen was ∙ state
 
           goes : is_valid (next_state (set_ask alarm_table bs (i ∷ [])) Valid) ≡ true
@@ -133,7 +133,7 @@ module _ (settings : Settings) (journal : Journal) (now : ℕ) (bs : Bindings) (
           fixed : (n : ℕ) → nat_eq n 12 ≡ false → is_always alarm_table n ≡ false → alarm_column (set ∷ journal) i n ≡ alarm_column journal i n
           fixed n other always =
               ap (λ g. unwrap_or (option_or g (cond (is_absent (alarm_state journal i)) None (set_value alarm_table no_rows journal (i ∷ []) n))) (default_of alarm_table n))
-              (gives (cell_name alarm_entry n (i ∷ [])) ∙ fixed_column alarm_table (rows_before set_to rows) bs together i n other always seen goes)
+              (gives (cell_name alarm_entry n (i ∷ [])) ∙ fixed_column alarm_table (rows_before alarm_table set_to rows) bs together i n other always seen goes)
               ∙ ap (λ s. unwrap_or (cond (is_absent s) None (set_value alarm_table no_rows journal (i ∷ []) n)) (default_of alarm_table n)) state_before
 
           same_interval : interval_of (set ∷ journal) i ≡ interval_of journal i
@@ -234,7 +234,7 @@ module _ (settings : Settings) (journal : Journal) (now : ℕ) (bs : Bindings) (
           absurd (not_made_valid (value_given bs (cell_name alarm_entry 12 (i ∷ [])))
           (sym (ap (λ o. is_valid (next_state (set_ask alarm_table bs (i ∷ [])) (state_seen o))) was) ∙ ap (λ (x : Row AlarmRow). is_valid x.state) (made m here) ∙ ap is_valid valid))
       remembered m here valid idle (Some r) was =
-          read i r was (under_creation r.state (row_there rows i r held was) (ap is_valid (state_is rows journal is i r was) ∙ idle))
+          read i r was (under_creation r.state (row_there alarm_table rows i r held was) (ap is_valid (state_is rows journal is i r was) ∙ idle))
 
       given_variable : (m : Row AlarmRow) → row_in middle i ≡ Some m → m.state ≡ Valid → variable_with bs i old ≡ variable_of (set ∷ journal) i
       given_variable m here valid =

@@ -42,7 +42,7 @@ value_is settings journal i Valid row None e k = absurd k
 value_is settings journal i UnderCreation row o e k = ap last_value k ∙ sym (ap (newest_or (pos 0)) (no_values settings journal i (ap is_valid (sym e))))
 value_is settings journal i Absent row o e k = ap last_value k ∙ sym (ap (newest_or (pos 0)) (no_values settings journal i (ap is_valid (sym e))))
 
-module _ (rows : List (Row AlarmRow)) (held : AreControlRows rows) (settings : Settings) (journal : Journal)
+module _ (rows : List (Row AlarmRow)) (held : AreControlRows alarm_table rows) (settings : Settings) (journal : Journal)
     (is : AreRowsAfter alarm_table no_rows set_to rows journal) (kept : AreKept rows settings journal) where
   same_other : (column i : ℕ) (row : Row AlarmRow) → row_in rows i ≡ Some row → with_index (kept_other rows) column (i ∷ []) ≡ with_index (alarm_other settings journal) column (i ∷ [])
   same_other column i row here =
@@ -51,7 +51,7 @@ module _ (rows : List (Row AlarmRow)) (held : AreControlRows rows) (settings : S
       ∙ value_is settings journal i row.state row.columns row.columns.course (state_is rows journal is i row here) (kept i row here))
 
   pub same_cells : (name : List ℕ) → cells_of (rows_table rows) name ≡ cells_of (alarms_table settings journal) name
-  same_cells = same_control_cells alarm_table no_rows set_to rows held journal is alarm_columns (with_index (kept_other rows)) (with_index (alarm_other settings journal)) (λ i row here. row_there rows i row held here) same_other
+  same_cells = same_control_cells alarm_table no_rows set_to rows held journal is alarm_columns (with_index (kept_other rows)) (with_index (alarm_other settings journal)) (λ i row here. row_there alarm_table rows i row held here) same_other
 
   -- what is next among the cells that are shown is next among those of the journal
   pub next_cell : (asked found : List ℕ) (value : Option Val) → IsNext (cells_of (rows_table rows)) asked value found → IsNext (cells_of (alarms_table settings journal)) asked value found

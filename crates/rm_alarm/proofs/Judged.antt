@@ -36,7 +36,7 @@ module _ (readings : Readings) (rows others : Beginning) (alike : AreAlike alarm
       (λ there. ap (λ v. is_none (readings v)) (same_variable row there))
 
   pub variable_alike : (k : ℕ) → variable_fault readings rows bs k ≡ variable_fault readings others bs k
-  variable_alike k = of_place (place_of alarm_entry (name_at bs k))
+  variable_alike k = of_place (place_of alarm_table (name_at bs k))
     where
       of_place : (p : Place) → unread_fault readings rows bs (value_at bs k) p ≡ unread_fault readings others bs (value_at bs k) p
       of_place Outside = refl

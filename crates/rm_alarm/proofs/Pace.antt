@@ -4,6 +4,7 @@ use Rattle.std.specs.Prelude.{ℤ, pos, nat_abs, unwrap_or, is_some}
 use Rattle.std.specs.Option.{option_or, option_and_then}
 use Rattle.std.proofs.lemmas.Bool.Decides.{nat_tests}
 use borrow.Author.Tests.{eqb-true}
+use Rattle.rm_model.specs.Indexing.{one_within}
 use Rattle.rm_val.specs.Val.{Val, int}
 use Rattle.rm_model.specs.Journal.{value_given}
 use Rattle.rm_model.specs.ControlRows.{cell_name, set_ask, next_state, is_absent, is_valid}
@@ -30,7 +31,7 @@ use Rattle.rm_alarm.proofs.AfterSets.{was_there, there_is}
 use Rattle.rm_alarm.proofs.Intervals.{given_seconds}
 use Rattle.rm_alarm.proofs.Sums.{sum_less}
 use Rattle.rm_status.proofs.Bound.{ready_made, not_made_valid}
-use Rattle.rm_status.proofs.RowFacts.{row_fits}
+use Rattle.rm_status.proofs.RowFacts.{found_there}
 use Rattle.rm_alarm.proofs.Taken.{Due}
 
 in_some : {A : Type 0} (x y : A) → Some x ≡ Some y → x ≡ y
@@ -110,7 +111,7 @@ settled_paced now s row range needed = by_interval s row.interval refl needed
     by_interval Absent None e needed = rw e refl
 
 module _ (now : ℕ) (bs : Bindings) (alone : (k : ℕ) → k < length bs → first_pass alarm_table bs k ≡ None)
-    (rows middle new : List (Row AlarmRow)) (together : (k : ℕ) → k < length bs → second_pass alarm_table (rows_before set_to rows) bs k ≡ None)
+    (rows middle new : List (Row AlarmRow)) (together : (k : ℕ) → k < length bs → second_pass alarm_table (rows_before alarm_table set_to rows) bs k ≡ None)
     (after : (i : ℕ) → row_in middle i ≡ row_after alarm_table with_column new_row bs i (row_in rows i))
     (settles : (i : ℕ) → row_in new i ≡ option_map (changed_row (λ index state row. settled now state row)) (row_in middle i))
     (paced : ArePaced rows) where
@@ -122,9 +123,9 @@ module _ (now : ℕ) (bs : Bindings) (alone : (k : ℕ) → k < length bs → fi
     ask = set_ask alarm_table bs (i ∷ [])
 
     -- an alarm that is ready has an interval
-    is_set : state_seen (row_in rows i) ≡ UnderCreation → is_ready_with alarm_table (rows_before set_to rows) bs (i ∷ []) ≡ true → is_some (option_or (given 2) ((rows_before set_to rows).set (i ∷ []) 2)) ≡ true
+    is_set : state_seen (row_in rows i) ≡ UnderCreation → is_ready_with alarm_table (rows_before alarm_table set_to rows) bs (i ∷ []) ≡ true → is_some (option_or (given 2) ((rows_before alarm_table set_to rows).set (i ∷ []) 2)) ≡ true
     is_set under is =
-        ap (λ s. is_some (option_or (given 2) (cond (is_absent s) None ((rows_before set_to rows).set (i ∷ []) 2)))) (sym under)
+        ap (λ s. is_some (option_or (given 2) (cond (is_absent s) None ((rows_before alarm_table set_to rows).set (i ∷ []) 2)))) (sym under)
         ∙ (both_true _ _ (both_true _ _ is).0).0
 
     needs_interval : (o : Option (Row AlarmRow)) → row_in rows i ≡ o → next_state ask (state_seen o) ≡ Valid → given 2 ≡ None → (unwrap_or (columns_seen o) blank_row).interval ≡ None → ⊥
@@ -137,9 +138,9 @@ module _ (now : ℕ) (bs : Bindings) (alone : (k : ℕ) → k < length bs → fi
             let no : is_paced Valid None r.columns.course ≡ true = ap (λ s. is_paced s None r.columns.course) (sym is) ∙ ap (λ o. is_paced r.state o r.columns.course) (sym interval) ∙ paced i r e in
             cc
         by_state UnderCreation is =
-            let some = is_set (ap state_seen e ∙ is) (ready_made alarm_table (rows_before set_to rows) bs together i (ap state_seen e ∙ is) (ap (λ s. is_valid (next_state ask s)) (sym is) ∙ ap is_valid next)) in
-            let before : (rows_before set_to rows).set (i ∷ []) 2 ≡ None = ap (λ o. option_and_then (λ c. set_to c 2) (columns_seen o)) e ∙ ap (option_map int) interval in
-            let unset : option_or (given 2) ((rows_before set_to rows).set (i ∷ []) 2) ≡ None = ap (λ g. option_or g ((rows_before set_to rows).set (i ∷ []) 2)) none ∙ before in
+            let some = is_set (ap state_seen e ∙ is) (ready_made alarm_table (rows_before alarm_table set_to rows) bs together i (ap state_seen e ∙ is) (ap (λ s. is_valid (next_state ask s)) (sym is) ∙ ap is_valid next)) in
+            let before : (rows_before alarm_table set_to rows).set (i ∷ []) 2 ≡ None = ap (λ o. option_and_then (λ c. set_to c 2) (columns_seen o)) e ∙ ap (option_map int) interval in
+            let unset : option_or (given 2) ((rows_before alarm_table set_to rows).set (i ∷ []) 2) ≡ None = ap (λ g. option_or g ((rows_before alarm_table set_to rows).set (i ∷ []) 2)) none ∙ before in
             let no : false ≡ true = sym (ap is_some unset) ∙ some in
             cc
 
@@ -181,7 +182,7 @@ module _ (now : ℕ) (bs : Bindings) (alone : (k : ℕ) → k < length bs → fi
 
 -- Each sample up to a moment leaves fewer.
 
-module _ (rows new : List (Row AlarmRow)) (index moment latest : ℕ) (within : moment ≤ latest) (held : AreControlRows rows) (paced : ArePaced rows) (due : Due rows index moment) where
+module _ (rows new : List (Row AlarmRow)) (index moment latest : ℕ) (within : moment ≤ latest) (held : AreControlRows alarm_table rows) (paced : ArePaced rows) (due : Due rows index moment) where
   abbrev left : List (Row AlarmRow) → ℕ → ℕ
   left some alarm = span_to latest (due_at some alarm)
 
@@ -196,8 +197,8 @@ module _ (rows new : List (Row AlarmRow)) (index moment latest : ℕ) (within : 
 
   fewer : ((i : ℕ) → nat_eq index i ≡ false → row_in new i ≡ row_in rows i) → left new index < left rows index → sum_below (left new) 65536 < sum_below (left rows) 65536
   fewer others less =
-      let fits = row_fits rows index due.row held.1 due.here in
-      sum_less (left new) (left rows) index 65536 (omega arith) (λ i other. ap of_row (others i other)) less
+      let fits = one_within index (found_there alarm_table rows index due.row held.1 due.here).0 in
+      sum_less (left new) (left rows) index 65536 fits.1 (λ i other. ap of_row (others i other)) less
 
   pub fewer_taken : (number : ℤ) (result : Sampled) → HasTaken rows new index moment number result → sum_below (left new) 65536 < sum_below (left rows) 65536
   fewer_taken number result taken =

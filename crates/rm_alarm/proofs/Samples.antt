@@ -85,7 +85,7 @@ module _ (settings : Settings) (journal : Journal) (frame : Frame) (rows : List 
       based_other settings journal (passes frame) i refl refl refl (λ acts. refl) course (sym (state_is rows journal is i row here) ∙ one.0) (based i row course here has)
 
 -- a sample of the alarm with that index
-module _ (settings : Settings) (journal : Journal) (index moment : ℕ) (rows new : List (Row AlarmRow)) (held : AreControlRows rows)
+module _ (settings : Settings) (journal : Journal) (index moment : ℕ) (rows new : List (Row AlarmRow)) (held : AreControlRows alarm_table rows)
     (is : AreRowsAfter alarm_table no_rows set_to rows journal) (kept : AreKept rows settings journal) (based : Based rows settings journal)
     (row : Row AlarmRow) (here : row_in rows index ≡ Some row) (course : Course) (has : row.columns.course ≡ Some course) (now : course.due ≡ moment) where
   is_running : (row.state ≡ Valid) × IsRunning settings journal index row.columns course
@@ -95,7 +95,7 @@ module _ (settings : Settings) (journal : Journal) (index moment : ℕ) (rows ne
   its_state = sym (state_is rows journal is index row here) ∙ is_running.0
 
   abbrev is_there : is_absent row.state ≡ false
-  is_there = row_there rows index row held here
+  is_there = row_there alarm_table rows index row held here
 
   -- that reads a number
   module _ (number : ℤ) (result : Sampled) (taken : HasTaken rows new index moment number result) where

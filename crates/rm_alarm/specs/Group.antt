@@ -39,7 +39,7 @@ alarm_tables = record { entry = alarm_entry; columns = alarm_columns } ∷ []
 
 -- what is wrong with a binding alone
 abbrev pub alarm_alone : List ℕ → Val → Option ErrorStatus
-alarm_alone numbers value = alone_fault alarm_table (place_of alarm_entry numbers) value
+alarm_alone numbers value = alone_fault alarm_table (place_of alarm_table numbers) value
 
 -- whether a value of a status makes a row valid
 abbrev pub makes_valid : Val → Bool
@@ -67,7 +67,7 @@ unread_fault readings before bindings value elsewhere = None
 
 abbrev pub variable_fault : Readings → Beginning → Bindings → ℕ → Option ErrorStatus
 variable_fault readings before bindings place =
-    unread_fault readings before bindings (value_at bindings place) (place_of alarm_entry (name_at bindings place))
+    unread_fault readings before bindings (value_at bindings place) (place_of alarm_table (name_at bindings place))
 
 -- what is wrong with the binding at a place together with the others of its row
 abbrev pub alarm_together : Readings → Beginning → Bindings → ℕ → Option ErrorStatus
@@ -81,7 +81,7 @@ AreSpelledValues bindings = (place : ℕ) → place < length bindings → HasSpe
 -- nothing is wrong with a Set, by the rows that there are
 pub record AreFine (alarms : Alarms) (bindings : Bindings) : Type 0 where
   pub alone : AreFineAlone alarm_alone bindings
-  pub together : IsFirstFault (length bindings) (second_pass alarm_table (rows_before set_to alarms.rows) bindings) Fine
+  pub together : IsFirstFault (length bindings) (second_pass alarm_table (rows_before alarm_table set_to alarms.rows) bindings) Fine
   pub values : AreSpelledValues bindings
 
 -- when the next sample of an alarm is due, if it is valid

@@ -13,7 +13,10 @@ use arrayvec::ArrayVec;
 use rm_group::TableObjects;
 use rm_model::Setting::{Empty, NoName, Number};
 use rm_model::{ColumnKind, StatusKind, column, numbers};
-use rm_status::{ControlRow, ControlSheet, Numbered, name_in, number_in, put_text, same_text};
+use rm_status::{
+    ControlRow, ControlSheet, Numbered, index_of_one, is_one_number, name_in, number_in,
+    one_number, put_text, same_text,
+};
 use rm_val::{Oid, Value};
 
 /// The objects of alarmTable.
@@ -91,6 +94,18 @@ impl ControlRow for AlarmRow {
 
     fn table() -> ControlSheet {
         TABLE
+    }
+
+    fn index(number: u32) -> Oid {
+        index_of_one(number)
+    }
+
+    fn number(name: &Oid, from: usize) -> Option<u32> {
+        one_number(name, from)
+    }
+
+    fn is_row(number: u32) -> bool {
+        is_one_number(number)
     }
 
     fn is_fixed(_index: u32, _column: u32) -> bool {

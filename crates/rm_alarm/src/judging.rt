@@ -1,5 +1,6 @@
 // Whether the variables can be read of the alarms that a Set makes valid.
 ghost use Rattle.std.specs.Prelude.{◌≡◌, ◌<◌, length, ◌&&◌, is_none};
+ghost use Rattle.rm_acts.specs.Alarms.{alarm_table};
 ghost use Rattle.rm_val.specs.Val.{val_of};
 ghost use Rattle.rm_val.specs.Spellable.{HasSpelling};
 ghost use Rattle.rm_model.specs.Judgement.{IsFirstFault, value_at};
@@ -23,7 +24,7 @@ pub(crate) fn judge_variables<A: Assigns, L: Look>(
     look: &L,
 ) -> Verdict
     ensures verdict { let bindings = A.bindings set.now in
-        IsFirstFault (length bindings) (variable_fault (L.readings look.now now) (rows_before set_to rows.now) bindings) result }
+        IsFirstFault (length bindings) (variable_fault (L.readings look.now now) (rows_before alarm_table set_to rows.now) bindings) result }
     ensures spelled { result ≡ Verdict.Fine → AreSpelledValues (A.bindings set.now) }
 {
     for place in 0..set.count() {
@@ -46,12 +47,12 @@ fn variable_fault<A: Assigns, L: Look>(
     place: usize,
 ) -> Option<ErrorStatus>
     requires { place < length (A.bindings set.now) }
-    ensures fault { result ≡ variable_fault (L.readings look.now now) (rows_before set_to rows.now) (A.bindings set.now) place }
+    ensures fault { result ≡ variable_fault (L.readings look.now now) (rows_before alarm_table set_to rows.now) (A.bindings set.now) place }
     ensures spelled { HasSpelling (value_at (A.bindings set.now) place) }
 {
     let name = set.name(place);
     let value = set.value(place);
-    match place_under(&name, &AlarmRow::entry()) {
+    match place_under::<AlarmRow>(&name, &AlarmRow::entry()) {
         Place::Cell(column, row) => {
             if column == STATUS && makes_valid(&value) && is_unread(rows, set, now, look, row) {
                 Some(ErrorStatus::InconsistentValue)
@@ -82,7 +83,7 @@ fn is_unread<A: Assigns, L: Look>(
     index: u32,
 ) -> bool
     ensures { result ≡ (is_under_creation (state_in rows.now index)
-        && is_none (L.readings look.now now (variable_then (rows_before set_to rows.now) (A.bindings set.now) index))) }
+        && is_none (L.readings look.now now (variable_then (rows_before alarm_table set_to rows.now) (A.bindings set.now) index))) }
 {
     let Some(row) = rows.get(index) else {
         return false;

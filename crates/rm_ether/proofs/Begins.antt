@@ -8,7 +8,7 @@ use Rattle.rm_model.specs.ControlRows.{is_absent}
 use Rattle.rm_model.specs.declared.row.State.TheVariants.{Absent, Valid}
 use Rattle.rm_status.specs.declared.row.Row.{Row}
 use Rattle.rm_status.specs.Rows.{row_in, state_seen, columns_seen}
-use Rattle.rm_status.specs.RowsAfter.{is_one_number, AreRowsAfter}
+use Rattle.rm_status.specs.RowsAfter.{is_numbered, AreRowsAfter}
 use Rattle.rm_ether.specs.declared.row.StatisticsRow.{StatisticsRow}
 use Rattle.rm_ether.specs.EtherStats.{ether_stats, is_of_monitor, monitor_set, ether_beginning, counter_sum}
 use Rattle.rm_ether.specs.Standing.{counter_of}
@@ -50,7 +50,7 @@ module _ (settings : Settings) (one : settings.interfaces ≡ 1) (rows : List (R
             absurd (cc)
       ] refl (is i)
 
-  others : (index : List ℕ) → is_one_number index ≡ false → (ether_beginning settings).state index ≡ Absent
+  others : (index : List ℕ) → is_numbered ether_stats index ≡ false → (ether_beginning settings).state index ≡ Absent
   others [] other = refl
   others (number ∷ []) other = absurd (cc)
   others (number ∷ next ∷ more) other = refl

@@ -22,7 +22,7 @@ use Rattle.rm_ether.specs.StatisticsRows.{set_to}
 use Rattle.rm_ether.specs.Shown.{kept_other, rows_table}
 use Rattle.rm_ether.specs.Group.{AreCounted}
 
-module _ (rows : List (Row StatisticsRow)) (held : AreControlRows rows) (settings : Settings) (journal : Journal)
+module _ (rows : List (Row StatisticsRow)) (held : AreControlRows ether_stats rows) (settings : Settings) (journal : Journal)
     (is : AreRowsAfter ether_stats (ether_beginning settings) set_to rows journal) (sums : AreCounted rows settings journal) where
   same_other : (column i : ℕ) (row : Row StatisticsRow) → row_in rows i ≡ Some row → with_index (kept_other rows) column (i ∷ []) ≡ with_index (ether_other settings journal) column (i ∷ [])
   same_other column i row here =
@@ -31,7 +31,7 @@ module _ (rows : List (Row StatisticsRow)) (held : AreControlRows rows) (setting
       ∙ ap (λ n. cond (nat_eq column 1) (int (pos i)) (counter n)) (mod-mod-pow (counter_sum settings journal (i ∷ []) (counter_numbered column)) 32 32)
 
   pub same_cells : (name : List ℕ) → cells_of (rows_table rows) name ≡ cells_of (ether_table settings journal) name
-  same_cells = same_control_cells ether_stats (ether_beginning settings) set_to rows held journal is ether_columns (with_index (kept_other rows)) (with_index (ether_other settings journal)) (λ i row here. row_there rows i row held here) same_other
+  same_cells = same_control_cells ether_stats (ether_beginning settings) set_to rows held journal is ether_columns (with_index (kept_other rows)) (with_index (ether_other settings journal)) (λ i row here. row_there ether_stats rows i row held here) same_other
 
   -- what is next among the cells that are shown is next among those of the journal
   pub next_cell : (asked found : List ℕ) (value : Option Val) → IsNext (cells_of (rows_table rows)) asked value found → IsNext (cells_of (ether_table settings journal)) asked value found

@@ -145,8 +145,8 @@ not_first false b is h = refl
 module _ (settings : Settings) (journal : Journal) (moment : ℕ) (bs : Bindings) (values : Assignments)
     (gives : (name : List ℕ) → value_given values name ≡ value_given bs name)
     (fine : AllFine ether_stats bs)
-    (rows middle new : List (Row StatisticsRow)) (held : AreControlRows rows)
-    (together : (k : ℕ) → k < length bs → second_pass ether_stats (rows_before set_to rows) bs k ≡ None)
+    (rows middle new : List (Row StatisticsRow)) (held : AreControlRows ether_stats rows)
+    (together : (k : ℕ) → k < length bs → second_pass ether_stats (rows_before ether_stats set_to rows) bs k ≡ None)
     (after : (i : ℕ) → row_in middle i ≡ row_after ether_stats with_column new_row bs i (row_in rows i))
     (rested : (i : ℕ) → row_in new i ≡ option_map (changed_row (λ index state row. resting state row)) (row_in middle i))
     (is : AreRowsAfter ether_stats (ether_beginning settings) set_to rows journal) (sums : AreCounted rows settings journal) where

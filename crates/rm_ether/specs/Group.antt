@@ -44,9 +44,9 @@ ether_tables = record { entry = ether_entry; columns = ether_columns } ∷ []
 
 -- what is wrong with a binding alone
 abbrev pub ether_alone : List ℕ → Val → Option ErrorStatus
-ether_alone name value = alone_fault ether_stats (place_of ether_entry name) value
+ether_alone name value = alone_fault ether_stats (place_of ether_stats name) value
 
 -- both passes find nothing wrong with a Set, by the rows that are kept
 pub record AreFine (ether : Ether) (bindings : Bindings) : Type 0 where
   pub alone : AreFineAlone ether_alone bindings
-  pub together : IsFirstFault (length bindings) (second_pass ether_stats (rows_before set_to ether.rows) bindings) Fine
+  pub together : IsFirstFault (length bindings) (second_pass ether_stats (rows_before ether_stats set_to ether.rows) bindings) Fine

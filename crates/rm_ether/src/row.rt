@@ -6,8 +6,11 @@ use arrayvec::ArrayVec;
 use rm_group::TableObjects;
 use rm_model::Setting::{Empty, Interface};
 use rm_model::{ColumnKind, StatusKind, column};
-use rm_status::{ControlRow, ControlSheet, interface_in, interface_name, put_text, same_text};
-use rm_val::Value;
+use rm_status::{
+    ControlRow, ControlSheet, index_of_one, interface_in, interface_name, is_one_number,
+    one_number, put_text, same_text,
+};
+use rm_val::{Oid, Value};
 
 /// How many octets an owner has at most.
 const MOST_OWNER: usize = 127;
@@ -82,6 +85,18 @@ impl ControlRow for StatisticsRow {
 
     fn table() -> ControlSheet {
         TABLE
+    }
+
+    fn index(number: u32) -> Oid {
+        index_of_one(number)
+    }
+
+    fn number(name: &Oid, from: usize) -> Option<u32> {
+        one_number(name, from)
+    }
+
+    fn is_row(number: u32) -> bool {
+        is_one_number(number)
     }
 
     fn is_fixed(_index: u32, _column: u32) -> bool {

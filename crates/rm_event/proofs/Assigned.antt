@@ -1,5 +1,5 @@
 -- What is kept of events after a Set with which nothing is wrong.
-use Rattle.std.proofs.Common.{◌≡◌, ℕ, ◌<◌, List, [], ◌∷◌, length, Bool, true, false, cond, ◌&&◌, Option, Some, None, refl, sym, ap, subst, ◌∙◌}
+use Rattle.std.proofs.Common.{◌^◌, ◌≡◌, ℕ, ◌<◌, List, [], ◌∷◌, length, Bool, true, false, cond, ◌&&◌, Option, Some, None, refl, sym, ap, subst, ◌∙◌}
 use Rattle.std.specs.Prelude.{is_some}
 use Rattle.std.proofs.lemmas.Bool.{and_parts}
 use Rattle.rm_model.specs.Settings.{Settings}
@@ -36,14 +36,14 @@ not_first true b is h = absurd (cc)
 not_first false b is h = refl
 
 -- the valid rows after a Set
-pub valid_after : (bs : Bindings) (rows new : List (Row EventRow)) → ((i : ℕ) → row_in new i ≡ row_after event_table with_column new_row bs i (row_in rows i)) → count_below (valid_in new) 65536 ≡ count_valid_after event_table (rows_before set_to rows) bs
-valid_after bs rows new after = ap (λ p. count_below p 65536) (λ d i. (ap is_valid (ap state_seen (after i) ∙ state_then event_table with_column new_row bs i (row_in rows i))) d)
+pub valid_after : (bs : Bindings) (rows new : List (Row EventRow)) → ((i : ℕ) → row_in new i ≡ row_after event_table with_column new_row bs i (row_in rows i)) → count_below (valid_in new) (2 ^ 32) ≡ count_valid_after event_table (rows_before event_table set_to rows) bs
+valid_after bs rows new after = ap (λ p. count_below p (2 ^ 32)) (λ d i. (ap is_valid (ap state_seen (after i) ∙ state_then event_table with_column new_row bs i (row_in rows i))) d)
 
 module _ (settings : Settings) (journal : Journal) (moment : ℕ) (bs : Bindings) (values : Assignments)
     (gives : (name : List ℕ) → value_given values name ≡ value_given bs name)
     (alone : (k : ℕ) → k < length bs → first_pass event_table bs k ≡ None)
-    (rows new : List (Row EventRow)) (held : AreControlRows rows)
-    (together : (k : ℕ) → k < length bs → second_pass event_table (rows_before set_to rows) bs k ≡ None)
+    (rows new : List (Row EventRow)) (held : AreControlRows event_table rows)
+    (together : (k : ℕ) → k < length bs → second_pass event_table (rows_before event_table set_to rows) bs k ≡ None)
     (after : (i : ℕ) → row_in new i ≡ row_after event_table with_column new_row bs i (row_in rows i))
     (is : AreRowsAfter event_table no_rows set_to rows journal) where
   abbrev with_set : Journal

@@ -34,7 +34,7 @@ use Rattle.rm_event.specs.Moments.{idle_firings}
 use Rattle.rm_event.proofs.Fires.{description_is}
 
 -- eventTable
-module _ (rows : List (Row EventRow)) (held : AreControlRows rows) (logs : List (Slot Log)) (settings : Settings) (journal : Journal)
+module _ (rows : List (Row EventRow)) (held : AreControlRows event_table rows) (logs : List (Slot Log)) (settings : Settings) (journal : Journal)
     (is : AreRowsAfter event_table no_rows set_to rows journal) (are : AreLogs logs journal (firings settings journal)) where
   -- when an event fired last
   sent_is : (i : ℕ) → sent_in logs i ≡ last_sent (firings settings journal i)
@@ -48,7 +48,7 @@ module _ (rows : List (Row EventRow)) (held : AreControlRows rows) (logs : List 
   same_other column i row here = ap (λ s. cond (nat_eq column 1) (int (pos i)) (ticks s)) (sent_is i)
 
   same_events : (name : List ℕ) → cells_of (rows_table rows logs) name ≡ cells_of (events_table settings journal) name
-  same_events = same_control_cells event_table no_rows set_to rows held journal is event_columns (with_index (kept_other logs)) (with_index (event_other settings journal)) (λ i row here. row_there rows i row held here) same_other
+  same_events = same_control_cells event_table no_rows set_to rows held journal is event_columns (with_index (kept_other logs)) (with_index (event_other settings journal)) (λ i row here. row_there event_table rows i row held here) same_other
 
   -- The entries of a log.
 

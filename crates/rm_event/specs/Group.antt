@@ -36,7 +36,7 @@ event_alone = alone_beside event_table log_listed
 -- both passes find nothing wrong with a Set, by the rows that are kept
 pub record AreFine (events : Events) (bindings : Bindings) : Type 0 where
   pub alone : IsFirstFault (length bindings) (first_pass event_table bindings) Fine
-  pub together : IsFirstFault (length bindings) (second_pass event_table (rows_before set_to events.rows) bindings) Fine
+  pub together : IsFirstFault (length bindings) (second_pass event_table (rows_before event_table set_to events.rows) bindings) Fine
 
 -- there is the storage of one row
 abbrev pub IsStocked : Events → Type 0
@@ -44,7 +44,7 @@ IsStocked events = 1 ≤ length events.logs
 
 -- there is the storage of each row that is valid after a Set
 abbrev pub HasRoom : Events → Bindings → Type 0
-HasRoom events bindings = count_valid_after event_table (rows_before set_to events.rows) bindings ≤ length events.logs
+HasRoom events bindings = count_valid_after event_table (rows_before event_table set_to events.rows) bindings ≤ length events.logs
 
 -- nothing is wrong with a Set, and there is storage for it
 pub record IsPrepared (events : Events) (bindings : Bindings) : Type 0 where
@@ -53,4 +53,4 @@ pub record IsPrepared (events : Events) (bindings : Bindings) : Type 0 where
 
 -- there is no more storage than that of the valid rows, or that of one row
 abbrev pub IsReleased : Events → Type 0
-IsReleased events = length events.logs ≤ max 1 (count_valid (rows_before set_to events.rows))
+IsReleased events = length events.logs ≤ max 1 (count_valid event_table (rows_before event_table set_to events.rows))

@@ -26,7 +26,7 @@ impl Events {
         ensures stocked { IsStocked self.new }
         ensures ready { OnOk result (IsPrepared self.new (A.bindings set.now)) }
         ensures released { OnErr result (IsReleased self.new) }
-        ensures denied { IfErr result (λ denied. Reserves event_table (rows_before set_to self.old.rows) (A.bindings set.now) denied.index) }
+        ensures denied { IfErr result (λ denied. Reserves event_table (rows_before event_table set_to self.old.rows) (A.bindings set.now) denied.index) }
     {
         match self.grow(alloc, set) {
             Some(denied) => {
@@ -45,7 +45,7 @@ impl Events {
         ensures stands { (settings : Settings) (journal : Journal) → Stands self.old settings journal → Stands self.new settings journal }
         ensures more { length self.old.logs ≤ length self.new.logs }
         ensures room { IfNone result (HasRoom self.new (A.bindings set.now)) }
-        ensures denied { IfSome result (λ denied. Reserves event_table (rows_before set_to self.old.rows) (A.bindings set.now) denied.index) }
+        ensures denied { IfSome result (λ denied. Reserves event_table (rows_before event_table set_to self.old.rows) (A.bindings set.now) denied.index) }
     {
         let needed = self.needed(set);
         match self.logs.grow(alloc, needed) {
@@ -59,7 +59,7 @@ impl Events {
     // How many rows are valid after a Set.
     fn needed<A: Assigns>(&self, set: &A) -> usize
         requires { AreFine self.now (A.bindings set.now) }
-        ensures { result ≡ count_valid_after event_table (rows_before set_to self.now.rows) (A.bindings set.now) }
+        ensures { result ≡ count_valid_after event_table (rows_before event_table set_to self.now.rows) (A.bindings set.now) }
     {
         self.rows
             .rows_after(set, &EventRow::entry(), EVENT_STATUS)
@@ -70,8 +70,8 @@ impl Events {
     // storage for.
     fn first_activated<A: Assigns>(&self, set: &A) -> u32
         requires stocked { IsStocked self.now }
-        requires few { length self.now.logs < count_valid_after event_table (rows_before set_to self.now.rows) (A.bindings set.now) }
-        ensures { Reserves event_table (rows_before set_to self.now.rows) (A.bindings set.now) result }
+        requires few { length self.now.logs < count_valid_after event_table (rows_before event_table set_to self.now.rows) (A.bindings set.now) }
+        ensures { Reserves event_table (rows_before event_table set_to self.now.rows) (A.bindings set.now) result }
     {
         prove!(self.rows.len() <= 32);
         prove!(self.logs.len() >= 1);

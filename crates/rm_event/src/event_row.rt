@@ -7,8 +7,11 @@ use arrayvec::ArrayVec;
 use rm_group::TableObjects;
 use rm_model::Setting::{Empty, Number};
 use rm_model::{ColumnKind, StatusKind, column, numbers};
-use rm_status::{ControlRow, ControlSheet, Numbered, put_text, same_text};
-use rm_val::Value;
+use rm_status::{
+    ControlRow, ControlSheet, Numbered, index_of_one, is_one_number, one_number, put_text,
+    same_text,
+};
+use rm_val::{Oid, Value};
 
 /// How many octets a text has at most.
 const MOST_TEXT: usize = 127;
@@ -69,6 +72,18 @@ impl ControlRow for EventRow {
 
     fn table() -> ControlSheet {
         TABLE
+    }
+
+    fn index(number: u32) -> Oid {
+        index_of_one(number)
+    }
+
+    fn number(name: &Oid, from: usize) -> Option<u32> {
+        one_number(name, from)
+    }
+
+    fn is_row(number: u32) -> bool {
+        is_one_number(number)
     }
 
     fn is_fixed(_index: u32, _column: u32) -> bool {

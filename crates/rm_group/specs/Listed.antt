@@ -9,7 +9,7 @@ use Rattle.rm_val.specs.declared.error.ErrorStatus.{ErrorStatus}
 use Rattle.rm_val.specs.declared.error.ErrorStatus.TheVariants.{NotWritable}
 use Rattle.rm_model.specs.Cells.{Cells, Table, cells_of, cell_at, has_cell, behind, is_one_of, is_of_column, instance_of, instance_left}
 use Rattle.rm_model.specs.ControlTable.{Column, ControlTable}
-use Rattle.rm_model.specs.Judgement.{place_behind, place_of, alone_fault, writable_kind, unless}
+use Rattle.rm_model.specs.Judgement.{place_in, place_behind, place_of, alone_fault, writable_kind, unless}
 use Rattle.rm_model.specs.declared.instance.Instance.{Instance}
 use Rattle.rm_group.specs.Alone.{read_only}
 use Rattle.rm_group.specs.declared.objects.TableObjects.{TableObjects}
@@ -31,7 +31,7 @@ is_listed tables name = list_any (λ table. is_of_column table.entry table.colum
 -- what is wrong with a binding alone where a control table stands beside a table of which no column is writable
 abbrev pub alone_beside : ControlTable → ListedTable → List ℕ → Val → Option ErrorStatus
 alone_beside table other name value =
-    option_or (alone_fault table (place_of table.entry name) value) (read_only (is_of_column other.entry other.columns) name value)
+    option_or (alone_fault table (place_of table name) value) (read_only (is_of_column other.entry other.columns) name value)
 
 -- each cell has a name that begins with an object of these
 abbrev pub AreOfObjects : (List ℕ → Bool) → Cells → Type 0
@@ -118,15 +118,17 @@ module _ (table : ControlTable) (columns : List ℕ) where
       rw (turned table.status column parts.0) (ap (option_map (λ c. c.kind)) (no_column table.columns column parts.1))
 
   refused_behind : (left : Option (List ℕ)) (value : Val) → is_some (instance_left settable_columns left) ≡ false
-      → (alone_fault table (place_behind left) value ≡ Some NotWritable) ⊎ ((is_some (instance_left columns left) ≡ false) × (alone_fault table (place_behind left) value ≡ None))
+      → (alone_fault table (place_behind table left) value ≡ Some NotWritable) ⊎ ((is_some (instance_left columns left) ≡ false) × (alone_fault table (place_behind table left) value ≡ None))
   refused_behind None value none = inr (refl, refl)
   refused_behind (Some []) value none = inl refl
-  refused_behind (Some (column ∷ [])) value none = inl (rw (no_kind column [] none) refl)
-  refused_behind (Some (column ∷ row ∷ [])) value none = inl (rw (no_kind column (row ∷ []) none) refl)
-  refused_behind (Some (column ∷ row ∷ next ∷ more)) value none = inl (rw (no_kind column (row ∷ next ∷ more) none) refl)
+  refused_behind (Some (column ∷ index)) value none = inl (by_number (table.indexing.number_of index))
+    where
+      by_number : (row : Option ℕ) → alone_fault table (place_in column row) value ≡ Some NotWritable
+      by_number (Some row) = rw (no_kind column index none) refl
+      by_number None = rw (no_kind column index none) refl
 
   -- the columns of a control table
-  control_refused : AreRefused (is_of_column table.entry columns) (is_settable table) (λ name value. alone_fault table (place_of table.entry name) value)
+  control_refused : AreRefused (is_of_column table.entry columns) (is_settable table) (λ name value. alone_fault table (place_of table name) value)
   control_refused name value none =
       rw (sym (is_of_column-instance table.entry columns name)) (refused_behind (behind table.entry name) value (is_of_column-instance table.entry settable_columns name ∙ none))
 
@@ -158,13 +160,13 @@ read_only_listed table name value none =
     (read_only_name (is_of_column table.entry table.columns name))
 
 pub control_listed : (table : ControlTable) (columns : List ℕ)
-    → AreRefused (is_listed (record { entry = table.entry; columns = columns } ∷ [])) (is_settable table) (λ name value. alone_fault table (place_of table.entry name) value)
+    → AreRefused (is_listed (record { entry = table.entry; columns = columns } ∷ [])) (is_settable table) (λ name value. alone_fault table (place_of table name) value)
 control_listed table columns name value none =
-    one_of_none (is_of_column table.entry columns name) (alone_fault table (place_of table.entry name) value) (control_refused table columns name value none)
+    one_of_none (is_of_column table.entry columns name) (alone_fault table (place_of table name) value) (control_refused table columns name value none)
 
 pub beside_listed : (table : ControlTable) (columns : List ℕ) (other : ListedTable)
     → AreRefused (is_listed (record { entry = table.entry; columns = columns } ∷ other ∷ [])) (is_settable table) (alone_beside table other)
 beside_listed table columns other name value none =
     join (is_of_column table.entry columns name) (is_of_column other.entry other.columns name || false)
-    (alone_fault table (place_of table.entry name) value) (read_only (is_of_column other.entry other.columns) name value)
+    (alone_fault table (place_of table name) value) (read_only (is_of_column other.entry other.columns) name value)
     (control_refused table columns name value none) (read_only_listed other name value refl)

@@ -1,5 +1,5 @@
 -- The rows and the histories after a Set with which nothing is wrong.
-use Rattle.std.proofs.Common.{◌≡◌, ℕ, ◌<◌, ◌≤◌, List, [], ◌∷◌, length, Bool, true, false, cond, Option, Some, None, refl, sym, ◌∙◌, ap, subst, nat_eq, arith}
+use Rattle.std.proofs.Common.{◌^◌, ◌≡◌, ℕ, ◌<◌, ◌≤◌, List, [], ◌∷◌, length, Bool, true, false, cond, Option, Some, None, refl, sym, ◌∙◌, ap, subst, nat_eq, arith}
 use Rattle.std.specs.Prelude.{pos, is_some, unwrap_or}
 use Rattle.std.specs.Option.{option_and_then}
 use Rattle.std.proofs.lemmas.Bool.{and_from, and_left}
@@ -58,8 +58,8 @@ module _ (settings : Settings) (journal : Journal) (now : ℕ) (bs : Bindings) (
     (later : last_moment journal ≤ now)
     (gives : (name : List ℕ) → value_given values name ≡ value_given bs name)
     (fine : AllFine history_control bs)
-    (rows new : List (Row ControlColumns)) (held : AreControlRows rows)
-    (together : (k : ℕ) → k < length bs → second_pass history_control (rows_before set_to rows) bs k ≡ None)
+    (rows new : List (Row ControlColumns)) (held : AreControlRows history_control rows)
+    (together : (k : ℕ) → k < length bs → second_pass history_control (rows_before history_control set_to rows) bs k ≡ None)
     (after : (i : ℕ) → row_in new i ≡ row_after history_control with_column new_row bs i (row_in rows i))
     (is : AreRowsAfter history_control no_rows set_to rows journal) where
   abbrev with_set : Journal
@@ -209,5 +209,5 @@ module _ (last now frames : ℕ) (later : last ≤ now) where
       fit_at (part_in runs row) (part_in then row) (row_in rows row) (valid_in rows row) refl (of_valid row) (fits row) (kept row) (begun row)
 
 -- as many rows are valid after a Set as it says
-pub count_then : (bs : Bindings) (rows new : List (Row ControlColumns)) → ((i : ℕ) → row_in new i ≡ row_after history_control with_column new_row bs i (row_in rows i)) → count_valid (rows_before set_to new) ≡ count_valid_after history_control (rows_before set_to rows) bs
-count_then bs rows new after = ap (λ p. count_below p 65536) (λ d row. ap is_valid (ap state_seen (after row) ∙ state_then history_control with_column new_row bs row (row_in rows row)) d)
+pub count_then : (bs : Bindings) (rows new : List (Row ControlColumns)) → ((i : ℕ) → row_in new i ≡ row_after history_control with_column new_row bs i (row_in rows i)) → count_valid history_control (rows_before history_control set_to new) ≡ count_valid_after history_control (rows_before history_control set_to rows) bs
+count_then bs rows new after = ap (λ p. count_below p (2 ^ 32)) (λ d row. ap is_valid (ap state_seen (after row) ∙ state_then history_control with_column new_row bs row (row_in rows row)) d)

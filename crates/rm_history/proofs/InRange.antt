@@ -81,7 +81,7 @@ put_in_range i (Cell n k) v c fine is =
 
 all_put : (bs : Bindings) (i : ℕ) (c : ControlColumns) → AllFine history_control bs → AreInRange c → AreInRange (put_all history_control with_column new_row bs i c)
 all_put [] i c fine is = is
-all_put (b ∷ more) i c fine is = put_in_range i (place_of history_control.entry b.name) b.value (put_all history_control with_column new_row more i c) fine.0 (all_put more i c fine.1 is)
+all_put (b ∷ more) i c fine is = put_in_range i (place_of history_control b.name) b.value (put_all history_control with_column new_row more i c) fine.0 (all_put more i c fine.1 is)
 
 blank_in_range : AreInRange blank_columns
 blank_in_range = record {

@@ -35,7 +35,7 @@ use Rattle.rm_history.specs.Standing.{IsRun, IsHistory, AreHistories}
 use Rattle.rm_status.proofs.RowFacts.{row_there}
 
 -- historyControl
-module _ (rows : List (Row ControlColumns)) (held : AreControlRows rows) (journal : Journal) (is : AreRowsAfter history_control no_rows set_to rows journal) where
+module _ (rows : List (Row ControlColumns)) (held : AreControlRows history_control rows) (journal : Journal) (is : AreRowsAfter history_control no_rows set_to rows journal) where
   module _ (i : ℕ) (row : Row ControlColumns) (here : row_in rows i ≡ Some row) where
     state_is : row.state ≡ control_state journal (i ∷ [])
     state_is = sym (ap state_seen here) ∙ is.alike.states i
@@ -43,7 +43,7 @@ module _ (rows : List (Row ControlColumns)) (held : AreControlRows rows) (journa
     columns : HasSameColumns history_control (set_to row.columns) (set_value history_control no_rows journal (i ∷ []))
     columns =
         subst (λ (o : Option (Row ControlColumns)). HasSameColumns history_control (λ n. option_and_then (λ c. set_to c n) (columns_seen o)) (set_value history_control no_rows journal (i ∷ []))) here
-        (is.alike.columns i (ap (λ o. is_absent (state_seen o)) here ∙ row_there rows i row held here))
+        (is.alike.columns i (ap (λ o. is_absent (state_seen o)) here ∙ row_there history_control rows i row held here))
 
     requested_is : row.columns.requested ≡ natural_in (control_set journal (i ∷ []) 3)
     requested_is = ap natural_in columns.1.0.shown
@@ -54,7 +54,7 @@ module _ (rows : List (Row ControlColumns)) (held : AreControlRows rows) (journa
       ∙ (λ d. cond (nat_eq column 1) (int (pos i)) (int (pos (granted_in (state_is i row here d) (requested_is i row here d)))))
 
   pub same_control : (name : List ℕ) → cells_of (rows_table rows) name ≡ cells_of (control_table journal) name
-  same_control = same_control_cells history_control no_rows set_to rows held journal is control_columns (with_index (kept_other rows)) (with_index (control_other journal)) (λ i row here. row_there rows i row held here) same_other
+  same_control = same_control_cells history_control no_rows set_to rows held journal is control_columns (with_index (kept_other rows)) (with_index (control_other journal)) (λ i row here. row_there history_control rows i row held here) same_other
 
 -- What a history shows, where it is that of a row after the journal.
 module _ (settings : Settings) (journal : Journal) (now : ℕ) (later : last_moment journal ≤ now) (row : ℕ) (run : Run) (is : IsRun run settings journal row) where
@@ -134,7 +134,7 @@ module _ (runs : List (Slot Run)) (settings : Settings) (journal : Journal) (his
   same_samples name = sample_cell_at (instance_of sample_entry sample_columns name)
 
 -- both
-module _ (rows : List (Row ControlColumns)) (held : AreControlRows rows) (runs : List (Slot Run)) (settings : Settings) (journal : Journal)
+module _ (rows : List (Row ControlColumns)) (held : AreControlRows history_control rows) (runs : List (Slot Run)) (settings : Settings) (journal : Journal)
     (is : AreRowsAfter history_control no_rows set_to rows journal) (histories : AreHistories runs settings journal) (now : ℕ) (later : last_moment journal ≤ now) where
   pub same_cells : (name : List ℕ) → cells_shown rows runs now name ≡ option_or (cells_of (control_table journal) name) (cells_of (sample_table settings journal now) name)
   same_cells name = λ d. option_or (same_control rows held journal is name d) (same_samples runs settings journal histories now later name d)

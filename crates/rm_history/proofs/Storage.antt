@@ -1,8 +1,8 @@
 -- How much storage there is, by how many rows are valid.
-use Rattle.std.proofs.Common.{◌≡◌, ℕ, ◌<◌, List, [], ◌∷◌, length, ◌&&◌, Option, Some, None, refl, ap, nat_eq}
+use Rattle.std.proofs.Common.{◌^◌, ◌≡◌, ℕ, ◌<◌, List, [], ◌∷◌, length, ◌&&◌, Option, Some, None, refl, ap, nat_eq}
 use Rattle.std.specs.Option.{option_or}
 use Rattle.rm_val.specs.declared.error.ErrorStatus.{ErrorStatus}
-use Rattle.rm_model.specs.ControlTable.{ControlTable}
+use Rattle.rm_model.specs.ControlTable.{row_index, ControlTable}
 use Rattle.rm_model.specs.ControlRows.{Beginning, is_valid, next_state, set_ask}
 use Rattle.rm_model.specs.Judgement.{Bindings, count_below, name_at, place_of, first_pass}
 use Rattle.rm_model.specs.Reserves.{makes_valid, activates_at, activates, count_valid, count_valid_after}
@@ -20,8 +20,8 @@ use Rattle.rm_pool.specs.Pools.{in_use, IsOfValid}
 use Rattle.rm_history.specs.Group.{history_alone}
 
 -- as many rows have a history as are valid
-pub used_is : (runs : List (Slot Run)) (rows : List (Row ControlColumns)) → IsOfValid runs rows → in_use runs ≡ count_valid (rows_before set_to rows)
-used_is runs rows held = ap (λ p. count_below p 65536) (λ d row. held row d)
+pub used_is : (runs : List (Slot Run)) (rows : List (Row ControlColumns)) → IsOfValid runs rows → in_use runs ≡ count_valid history_control (rows_before history_control set_to rows)
+used_is runs rows held = ap (λ p. count_below p (2 ^ 32)) (λ d row. held row d)
 
 -- nothing is wrong with a binding alone that is of historyControl
 pub first_fine : (bindings : Bindings) → AreFineAlone history_alone bindings → (place : ℕ) → place < length bindings → first_pass history_control bindings place ≡ None
@@ -32,8 +32,8 @@ first_fine bindings fine place within = no_first _ _ (fine place within)
     no_first (Some x) p e = cc
 
 -- What a Set makes valid depends on the states of the rows before it alone.
-module _ (t : ControlTable) (before others : Beginning) (bs : Bindings) (same : (row : ℕ) → before.state (row ∷ []) ≡ others.state (row ∷ [])) where
-  made_alike : (row : ℕ) → makes_valid t before bs (row ∷ []) ≡ makes_valid t others bs (row ∷ [])
+module _ (t : ControlTable) (before others : Beginning) (bs : Bindings) (same : (row : ℕ) → before.state (row_index t row) ≡ others.state (row_index t row)) where
+  made_alike : (row : ℕ) → makes_valid t before bs (row_index t row) ≡ makes_valid t others bs (row_index t row)
   made_alike row = rw (same row) refl
 
   place_alike : (p : Place) → activates_at t before bs p ≡ activates_at t others bs p
@@ -43,7 +43,7 @@ module _ (t : ControlTable) (before others : Beginning) (bs : Bindings) (same : 
   place_alike (Cell column row) = ap (λ b. nat_eq column t.status && b) (made_alike row)
 
   pub activates_alike : (place : ℕ) → activates t before bs place ≡ activates t others bs place
-  activates_alike place = place_alike (place_of t.entry (name_at bs place))
+  activates_alike place = place_alike (place_of t (name_at bs place))
 
   pub count_after_alike : count_valid_after t before bs ≡ count_valid_after t others bs
-  count_after_alike = ap (λ p. count_below p 65536) (λ d row. ap (λ s. is_valid (next_state (set_ask t bs (row ∷ [])) s)) (same row) d)
+  count_after_alike = ap (λ p. count_below p (2 ^ 32)) (λ d row. ap (λ s. is_valid (next_state (set_ask t bs (row_index t row)) s)) (same row) d)

@@ -47,7 +47,7 @@ history_alone = alone_beside history_control sample_listed
 -- both passes find nothing wrong with a Set, by the rows that are kept
 pub record AreFine (history : History) (bindings : Bindings) : Type 0 where
   pub alone : AreFineAlone history_alone bindings
-  pub together : IsFirstFault (length bindings) (second_pass history_control (rows_before set_to history.rows) bindings) Fine
+  pub together : IsFirstFault (length bindings) (second_pass history_control (rows_before history_control set_to history.rows) bindings) Fine
 
 -- there is the storage of one row, whether it is spare or not
 abbrev pub IsStocked : History → Type 0
@@ -56,8 +56,8 @@ IsStocked history = 1 ≤ length history.runs
 -- nothing is wrong with a Set, and there is storage for each row that is valid after it
 pub record IsPrepared (history : History) (bindings : Bindings) : Type 0 where
   pub fine : AreFine history bindings
-  pub enough : count_valid_after history_control (rows_before set_to history.rows) bindings ≤ length history.runs
+  pub enough : count_valid_after history_control (rows_before history_control set_to history.rows) bindings ≤ length history.runs
 
 -- there is storage for the valid rows only, or for one row where none is valid
 abbrev pub IsReleased : History → Type 0
-IsReleased history = length history.runs ≤ max 1 (count_valid (rows_before set_to history.rows))
+IsReleased history = length history.runs ≤ max 1 (count_valid history_control (rows_before history_control set_to history.rows))

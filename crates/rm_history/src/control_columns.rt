@@ -7,9 +7,10 @@ use rm_group::TableObjects;
 use rm_model::Setting::{Empty, Interface, Number};
 use rm_model::{ColumnKind, StatusKind, column, numbers};
 use rm_status::{
-    ControlRow, ControlSheet, interface_in, interface_name, put_text, same_text, short_in,
+    ControlRow, ControlSheet, index_of_one, interface_in, interface_name, is_one_number,
+    one_number, put_text, same_text, short_in,
 };
-use rm_val::Value;
+use rm_val::{Oid, Value};
 
 /// The status column of historyControl.
 pub const STATUS: u32 = 7;
@@ -70,6 +71,18 @@ impl ControlRow for ControlColumns {
 
     fn table() -> ControlSheet {
         TABLE
+    }
+
+    fn index(number: u32) -> Oid {
+        index_of_one(number)
+    }
+
+    fn number(name: &Oid, from: usize) -> Option<u32> {
+        one_number(name, from)
+    }
+
+    fn is_row(number: u32) -> bool {
+        is_one_number(number)
     }
 
     fn is_fixed(_index: u32, _column: u32) -> bool {

@@ -67,7 +67,7 @@ impl History {
     // How many rows are valid after a Set with which nothing is wrong.
     fn count_after<A: Assigns>(&self, set: &A) -> usize
         requires { AreFine self.now (A.bindings set.now) }
-        ensures { result ≡ count_valid_after history_control (rows_before set_to self.now.rows) (A.bindings set.now) }
+        ensures { result ≡ count_valid_after history_control (rows_before history_control set_to self.now.rows) (A.bindings set.now) }
     {
         let after = self.rows.rows_after(set, &ControlColumns::entry(), STATUS);
         after.count_valid()

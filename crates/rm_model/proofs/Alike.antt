@@ -1,5 +1,5 @@
 -- Rows that are alike are judged alike.
-use Rattle.std.proofs.Common.{◌≡◌, ℕ, List, [], ◌∷◌, Bool, true, false, cond, ◌&&◌, ◌||◌, not, Option, Some, None, find, refl, ap, subst, ◌∙◌, nat_eq, nat_lt}
+use Rattle.std.proofs.Common.{◌≡◌, ℕ, ◌^◌, List, [], ◌∷◌, Bool, true, false, cond, ◌&&◌, ◌||◌, not, Option, Some, None, find, refl, ap, subst, ◌∙◌, nat_eq, nat_lt}
 use Rattle.std.specs.Prelude.{is_some, unwrap_or}
 use Rattle.std.specs.List.{list_all, AllByRecursion}
 use Rattle.std.specs.Option.{option_or}
@@ -8,7 +8,7 @@ use Rattle.rm_val.specs.Val.{Val}
 use Rattle.rm_model.specs.declared.place.Place.{Place}
 use Rattle.rm_model.specs.declared.place.Place.TheVariants.{Outside, Entry, Column, Cell}
 use Rattle.rm_model.specs.Journal.{value_given}
-use Rattle.rm_model.specs.ControlTable.{Column as TableColumn, ControlTable, column_of, default_of, is_ready}
+use Rattle.rm_model.specs.ControlTable.{Column as TableColumn, ControlTable, column_of, row_index, default_of, is_ready}
 use Rattle.rm_model.specs.ControlRows.{Beginning, cell_name, set_ask, is_absent}
 use Rattle.rm_model.specs.Judgement.{Bindings, name_at, place_of, is_made, row_fault, of_columns, set_before, is_ready_with, is_held_or_made, count_below, is_crowded, is_again, together_fault, second_pass}
 use Rattle.rm_model.specs.Alike.{IsSameColumn, HasSameColumns, AreAlike}
@@ -74,30 +74,30 @@ same_itself t set (c ∷ more) = (record { shown = refl; needed = λ _. refl }, 
 
 module _ (t : ControlTable) (rows others : Beginning) (alike : AreAlike t rows others) (bs : Bindings) where
   crowded_alike : is_crowded t rows bs ≡ is_crowded t others bs
-  crowded_alike = ap (λ (f : ℕ → Bool). nat_lt t.most (count_below f 65536)) (λ d row. (held_alike row) d)
+  crowded_alike = ap (λ (f : ℕ → Bool). nat_lt t.most (count_below f (2 ^ 32))) (λ d row. (held_alike row) d)
     where
-      held_alike : (row : ℕ) → is_held_or_made t rows bs (row ∷ []) ≡ is_held_or_made t others bs (row ∷ [])
-      held_alike row = ap (λ s. not (is_absent s) || is_made s (set_ask t bs (row ∷ []))) (alike.states row)
+      held_alike : (row : ℕ) → is_held_or_made t rows bs (row_index t row) ≡ is_held_or_made t others bs (row_index t row)
+      held_alike row = ap (λ s. not (is_absent s) || is_made s (set_ask t bs (row_index t row))) (alike.states row)
 
   -- a row is as ready among both, also where it isn't there
-  as_ready : (row : ℕ) → is_ready_with t rows bs (row ∷ []) ≡ is_ready_with t others bs (row ∷ [])
+  as_ready : (row : ℕ) → is_ready_with t rows bs (row_index t row) ≡ is_ready_with t others bs (row_index t row)
   as_ready row =
-      ready_alike t (set_before t rows (row ∷ [])) (set_before t others (row ∷ [])) (λ column. value_given bs (cell_name t.entry column (row ∷ [])))
-      (subst (λ s. HasSameColumns t (set_before t rows (row ∷ [])) (λ column. cond (is_absent s) (t.rules.first (row ∷ []) column) (others.set (row ∷ []) column))) (alike.states row) (by_state (is_absent (rows.state (row ∷ []))) refl))
+      ready_alike t (set_before t rows (row_index t row)) (set_before t others (row_index t row)) (λ column. value_given bs (cell_name t.entry column (row_index t row)))
+      (subst (λ s. HasSameColumns t (set_before t rows (row_index t row)) (λ column. cond (is_absent s) (t.rules.first (row_index t row) column) (others.set (row_index t row) column))) (alike.states row) (by_state (is_absent (rows.state (row_index t row))) refl))
     where
-      by_state : (b : Bool) → is_absent (rows.state (row ∷ [])) ≡ b → HasSameColumns t (λ column. cond b (t.rules.first (row ∷ []) column) (rows.set (row ∷ []) column)) (λ column. cond b (t.rules.first (row ∷ []) column) (others.set (row ∷ []) column))
-      by_state true e = same_itself t (t.rules.first (row ∷ [])) t.columns
+      by_state : (b : Bool) → is_absent (rows.state (row_index t row)) ≡ b → HasSameColumns t (λ column. cond b (t.rules.first (row_index t row) column) (rows.set (row_index t row) column)) (λ column. cond b (t.rules.first (row_index t row) column) (others.set (row_index t row) column))
+      by_state true e = same_itself t (t.rules.first (row_index t row)) t.columns
       by_state false e = alike.columns row e
 
   -- the second pass finds the same wrong with a Set
   pub second_pass_alike : (k : ℕ) → second_pass t rows bs k ≡ second_pass t others bs k
-  second_pass_alike k = of_place (place_of t.entry (name_at bs k))
+  second_pass_alike k = of_place (place_of t (name_at bs k))
     where
       of_place : (p : Place) → together_fault t rows bs k p ≡ together_fault t others bs k p
       of_place Outside = refl
       of_place Entry = refl
       of_place (Column c) = refl
       of_place (Cell c row) =
-          ap (λ b. row_fault t (row ∷ []) (rows.state (row ∷ [])) (set_ask t bs (row ∷ [])) b (is_crowded t rows bs) (is_again bs k) c) (as_ready row)
-          ∙ ap (λ s. row_fault t (row ∷ []) s (set_ask t bs (row ∷ [])) (is_ready_with t others bs (row ∷ [])) (is_crowded t rows bs) (is_again bs k) c) (alike.states row)
-          ∙ ap (λ s. row_fault t (row ∷ []) (others.state (row ∷ [])) (set_ask t bs (row ∷ [])) (is_ready_with t others bs (row ∷ [])) s (is_again bs k) c) crowded_alike
+          ap (λ b. row_fault t (row_index t row) (rows.state (row_index t row)) (set_ask t bs (row_index t row)) b (is_crowded t rows bs) (is_again bs k) c) (as_ready row)
+          ∙ ap (λ s. row_fault t (row_index t row) s (set_ask t bs (row_index t row)) (is_ready_with t others bs (row_index t row)) (is_crowded t rows bs) (is_again bs k) c) (alike.states row)
+          ∙ ap (λ s. row_fault t (row_index t row) (others.state (row_index t row)) (set_ask t bs (row_index t row)) (is_ready_with t others bs (row_index t row)) s (is_again bs k) c) crowded_alike

@@ -6,6 +6,7 @@ use Rattle.rm_model.specs.declared.row.State.TheVariants.{Absent, UnderCreation,
 use Rattle.rm_model.specs.declared.row.StatusKind.TheVariants.{EntryStatus, RowStatus}
 use Rattle.rm_model.specs.Journal.{Assignments, Act, passes, assigns, samples, Journal, last_moment, frames_in}
 use Rattle.rm_model.specs.ControlTable.{number, text, Column, ControlTable, no_rules}
+use Rattle.rm_model.specs.Indexing.{one_number, by_one_number}
 use Rattle.rm_model.specs.ControlRows.{no_rows, state_of, set_value, value_of, since, activated}
 
 abbrev interval : Column
@@ -15,7 +16,7 @@ abbrev owner : Column
 owner = record { number = 11; kind = text 127; always = true; needed = false; default = octets (7 ∷ []) }
 
 abbrev table : ControlTable
-table = record { entry = 1 ∷ 3 ∷ []; status = 12; status_kind = EntryStatus; most = 16; columns = interval ∷ owner ∷ []; go_together = λ values. true; rules = no_rules; is_sampled = true }
+table = record { entry = 1 ∷ 3 ∷ []; indexing = one_number; indexed = by_one_number; status = 12; status_kind = EntryStatus; most = 16; columns = interval ∷ owner ∷ []; go_together = λ values. true; rules = no_rules; is_sampled = true }
 
 -- a Set of one column of row 5
 abbrev gives : ℕ → Val → Assignments

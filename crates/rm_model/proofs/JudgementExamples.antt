@@ -13,6 +13,7 @@ use Rattle.rm_model.specs.declared.row.Ask.TheVariants.{Nothing}
 use Rattle.rm_model.specs.Journal.{Assignment}
 use Rattle.rm_model.specs.Interfaces.{interface_name}
 use Rattle.rm_model.specs.ControlTable.{number, text, any_name, data_source, ControlTable, no_rules}
+use Rattle.rm_model.specs.Indexing.{one_number, by_one_number}
 use Rattle.rm_model.specs.ControlRows.{Beginning, number_ask, next_state}
 use Rattle.rm_model.specs.Judgement.{first_pass, second_pass, row_fault, is_ready_with, is_held_or_made, count_below, is_sound}
 
@@ -20,6 +21,8 @@ use Rattle.rm_model.specs.Judgement.{first_pass, second_pass, row_fault, is_read
 abbrev table : ControlTable
 table = record {
   entry = 1 ∷ 3 ∷ [];
+  indexing = one_number;
+  indexed = by_one_number;
   status = 12;
   status_kind = EntryStatus;
   most = 16;

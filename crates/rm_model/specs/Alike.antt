@@ -2,7 +2,7 @@
 use Rattle.std.specs.Prelude.{◌≡◌, ℕ, [], ◌∷◌, true, false, Option, is_some, unwrap_or}
 use Rattle.std.specs.List.{AllByRecursion}
 use Rattle.rm_val.specs.Val.{Val}
-use Rattle.rm_model.specs.ControlTable.{Column, ControlTable, default_of}
+use Rattle.rm_model.specs.ControlTable.{Column, ControlTable, row_index, default_of}
 use Rattle.rm_model.specs.ControlRows.{Beginning, is_absent}
 
 -- A column shows the same in both, and where a row needs it, it was set in both or in neither. One that has a default may
@@ -17,5 +17,5 @@ HasSameColumns table set other = AllByRecursion (IsSameColumn table set other) t
 
 -- the same rows are there, in the same states and with the same columns
 pub record AreAlike (table : ControlTable) (rows others : Beginning) : Type 0 where
-  pub states : (row : ℕ) → rows.state (row ∷ []) ≡ others.state (row ∷ [])
-  pub columns : (row : ℕ) → is_absent (rows.state (row ∷ [])) ≡ false → HasSameColumns table (rows.set (row ∷ [])) (others.set (row ∷ []))
+  pub states : (row : ℕ) → rows.state (row_index table row) ≡ others.state (row_index table row)
+  pub columns : (row : ℕ) → is_absent (rows.state (row_index table row)) ≡ false → HasSameColumns table (rows.set (row_index table row)) (others.set (row_index table row))

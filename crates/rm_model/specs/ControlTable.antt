@@ -3,6 +3,7 @@ use Rattle.std.specs.Prelude.{ℕ, ℤ, pos, List, [], ◌∷◌, Bool, true, fa
 use Rattle.std.specs.List.{list_all}
 use Rattle.std.specs.Option.{option_map_or}
 use Rattle.rm_val.specs.Val.{Val, null, name, octets}
+use Rattle.rm_model.specs.Indexing.{Indexing, IsIndexing, one_number, by_one_number}
 use Rattle.rm_model.specs.Interfaces.{interface_name}
 use Rattle.rm_model.specs.declared.row.StatusKind.{StatusKind}
 use Rattle.rm_model.specs.declared.row.StatusKind.TheVariants.{EntryStatus}
@@ -65,11 +66,13 @@ pub record RowRules : Type 0 where
 abbrev pub no_rules : RowRules
 no_rules = record { first = λ index column. None; is_fixed = λ index column. false; stays = λ index. false }
 
--- A control table: the identifier of its entry, its status column and which kind of status that has, how many rows there are at most, its
--- other writable columns, whether values of these go together in a row that is ready, and what goes by the index of a row. The rows of a
--- sampled table are alarms: a sample whose variable is gone takes its row away.
+-- A control table: the identifier of its entry, which indexes its rows can have, its status column and which kind of status that has, how many
+-- rows there are at most, its other writable columns, whether values of these go together in a row that is ready, and what goes by the index
+-- of a row. The rows of a sampled table are alarms: a sample whose variable is gone takes its row away.
 pub record ControlTable : Type 0 where
   pub entry : List ℕ
+  pub indexing : Indexing
+  pub indexed : IsIndexing indexing
   pub status : ℕ
   pub status_kind : StatusKind
   pub most : ℕ
@@ -78,11 +81,17 @@ pub record ControlTable : Type 0 where
   pub rules : RowRules
   pub is_sampled : Bool
 
--- A control table of RFC 1757: its status is an EntryStatus, it has sixteen rows at most, which are all alike, and all values of its
--- columns go together.
+-- the index of the row that has a number
+abbrev pub row_index : ControlTable → ℕ → List ℕ
+row_index table row = table.indexing.index_of row
+
+-- A control table of RFC 1757: an index is one number, its status is an EntryStatus, it has sixteen rows at most, which are all alike, and
+-- all values of its columns go together.
 abbrev pub entry_table : List ℕ → (status : ℕ) → List Column → ControlTable
 entry_table entry status columns = record {
   entry = entry;
+  indexing = one_number;
+  indexed = by_one_number;
   status = status;
   status_kind = EntryStatus;
   most = 16;

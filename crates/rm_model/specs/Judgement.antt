@@ -1,6 +1,6 @@
 -- How a Set is judged on one control table (RFC 1905, section 4.2.5): first each binding alone, then the bindings of each
 -- row together. Which tests there are, and their order, is said in docs/DECISIONS.md.
-use Rattle.std.specs.Prelude.{◌≡◌, ℕ, zero, suc, ℤ, pos, ◌+◌, ◌<◌, int_le, List, [], ◌∷◌, get_or, take, length, Bool, true, false, not, ◌&&◌, ◌||◌, nat_eq, nat_le, nat_lt, if◌then◌else◌, Option, Some, None, is_none, is_some}
+use Rattle.std.specs.Prelude.{◌≡◌, ℕ, zero, suc, ℤ, pos, ◌+◌, ◌<◌, ◌^◌, int_le, List, [], ◌∷◌, get_or, take, length, Bool, true, false, not, ◌&&◌, ◌||◌, nat_eq, nat_le, nat_lt, if◌then◌else◌, Option, Some, None, is_none, is_some}
 use Rattle.std.specs.List.{list_any, list_all}
 use Rattle.std.specs.Option.{option_map, option_map_or, option_or}
 use Rattle.std.specs.Str.{bytes_eq}
@@ -10,7 +10,7 @@ use Rattle.rm_val.specs.declared.error.ErrorStatus.TheVariants.{WrongType, Wrong
 use Rattle.rm_model.specs.Journal.{Assignment, Journal, value_given}
 use Rattle.rm_model.specs.Cells.{behind}
 use Rattle.rm_model.specs.Interfaces.{is_source}
-use Rattle.rm_model.specs.ControlTable.{Range, Kind, number, text, any_name, data_source, ControlTable, column_of, is_ready}
+use Rattle.rm_model.specs.ControlTable.{Range, Kind, number, text, any_name, data_source, ControlTable, row_index, column_of, is_ready}
 use Rattle.rm_model.specs.ControlRows.{Beginning, cell_name, set_ask, is_absent, state_of, set_value}
 use Rattle.rm_model.specs.declared.row.StatusKind.{StatusKind}
 use Rattle.rm_model.specs.declared.row.StatusKind.TheVariants.{EntryStatus, RowStatus}
@@ -49,17 +49,20 @@ IsFirstFault n fault (Wrong status index) =
 abbrev pub unless : Bool → ErrorStatus → Option ErrorStatus
 unless passes status = if passes then None else Some status
 
+-- where a column and the numbers behind it stand, by the number of the row whose index these can be
+abbrev pub place_in : ℕ → Option ℕ → Place
+place_in column (Some row) = Cell column row
+place_in column None = Column column
+
 -- where a name stands, by what is left of it behind the entry
-abbrev pub place_behind : Option (List ℕ) → Place
-place_behind None = Outside
-place_behind (Some []) = Entry
-place_behind (Some (column ∷ [])) = Column column
-place_behind (Some (column ∷ row ∷ [])) = Cell column row
-place_behind (Some (column ∷ row ∷ next ∷ more)) = Column column
+abbrev pub place_behind : ControlTable → Option (List ℕ) → Place
+place_behind table None = Outside
+place_behind table (Some []) = Entry
+place_behind table (Some (column ∷ index)) = place_in column (table.indexing.number_of index)
 
 -- where a name stands under the entry of a table
-abbrev pub place_of : List ℕ → List ℕ → Place
-place_of entry numbers = place_behind (behind entry numbers)
+abbrev pub place_of : ControlTable → List ℕ → Place
+place_of table numbers = place_behind table (behind table.entry numbers)
 
 -- The first pass: each binding alone.
 
@@ -89,9 +92,9 @@ value_fault (Some any_name) (name numbers) = None
 value_fault (Some data_source) (name numbers) = unless (is_source (name numbers)) WrongValue
 value_fault (Some kind) value = Some WrongType
 
--- whether a number can be the index of a row
-abbrev pub is_row_number : ℕ → Bool
-is_row_number row = nat_le 1 row && nat_le row 65535
+-- whether a row can have a number
+abbrev pub is_row_number : ControlTable → ℕ → Bool
+is_row_number table row = table.indexing.is_row row
 
 -- what is wrong with a value alone, by where its name stands: nothing outside the table
 abbrev pub alone_fault : ControlTable → Place → Val → Option ErrorStatus
@@ -99,12 +102,12 @@ alone_fault table Outside value = None
 alone_fault table Entry value = Some NotWritable
 alone_fault table (Column column) value = option_or (value_fault (writable_kind table column) value) (Some NoCreation)
 alone_fault table (Cell column row) value =
-    option_or (value_fault (writable_kind table column) value) (unless (is_row_number row) NoCreation)
+    option_or (value_fault (writable_kind table column) value) (unless (is_row_number table row) NoCreation)
 
 -- what is wrong with the binding at a place alone
 abbrev pub first_pass : ControlTable → Bindings → ℕ → Option ErrorStatus
 first_pass table bindings place =
-    alone_fault table (place_of table.entry (name_at bindings place)) (value_at bindings place)
+    alone_fault table (place_of table (name_at bindings place)) (value_at bindings place)
 
 -- The second pass: the bindings of each row together, by what the rows are before the Set.
 
@@ -197,7 +200,7 @@ count_below test (suc n) = (if test n then 1 else 0) + count_below test n
 
 -- whether the rows before a Set and those that it makes are more together than the table has at most
 abbrev pub is_crowded : ControlTable → Beginning → Bindings → Bool
-is_crowded table before bindings = nat_lt table.most (count_below (λ row. is_held_or_made table before bindings (row ∷ [])) 65536)
+is_crowded table before bindings = nat_lt table.most (count_below (λ row. is_held_or_made table before bindings (row_index table row)) (2 ^ 32))
 
 -- whether an earlier binding names the variable that the one at a place names
 abbrev pub is_again : Bindings → ℕ → Bool
@@ -206,14 +209,14 @@ is_again bindings place = list_any (λ earlier. bytes_eq earlier.name (name_at b
 -- what is wrong with the binding at a place together with the others of its row, by where its name stands
 abbrev pub together_fault : ControlTable → Beginning → Bindings → ℕ → Place → Option ErrorStatus
 together_fault table before bindings place (Cell column row) =
-    row_fault table (row ∷ []) (before.state (row ∷ [])) (set_ask table bindings (row ∷ [])) (is_ready_with table before bindings (row ∷ []))
+    row_fault table (row_index table row) (before.state (row_index table row)) (set_ask table bindings (row_index table row)) (is_ready_with table before bindings (row_index table row))
     (is_crowded table before bindings) (is_again bindings place) column
 together_fault table before bindings place elsewhere = None
 
 -- what is wrong with the binding at a place together with the others of its row
 abbrev pub second_pass : ControlTable → Beginning → Bindings → ℕ → Option ErrorStatus
 second_pass table before bindings place =
-    together_fault table before bindings place (place_of table.entry (name_at bindings place))
+    together_fault table before bindings place (place_of table (name_at bindings place))
 
 -- the rows after a journal, as a Set finds them
 abbrev pub rows_after : ControlTable → Beginning → Journal → Beginning

@@ -1,6 +1,6 @@
 -- When there may be no memory for a Set, on a control table whose rows take storage while they are valid.
-use Rattle.std.specs.Prelude.{◌≡◌, ℕ, ◌+◌, ◌<◌, List, [], ◌∷◌, length, Bool, false, ◌&&◌, not, nat_eq, IsTrue}
-use Rattle.rm_model.specs.ControlTable.{ControlTable}
+use Rattle.std.specs.Prelude.{◌≡◌, ℕ, ◌+◌, ◌<◌, ◌^◌, List, [], ◌∷◌, length, Bool, false, ◌&&◌, not, nat_eq, IsTrue}
+use Rattle.rm_model.specs.ControlTable.{ControlTable, row_index}
 use Rattle.rm_model.specs.ControlRows.{Beginning, set_ask, next_state, is_valid}
 use Rattle.rm_model.specs.Judgement.{Bindings, name_at, place_of, count_below}
 use Rattle.rm_model.specs.declared.row.State.{State}
@@ -17,20 +17,20 @@ makes_valid table before bindings index =
     is_valid (state_after table before bindings index) && not (is_valid (before.state index))
 
 -- how many rows are valid before a Set, and after it
-abbrev pub count_valid : Beginning → ℕ
-count_valid before = count_below (λ row. is_valid (before.state (row ∷ []))) 65536
+abbrev pub count_valid : ControlTable → Beginning → ℕ
+count_valid table before = count_below (λ row. is_valid (before.state (row_index table row))) (2 ^ 32)
 
 abbrev pub count_valid_after : ControlTable → Beginning → Bindings → ℕ
-count_valid_after table before bindings = count_below (λ row. is_valid (state_after table before bindings (row ∷ []))) 65536
+count_valid_after table before bindings = count_below (λ row. is_valid (state_after table before bindings (row_index table row))) (2 ^ 32)
 
 -- whether the status of a row that a Set makes valid stands at a place
 abbrev pub activates_at : ControlTable → Beginning → Bindings → Place → Bool
-activates_at table before bindings (Cell column row) = nat_eq column table.status && makes_valid table before bindings (row ∷ [])
+activates_at table before bindings (Cell column row) = nat_eq column table.status && makes_valid table before bindings (row_index table row)
 activates_at table before bindings elsewhere = false
 
 -- whether the binding at a place, from 0, is of the status of a row that the Set makes valid
 abbrev pub activates : ControlTable → Beginning → Bindings → ℕ → Bool
-activates table before bindings place = activates_at table before bindings (place_of table.entry (name_at bindings place))
+activates table before bindings place = activates_at table before bindings (place_of table (name_at bindings place))
 
 -- A Set reserves storage for the row that the binding with that number, from 1, makes valid. The storage of one row of the
 -- table is there from the beginning, so that a Set after which one row alone is valid reserves nothing.

@@ -47,7 +47,7 @@ pub trait InnerCells<'a>: InnerRows {
     ghost rising: { IsTrue (are_rising columns) };
 
     /// The name of a cell has a spelling.
-    ghost named: { IsTrue (can_name entry) };
+    ghost named: { IsTrue (can_name 1 entry) };
 
     /// It isn't too long.
     ghost fits: { length entry + 2 + Self.InnerRows.longest ≤ 128 };

@@ -1,8 +1,9 @@
 -- The parts that are begun of valid rows, one by one.
-use Rattle.std.proofs.Common.{◌≡◌, ℕ, ◌<◌, ◌≤◌, ◌⊎◌, inl, inr, List, length, Bool, true, false, cond, Option, Some, None, refl, sym, ap, subst, ◌∙◌, nat_eq, nat_lt, arith}
+use Rattle.std.proofs.Common.{◌^◌, ◌≡◌, ℕ, ◌<◌, ◌≤◌, ◌⊎◌, inl, inr, List, length, Bool, true, false, cond, Option, Some, None, refl, sym, ap, subst, ◌∙◌, nat_eq, nat_lt, arith}
 use Rattle.std.specs.Prelude.{is_some}
 use Rattle.std.proofs.lemmas.Bool.Decides.{nat_tests}
 use Rattle.rm_model.specs.ControlRows.{is_valid}
+use Rattle.rm_model.specs.ControlTable.{ControlTable}
 use Rattle.rm_status.specs.declared.row.Row.{Row}
 use Rattle.rm_status.specs.Rows.{AllThere, state_seen}
 use Rattle.rm_pool.specs.declared.slot.Slot.{Slot}
@@ -10,7 +11,7 @@ use Rattle.rm_pool.specs.Slots.{part_in, has_part}
 use Rattle.rm_pool.specs.Pools.{valid_in, IsThere, IsOfValid}
 use Rattle.rm_pool.specs.Follow.{AreBegun}
 use Rattle.rm_pool.proofs.Spares.{eq_is}
-use Rattle.rm_pool.proofs.Controls.{valid_below, no_row_0}
+use Rattle.rm_status.proofs.RowFacts.{valid_fits, no_row_0}
 
 both : (b : Bool) → b ≡ true → b ≡ false → ⊥
 both b e f = cc
@@ -92,7 +93,7 @@ module _ {P : Type 0} (valid : ℕ → Bool) (begun : ℕ → P → Type 0) (bef
     }
 
   -- no valid row is above
-  pub all_begun : (now : List (Slot P)) (last : ℕ) → AreBegun valid begun before now last → last ≤ 65535 → ((row : ℕ) → last < row → valid row ≡ false) → AreBegun valid begun before now 65535
+  pub all_begun : (now : List (Slot P)) (last : ℕ) → AreBegun valid begun before now last → last ≤ 2 ^ 32 → ((row : ℕ) → last < row → valid row ≡ false) → AreBegun valid begun before now (2 ^ 32)
   all_begun now last is within none = record {
     size = is.size;
     stays = is.stays;
@@ -105,7 +106,7 @@ module _ {P : Type 0} (valid : ℕ → Bool) (begun : ℕ → P → Type 0) (bef
   }
 
 -- What the parts of valid rows are once those of other rows are spare, and each valid row that had none has one that has begun.
-module _ {P C : Type 0} (rows : List (Row C)) (there : AllThere rows) (begun : ℕ → P → Type 0) (before freed new : List (Slot P))
+module _ {P C : Type 0} (t : ControlTable) (rows : List (Row C)) (there : AllThere t rows) (begun : ℕ → P → Type 0) (before freed new : List (Slot P))
     (in_freed : (row : ℕ) → part_in freed row ≡ cond (valid_in rows row) (part_in before row) None) where
   -- no row that isn't valid has a part once these are spare
   pub freed_valid : (row : ℕ) → has_part freed row ≡ true → valid_in rows row ≡ true
@@ -115,15 +116,15 @@ module _ {P C : Type 0} (rows : List (Row C)) (there : AllThere rows) (begun : �
       by_valid true e = refl
       by_valid false e = absurd (cc)
 
-  module _ (is : AreBegun (valid_in rows) begun freed new 65535) where
+  module _ (is : AreBegun (valid_in rows) begun freed new (2 ^ 32)) where
     freed_is : (row : ℕ) → valid_in rows row ≡ true → part_in freed row ≡ part_in before row
     freed_is row right = in_freed row ∙ ap (λ t. cond t (part_in before row) None) right
 
     pub follow_stays : (row : ℕ) → valid_in rows row ≡ true → has_part before row ≡ true → part_in new row ≡ part_in before row
     follow_stays row right has = is.stays row (ap is_some (freed_is row right) ∙ has) ∙ freed_is row right
 
-    fits : (row : ℕ) → valid_in rows row ≡ true → row ≤ 65535
-    fits row right = let lt = valid_below rows row there right in omega (arith, lt)
+    fits : (row : ℕ) → valid_in rows row ≡ true → row ≤ 2 ^ 32
+    fits row right = let lt = (valid_fits t rows row there right).1 in omega (arith, lt)
 
     pub follow_begun : (row : ℕ) → valid_in rows row ≡ true → part_in before row ≡ None → IsThere (begun row) (part_in new row)
     follow_begun row right none = is.begins row (fits row right) right (freed_is row right ∙ none)
@@ -145,5 +146,5 @@ module _ {P C : Type 0} (rows : List (Row C)) (there : AllThere rows) (begun : �
         has right None e = some (part_in new row) (is.begins row (fits row right) right e)
         has right (Some part) e = ap is_some (is.stays row (ap is_some e) ∙ e)
 
-pub not_first : {C : Type 0} (rows : List (Row C)) → AllThere rows → valid_in rows 0 ≡ false
-not_first rows there = ap (λ o. is_valid (state_seen o)) (no_row_0 rows there)
+pub not_first : {C : Type 0} (t : ControlTable) (rows : List (Row C)) → AllThere t rows → valid_in rows 0 ≡ false
+not_first t rows there = ap (λ o. is_valid (state_seen o)) (no_row_0 t rows there)

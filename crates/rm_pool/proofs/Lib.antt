@@ -1,6 +1,5 @@
 pub mod Lent
 pub mod Spares
-pub mod Controls
 pub mod Follows
 pub mod Each
 pub mod Least

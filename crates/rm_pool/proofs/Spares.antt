@@ -1,5 +1,5 @@
 -- Spare parts, and how many there are.
-use Rattle.std.proofs.Common.{◌≡◌, ℕ, zero, suc, ◌+◌, ◌<◌, ◌≤◌, List, [], ◌∷◌, ◌++◌, length, map, Bool, true, false, cond, not, ◌||◌, Option, Some, None, refl, sym, ◌∙◌, ap, subst, find, nat_eq, get_or, slice_set, arith}
+use Rattle.std.proofs.Common.{◌^◌, ◌≡◌, ℕ, zero, suc, ◌+◌, ◌<◌, ◌≤◌, List, [], ◌∷◌, ◌++◌, length, map, Bool, true, false, cond, not, ◌||◌, Option, Some, None, refl, sym, ◌∙◌, ap, subst, find, nat_eq, get_or, slice_set, arith}
 use Rattle.std.specs.Prelude.{is_some, is_none, remove}
 use Rattle.std.specs.List.{position, position_or_len}
 use Rattle.std.specs.Option.{option_map_or, option_and_then}
@@ -48,7 +48,7 @@ left valid holder = option_and_then (λ row. cond (valid row) (Some row) None) h
 module _ {P : Type 0} where
   -- the parts of the same rows
   pub same_in_use : (pool new : List (Slot P)) → ((row : ℕ) → part_in new row ≡ part_in pool row) → in_use new ≡ in_use pool
-  same_in_use pool new same = ap (λ p. count_below p 65536) (λ d row. is_some (same row d))
+  same_in_use pool new same = ap (λ p. count_below p (2 ^ 32)) (λ d row. is_some (same row d))
 
   pub apart_still : (slots others : List (Slot P)) → ((row : ℕ) → has_part others row ≡ has_part slots row) → (holder : Option ℕ) → IsApart slots holder → IsApart others holder
   apart_still slots others same None h = tt
@@ -113,7 +113,7 @@ module _ {P : Type 0} where
   spares (slot ∷ slots) = cond (is_spare slot) 1 0 + spares slots
 
   counted : (slots : List (Slot P)) → AreApart slots → length slots ≡ in_use slots + spares slots
-  counted [] h = let none = count_none (λ row. false) 65536 (λ row _. refl) in omega (arith, none)
+  counted [] h = let none = count_none (λ row. false) (2 ^ 32) (λ row _. refl) in omega (arith, none)
   counted (slot ∷ slots) h = by_holder (counted slots h.1) slot.row h.0
     where
       or_row : (t : Bool) (o : Option (Slot P)) → is_some (part_seen (cond t (Some slot) o)) ≡ (t || is_some (part_seen o))
@@ -121,12 +121,12 @@ module _ {P : Type 0} where
       or_row false o = refl
 
       by_holder : length slots ≡ in_use slots + spares slots → (holder : Option ℕ) → IsApart slots holder
-          → length (slot ∷ slots) ≡ count_below (λ row. is_some (part_seen (cond (option_map_or (λ n. nat_eq n row) holder false) (Some slot) (find (is_of row) slots)))) 65536 + (cond (is_none holder) 1 0 + spares slots)
+          → length (slot ∷ slots) ≡ count_below (λ row. is_some (part_seen (cond (option_map_or (λ n. nat_eq n row) holder false) (Some slot) (find (is_of row) slots)))) (2 ^ 32) + (cond (is_none holder) 1 0 + spares slots)
       by_holder more None k = omega (arith, more)
       by_holder more (Some held) k =
-          let split : count_below (λ row. is_some (part_seen (cond (nat_eq held row) (Some slot) (find (is_of row) slots)))) 65536 ≡ count_below (λ row. nat_eq held row || has_part slots row) 65536 = ap (λ p. count_below p 65536) (λ d row. (or_row (nat_eq held row) (find (is_of row) slots)) d) in
-          let apart = count_or (nat_eq held) (has_part slots) 65536 (λ row e. subst (λ n. has_part slots n ≡ false) (eq_is held row e) k.1) in
-          let one = count_one held 65536 k.0 in
+          let split : count_below (λ row. is_some (part_seen (cond (nat_eq held row) (Some slot) (find (is_of row) slots)))) (2 ^ 32) ≡ count_below (λ row. nat_eq held row || has_part slots row) (2 ^ 32) = ap (λ p. count_below p (2 ^ 32)) (λ d row. (or_row (nat_eq held row) (find (is_of row) slots)) d) in
+          let apart = count_or (nat_eq held) (has_part slots) (2 ^ 32) (λ row e. subst (λ n. has_part slots n ≡ false) (eq_is held row e) k.1) in
+          let one = count_one held (2 ^ 32) k.0 in
           omega (arith, split, apart, one, more)
 
   -- no more rows have a part than there are parts
@@ -149,11 +149,11 @@ module _ {P : Type 0} where
   spare_at slots k d e = let at = position-Some is_spare slots k d e in (at.0, is_nothing (get_or slots k d).row at.1)
 
   -- A valid row that has no part finds a spare one, where there is storage for all valid rows, and only these have parts.
-  pub spare_left : (valid : ℕ → Bool) (slots : List (Slot P)) (row : ℕ) → ((other : ℕ) → has_part slots other ≡ true → valid other ≡ true) → row < 65536 → valid row ≡ true → part_in slots row ≡ None → count_below valid 65536 ≤ length slots → in_use slots < length slots
+  pub spare_left : (valid : ℕ → Bool) (slots : List (Slot P)) (row : ℕ) → ((other : ℕ) → has_part slots other ≡ true → valid other ≡ true) → row < 2 ^ 32 → valid row ≡ true → part_in slots row ≡ None → count_below valid (2 ^ 32) ≤ length slots → in_use slots < length slots
   spare_left valid slots row used fits is none enough =
-      let one = count_one row 65536 fits in
-      let both = count_or (nat_eq row) (has_part slots) 65536 (λ other k. subst (λ n. has_part slots n ≡ false) (eq_is row other k) (ap is_some none)) in
-      let fewer : count_below (λ other. nat_eq row other || has_part slots other) 65536 ≤ count_below valid 65536 = count_less (λ other. nat_eq row other || has_part slots other) valid 65536 either in
+      let one = count_one row (2 ^ 32) fits in
+      let both = count_or (nat_eq row) (has_part slots) (2 ^ 32) (λ other k. subst (λ n. has_part slots n ≡ false) (eq_is row other k) (ap is_some none)) in
+      let fewer : count_below (λ other. nat_eq row other || has_part slots other) (2 ^ 32) ≤ count_below valid (2 ^ 32) = count_less (λ other. nat_eq row other || has_part slots other) valid (2 ^ 32) either in
       omega (arith, one, both, fewer, enough)
     where
       either : (other : ℕ) → (nat_eq row other || has_part slots other) ≡ true → valid other ≡ true
@@ -186,7 +186,7 @@ module _ {P : Type 0} where
           | false ↦ λ _. set_in slots k d (omega (arith, lt)) none rest.1 other
         ] refl
 
-    pub apart_set : row < 65536 → (slots : List (Slot P)) (k : ℕ) (d : Slot P) → k < length slots → (get_or slots k d).row ≡ None → part_in slots row ≡ None → AreApart slots → AreApart (slice_set slots k y)
+    pub apart_set : row < 2 ^ 32 → (slots : List (Slot P)) (k : ℕ) (d : Slot P) → k < length slots → (get_or slots k d).row ≡ None → part_in slots row ≡ None → AreApart slots → AreApart (slice_set slots k y)
     apart_set fits [] k d lt none gone h = absurd (omega (arith, lt))
     apart_set fits (slot ∷ slots) zero d lt none gone h =
         (subst (IsApart slots) (sym is) (fits, ap is_some (seen_none (is_of row slot) slot (find (is_of row) slots) gone).1), h.1)

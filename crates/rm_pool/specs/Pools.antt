@@ -1,5 +1,5 @@
 -- The parts of a pool, as callers see them.
-use Rattle.std.specs.Prelude.{◌≡◌, ℕ, ◌≤◌, List, Option, Some, None, Bool, true}
+use Rattle.std.specs.Prelude.{◌^◌, ◌≡◌, ℕ, ◌≤◌, List, Option, Some, None, Bool, true}
 use Rattle.rm_model.specs.ControlRows.{is_valid}
 use Rattle.rm_model.specs.Judgement.{count_below}
 use Rattle.rm_status.specs.declared.row.Row.{Row}
@@ -14,7 +14,7 @@ valid_in rows row = is_valid (state_in rows row)
 module _ {P : Type 0} where
   -- how many rows have a part
   abbrev pub in_use : List (Slot P) → ℕ
-  in_use pool = count_below (has_part pool) 65536
+  in_use pool = count_below (has_part pool) (2 ^ 32)
 
   -- exactly the valid rows of a control table have a part
   abbrev pub IsOfValid : {C : Type 0} → List (Slot P) → List (Row C) → Type 0

@@ -1,5 +1,5 @@
 -- The parts of a pool, and the rows that they are of.
-use Rattle.std.specs.Prelude.{◌≡◌, ℕ, ◌<◌, List, [], ◌∷◌, Bool, false, find, is_some, is_none, nat_eq, if◌then◌else◌, Option, Some, None}
+use Rattle.std.specs.Prelude.{◌^◌, ◌≡◌, ℕ, ◌<◌, List, [], ◌∷◌, Bool, false, find, is_some, is_none, nat_eq, if◌then◌else◌, Option, Some, None}
 use Rattle.std.specs.Option.{option_map_or, option_and_then}
 use Rattle.std.specs.Prelude.{Vec, slice_get}
 use Rattle.std.specs.Vec.{with_item}
@@ -41,7 +41,7 @@ module _ {P : Type 0} where
   -- a part is spare, or that of a row that has no other one, and that has an index that a row can have
   abbrev pub IsApart : List (Slot P) → Option ℕ → Type 0
   IsApart others None = Unit {0}
-  IsApart others (Some row) = (row < 65536) × (has_part others row ≡ false)
+  IsApart others (Some row) = (row < 2 ^ 32) × (has_part others row ≡ false)
 
   -- no row has two parts
   abbrev pub AreApart : List (Slot P) → Type 0

@@ -1,5 +1,5 @@
 // The parts of rows that begin.
-ghost use Rattle.std.specs.Prelude.{◌≡◌, ℕ, ◌<◌, length, Some, None, false, nat_eq};
+ghost use Rattle.std.specs.Prelude.{◌^◌, ◌≡◌, ℕ, ◌<◌, length, Some, None, false, nat_eq};
 ghost use Rattle.rm_pool.specs.Pools.{in_use, IsThere};
 ghost use Rattle.rm_pool.specs.Slots.{AreApart, part_in};
 
@@ -21,7 +21,7 @@ pub trait Begin<P> {
 impl<P: Part> Pool<P> {
     /// Gives a row that has none a part that is spare, and begins it.
     pub fn begin<B: Begin<P>>(&mut self, row: u32, how: &B)
-        requires fits { row < 65536 }
+        requires fits { row < 2 ^ 32 }
         requires none { part_in self.old row ≡ None }
         requires spare { in_use self.old < length self.old }
         ensures begun { IsThere (B.begun how.now row) (part_in self.new row) }
@@ -37,7 +37,7 @@ impl<P: Part> Pool<P> {
 // Begins the part of a row in the first spare one.
 fn begin_in<P: Part, B: Begin<P>>(slots: &mut Vec<Slot<P>>, row: u32, how: &B)
     requires apart { AreApart slots.old.items }
-    requires fits { row < 65536 }
+    requires fits { row < 2 ^ 32 }
     requires none { part_in slots.old.items row ≡ None }
     requires spare { in_use slots.old.items < length slots.old.items }
     ensures begun { IsThere (B.begun how.now row) (part_in slots.new.items row) }

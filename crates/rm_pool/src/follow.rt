@@ -1,5 +1,5 @@
 // The parts of a pool after a Set.
-ghost use Rattle.std.specs.Prelude.{◌≡◌, ℕ, ◌<◌, ◌≤◌, length, map, None, true, false, nat_eq, if◌then◌else◌};
+ghost use Rattle.std.specs.Prelude.{◌^◌, ◌≡◌, ℕ, ◌<◌, ◌≤◌, length, map, None, true, false, nat_eq, if◌then◌else◌};
 ghost use Rattle.rm_model.specs.Reserves.{count_valid};
 ghost use Rattle.rm_model.specs.Judgement.{count_below};
 ghost use Rattle.rm_status.specs.Rows.{rows_before};
@@ -18,7 +18,7 @@ impl<P: Part> Pool<P> {
     /// Makes the parts spare whose rows aren't valid, and begins one for each valid row that has none. There is storage for all
     /// valid rows.
     pub fn follow<C: Columns, B: Begin<P>>(&mut self, rows: &Controls<C>, how: &B)
-        requires { count_valid (rows_before C.set_to rows.now) ≤ length self.old }
+        requires { count_valid C.table (rows_before C.table C.set_to rows.now) ≤ length self.old }
         ensures of_valid { IsOfValid self.new rows.now }
         ensures stays { (row : ℕ) → valid_in rows.now row ≡ true → has_part self.old row ≡ true → part_in self.new row ≡ part_in self.old row }
         ensures begun { (row : ℕ) → valid_in rows.now row ≡ true → part_in self.old row ≡ None → IsThere (B.begun how.now row) (part_in self.new row) }
@@ -40,8 +40,8 @@ impl<P: Part> Pool<P> {
     // Begins a part for each valid row that has none.
     fn begin_each<C: Columns, B: Begin<P>>(&mut self, rows: &Controls<C>, how: &B)
         requires used { (row : ℕ) → has_part self.old row ≡ true → valid_in rows.now row ≡ true }
-        requires enough { count_below (valid_in rows.now) 65536 ≤ length self.old }
-        ensures { AreBegun (valid_in rows.now) (B.begun how.now) self.old self.new 65535 }
+        requires enough { count_below (valid_in rows.now) (2 ^ 32) ≤ length self.old }
+        ensures { AreBegun (valid_in rows.now) (B.begun how.now) self.old self.new (2 ^ 32) }
     {
         prove!(rows.len() <= 32);
         let mut last = 0;
@@ -54,7 +54,7 @@ impl<P: Part> Pool<P> {
     // Begins the part of a row, where the row is valid and has none.
     fn begin_of<C: Columns, B: Begin<P>>(&mut self, rows: &Controls<C>, row: u32, how: &B)
         requires used { (other : ℕ) → has_part self.old other ≡ true → valid_in rows.now other ≡ true }
-        requires enough { count_below (valid_in rows.now) 65536 ≤ length self.old }
+        requires enough { count_below (valid_in rows.now) (2 ^ 32) ≤ length self.old }
         ensures begun { valid_in rows.now row ≡ true → part_in self.old row ≡ None → IsThere (B.begun how.now row) (part_in self.new row) }
         ensures stays { has_part self.old row ≡ true → part_in self.new row ≡ part_in self.old row }
         ensures idle { valid_in rows.now row ≡ false → part_in self.new row ≡ part_in self.old row }

@@ -6,12 +6,12 @@ use Rattle.rm_val.specs.Val.{Val}
 use Rattle.std.specs.Prelude.{unwrap_or}
 use Rattle.rm_model.specs.declared.row.State.{State}
 use Rattle.rm_model.specs.declared.row.State.TheVariants.{Absent, UnderCreation, Valid}
-use Rattle.rm_model.specs.ControlTable.{ControlTable}
+use Rattle.rm_model.specs.ControlTable.{row_index, ControlTable}
 use Rattle.rm_model.specs.ControlRows.{set_ask, next_state}
 use Rattle.rm_model.specs.Judgement.{Bindings}
 use Rattle.rm_status.specs.Commit.{put_all, if_there, row_after}
 use Rattle.rm_status.specs.declared.row.Row.{Row}
-use Rattle.rm_status.specs.Rows.{row_number, row_in, state_seen, columns_seen, rows_before, AllAbove, Rising, AllThere, AreControlRows}
+use Rattle.rm_status.specs.Rows.{number_in, row_in, state_seen, columns_seen, rows_before, AllAbove, Rising, AllThere, AreControlRows}
 use Rattle.rm_status.specs.Bare.{bare_row, bare_rows}
 
 module _ {C : Type 0} (set_to : C → ℕ → Option Val) where
@@ -38,15 +38,15 @@ module _ {C : Type 0} (set_to : C → ℕ → Option Val) where
   set_of_bare None n = refl
   set_of_bare (Some r) n = refl
 
-  before_bare : (rows : List (Row C)) → rows_before (λ c. c) (bare_rows set_to rows) ≡ rows_before set_to rows
-  before_bare rows = λ d. record {
-    state = λ index. (ap state_seen (row_in-bare rows (row_number index)) ∙ state_of_bare (row_in rows (row_number index))) d;
-    set = λ index n. (ap (λ o. option_and_then (λ c. c n) (columns_seen o)) (row_in-bare rows (row_number index)) ∙ set_of_bare (row_in rows (row_number index)) n) d;
+  before_bare : (table : ControlTable) (rows : List (Row C)) → rows_before table (λ c. c) (bare_rows set_to rows) ≡ rows_before table set_to rows
+  before_bare table rows = λ d. record {
+    state = λ index. (ap state_seen (row_in-bare rows (number_in table index)) ∙ state_of_bare (row_in rows (number_in table index))) d;
+    set = λ index n. (ap (λ o. option_and_then (λ c. c n) (columns_seen o)) (row_in-bare rows (number_in table index)) ∙ set_of_bare (row_in rows (number_in table index)) n) d;
   }
 
   -- a Set finds the same rows
-  pub same_before : (rows bare : List (Row C)) → bare_rows set_to bare ≡ bare_rows set_to rows → rows_before set_to bare ≡ rows_before set_to rows
-  same_before rows bare same = sym (before_bare bare) ∙ ap (rows_before (λ c. c)) same ∙ before_bare rows
+  pub same_before : (table : ControlTable) (rows bare : List (Row C)) → bare_rows set_to bare ≡ bare_rows set_to rows → rows_before table set_to bare ≡ rows_before table set_to rows
+  same_before table rows bare same = sym (before_bare table bare) ∙ ap (rows_before table (λ c. c)) same ∙ before_bare table rows
 
   above-bare : (i : ℕ) (rows : List (Row C)) → AllAbove i rows → AllAbove i (bare_rows set_to rows)
   above-bare i [] h = tt
@@ -64,18 +64,18 @@ module _ {C : Type 0} (set_to : C → ℕ → Option Val) where
   rising-full [] h = tt
   rising-full (r ∷ rows) h = (above-full r.index rows h.0, rising-full rows h.1)
 
-  there-bare : (rows : List (Row C)) → AllThere rows → AllThere (bare_rows set_to rows)
-  there-bare [] h = tt
-  there-bare (r ∷ rows) h = (h.0, there-bare rows h.1)
+  there-bare : (table : ControlTable) (rows : List (Row C)) → AllThere table rows → AllThere table (bare_rows set_to rows)
+  there-bare table [] h = tt
+  there-bare table (r ∷ rows) h = (h.0, there-bare table rows h.1)
 
-  there-full : (rows : List (Row C)) → AllThere (bare_rows set_to rows) → AllThere rows
-  there-full [] h = tt
-  there-full (r ∷ rows) h = (h.0, there-full rows h.1)
+  there-full : (table : ControlTable) (rows : List (Row C)) → AllThere table (bare_rows set_to rows) → AllThere table rows
+  there-full table [] h = tt
+  there-full table (r ∷ rows) h = (h.0, there-full table rows h.1)
 
-  pub are_rows : (rows bare : List (Row C)) → bare_rows set_to bare ≡ bare_rows set_to rows → AreControlRows rows → AreControlRows bare
-  are_rows rows bare same h = (
+  pub are_rows : (table : ControlTable) (rows bare : List (Row C)) → bare_rows set_to bare ≡ bare_rows set_to rows → AreControlRows table rows → AreControlRows table bare
+  are_rows table rows bare same h = (
     rising-full bare (subst Rising (sym same) (rising-bare rows h.0)),
-    there-full bare (subst AllThere (sym same) (there-bare rows h.1)),
+    there-full table bare (subst (AllThere table) (sym same) (there-bare table rows h.1)),
   )
 
 module _ {C : Type 0} (t : ControlTable) (with_column : C → ℕ → Val → C) (blank : ℕ → C) (bs : Bindings) where
@@ -85,5 +85,5 @@ module _ {C : Type 0} (t : ControlTable) (with_column : C → ℕ → Val → C)
   if_there_state i Valid c = refl
 
   -- a row's state after a Set
-  pub state_then : (i : ℕ) (o : Option (Row C)) → state_seen (row_after t with_column blank bs i o) ≡ next_state (set_ask t bs (i ∷ [])) (state_seen o)
-  state_then i o = if_there_state i (next_state (set_ask t bs (i ∷ [])) (state_seen o)) (put_all t with_column blank bs i (unwrap_or (columns_seen o) (blank i)))
+  pub state_then : (i : ℕ) (o : Option (Row C)) → state_seen (row_after t with_column blank bs i o) ≡ next_state (set_ask t bs (row_index t i)) (state_seen o)
+  state_then i o = if_there_state i (next_state (set_ask t bs (row_index t i)) (state_seen o)) (put_all t with_column blank bs i (unwrap_or (columns_seen o) (blank i)))

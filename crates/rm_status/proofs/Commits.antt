@@ -11,7 +11,7 @@ use Rattle.rm_model.specs.declared.row.State.TheVariants.{Absent}
 use Rattle.rm_model.specs.declared.row.Ask.{Ask}
 use Rattle.rm_model.specs.declared.row.Ask.TheVariants.{Nothing, Create, CreateValid}
 use Rattle.rm_model.specs.Journal.{Assignment}
-use Rattle.rm_model.specs.ControlTable.{ControlTable}
+use Rattle.rm_model.specs.ControlTable.{row_index, ControlTable}
 use Rattle.rm_model.specs.ControlRows.{value_ask, set_ask, next_state, is_absent}
 use Rattle.rm_model.specs.Judgement.{Bindings, nothing_bound, name_at, place_of, is_made}
 use Rattle.rm_status.specs.declared.row.Row.{Row}
@@ -58,7 +58,7 @@ asked_of : (kind : StatusKind) (o : Option Assignment) → is_made Absent (value
 asked_of kind (Some a) h = (a, refl)
 asked_of kind None h = absurd (cc)
 
-pub made_is_bound : (t : ControlTable) (bs : Bindings) (i : ℕ) → is_made Absent (set_ask t bs (i ∷ [])) ≡ true → list_any (is_status t i) bs ≡ true
+pub made_is_bound : (t : ControlTable) (bs : Bindings) (i : ℕ) → is_made Absent (set_ask t bs (row_index t i)) ≡ true → list_any (is_status t i) bs ≡ true
 made_is_bound t bs i h = let f = asked_of t.status_kind (find (is_status t i) bs) h in any_of_find (is_status t i) bs f.0 f.1
 
 module _ {C : Type 0} where
@@ -78,26 +78,26 @@ module _ {C : Type 0} (t : ControlTable) (with_column : C → ℕ → Val → C)
   pub made_none : (rows : List (Row C)) (i : ℕ) → row_in rows i ≡ made_first rows 0 i
   made_none rows i = elim (row_in rows i) as (λ o. o ≡ option_or o None) [ None ↦ refl | Some r ↦ refl ]
 
-  pub made_more : (init rows new : List (Row C)) (k : ℕ) → k < length bs → ((i : ℕ) → row_in rows i ≡ made_first init k i) → ((i : ℕ) → row_in new i ≡ option_or (row_in rows i) (cond (is_cell t.status i (place_of t.entry (name_at bs k))) (made_row t with_column blank bs i) None)) → (i : ℕ) → row_in new i ≡ made_first init (k + 1) i
+  pub made_more : (init rows new : List (Row C)) (k : ℕ) → k < length bs → ((i : ℕ) → row_in rows i ≡ made_first init k i) → ((i : ℕ) → row_in new i ≡ option_or (row_in rows i) (cond (is_cell t.status i (place_of t (name_at bs k))) (made_row t with_column blank bs i) None)) → (i : ℕ) → row_in new i ≡ made_first init (k + 1) i
   made_more init rows new k lt before made i =
-      made i ∙ ap (λ b. option_or (row_in rows i) (cond b (made_row t with_column blank bs i) None)) (is_cell_name t.entry (name_at bs k) t.status i)
+      made i ∙ ap (λ b. option_or (row_in rows i) (cond b (made_row t with_column blank bs i) None)) (is_cell_name t t.entry (name_at bs k) t.status i)
       ∙ ap (λ o. option_or o (cond (is_status t i (get_or bs k nothing_bound)) (made_row t with_column blank bs i) None)) (before i)
       ∙ joined (row_in init i) (made_row t with_column blank bs i) (list_any (is_status t i) (take k bs)) (is_status t i (get_or bs k nothing_bound))
       ∙ ap (λ a. option_or (row_in init i) (cond a (made_row t with_column blank bs i) None)) (sym (any_next (is_status t i) nothing_bound bs k lt))
 
   all_made : (i : ℕ) → cond (list_any (is_status t i) bs) (made_row t with_column blank bs i) None ≡ made_row t with_column blank bs i
-  all_made i = elim (is_made Absent (set_ask t bs (i ∷ []))) as (λ m. is_made Absent (set_ask t bs (i ∷ [])) ≡ m → cond (list_any (is_status t i) bs) (cond m (Some made) None) None ≡ cond m (Some made) None) [
+  all_made i = elim (is_made Absent (set_ask t bs (row_index t i))) as (λ m. is_made Absent (set_ask t bs (row_index t i)) ≡ m → cond (list_any (is_status t i) bs) (cond m (Some made) None) None ≡ cond m (Some made) None) [
     | true ↦ λ e. rw (made_is_bound t bs i e) refl
     | false ↦ λ e. elim (list_any (is_status t i) bs) as (λ a. ◌≡◌ {A = Option (Row C)} (cond a None None) None) [ true ↦ refl | false ↦ refl ]
   ] refl
     where
       made : Row C
-      made = record { index = i; state = next_state (set_ask t bs (i ∷ [])) Absent; columns = blank i }
+      made = record { index = i; state = next_state (set_ask t bs (row_index t i)) Absent; columns = blank i }
 
-  pub rows_then : (rows : List (Row C)) → AreControlRows rows → AreControlRows (filter_map (settle_row t with_column blank bs) (map (write_row t with_column blank bs) rows))
+  pub rows_then : (rows : List (Row C)) → AreControlRows t rows → AreControlRows t (filter_map (settle_row t with_column blank bs) (map (write_row t with_column blank bs) rows))
   rows_then rows h = (
     rising-filter (settle_row t with_column blank bs) (settle_index t with_column blank bs) (map (write_row t with_column blank bs) rows) (rising-map (write_row t with_column blank bs) (λ r. refl) rows h.0),
-    there-filter (settle_row t with_column blank bs) (settle_index t with_column blank bs) (settle_there t with_column blank bs) (map (write_row t with_column blank bs) rows) (there-map (write_row t with_column blank bs) (λ r. refl) (λ r. refl) rows h.1),
+    there-filter (settle_row t with_column blank bs) (settle_index t with_column blank bs) t (settle_there t with_column blank bs) (map (write_row t with_column blank bs) rows) (there-map (write_row t with_column blank bs) (λ r. refl) t (λ r. refl) rows h.1),
   )
 
   -- a row with the bindings in it, in its next state
@@ -108,20 +108,20 @@ module _ {C : Type 0} (t : ControlTable) (with_column : C → ℕ → Val → C)
   there i s c = if_there t with_column blank (record { index = i; state = s; columns = c })
 
   after_made : (i : ℕ) → after (made_row t with_column blank bs i) ≡ row_after t with_column blank bs i None
-  after_made i = elim (is_made Absent (set_ask t bs (i ∷ []))) as (λ m. is_made Absent (set_ask t bs (i ∷ [])) ≡ m → after (cond m (Some (record { index = i; state = next_state (set_ask t bs (i ∷ [])) Absent; columns = blank i })) None) ≡ row_after t with_column blank bs i None) [
-    | true ↦ λ _. ap (λ s. there i s (put_all t with_column blank bs i (blank i))) (settles (set_ask t bs (i ∷ [])))
-    | false ↦ λ e. ap (λ b. cond b None (Some (record { index = i; state = next_state (set_ask t bs (i ∷ [])) Absent; columns = put_all t with_column blank bs i (blank i) }))) (sym (stays_absent (set_ask t bs (i ∷ [])) e))
+  after_made i = elim (is_made Absent (set_ask t bs (row_index t i))) as (λ m. is_made Absent (set_ask t bs (row_index t i)) ≡ m → after (cond m (Some (record { index = i; state = next_state (set_ask t bs (row_index t i)) Absent; columns = blank i })) None) ≡ row_after t with_column blank bs i None) [
+    | true ↦ λ _. ap (λ s. there i s (put_all t with_column blank bs i (blank i))) (settles (set_ask t bs (row_index t i)))
+    | false ↦ λ e. ap (λ b. cond b None (Some (record { index = i; state = next_state (set_ask t bs (row_index t i)) Absent; columns = put_all t with_column blank bs i (blank i) }))) (sym (stays_absent (set_ask t bs (row_index t i)) e))
   ] refl
 
   after_held : (i : ℕ) (r : Row C) → r.index ≡ i → after (Some r) ≡ row_after t with_column blank bs i (Some r)
-  after_held i r is = ap (λ n. there n (next_state (set_ask t bs (n ∷ [])) r.state) (put_all t with_column blank bs n r.columns)) is
+  after_held i r is = ap (λ n. there n (next_state (set_ask t bs (row_index t n)) r.state) (put_all t with_column blank bs n r.columns)) is
 
   after_is : (init : List (Row C)) (i : ℕ) (o : Option (Row C)) → row_in init i ≡ o → after (option_or o (made_row t with_column blank bs i)) ≡ row_after t with_column blank bs i o
   after_is init i None h = after_made i
   after_is init i (Some r) h = after_held i r (index_in init i r h)
 
   -- what the whole commit leaves
-  pub committed : (init rows : List (Row C)) → AreControlRows rows → ((i : ℕ) → row_in rows i ≡ made_first init (length bs) i) → (i : ℕ) → row_in (filter_map (settle_row t with_column blank bs) (map (write_row t with_column blank bs) rows)) i ≡ row_after t with_column blank bs i (row_in init i)
+  pub committed : (init rows : List (Row C)) → AreControlRows t rows → ((i : ℕ) → row_in rows i ≡ made_first init (length bs) i) → (i : ℕ) → row_in (filter_map (settle_row t with_column blank bs) (map (write_row t with_column blank bs) rows)) i ≡ row_after t with_column blank bs i (row_in init i)
   committed init rows h made i =
       row_in-filter (settle_row t with_column blank bs) (settle_index t with_column blank bs) (map (write_row t with_column blank bs) rows) i (rising-map (write_row t with_column blank bs) (λ r. refl) rows h.0)
       ∙ ap (then_f (settle_row t with_column blank bs) (settle_index t with_column blank bs)) (row_in-map (write_row t with_column blank bs) (λ r. refl) rows i)

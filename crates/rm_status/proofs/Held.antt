@@ -1,7 +1,8 @@
 -- How many rows there are, counted index by index.
-use Rattle.std.proofs.Common.{◌≡◌, ℕ, ◌<◌, ◌+◌, zero, suc, Bool, true, false, cond, not, ◌||◌, List, [], ◌∷◌, length, Option, Some, refl, sym, ap, arith, nat_eq}
+use Rattle.std.proofs.Common.{◌≡◌, ◌^◌, ℕ, ◌<◌, ◌+◌, zero, suc, Bool, true, false, cond, not, ◌||◌, List, [], ◌∷◌, length, Option, Some, refl, sym, ap, arith, nat_eq}
 use Rattle.std.specs.Prelude.{is_some}
 use borrow.Author.Tests.{eqb-true}
+use Rattle.rm_model.specs.ControlTable.{ControlTable}
 use Rattle.rm_status.specs.declared.row.Row.{Row}
 use Rattle.std.proofs.lemmas.Bool.Decides.{nat_tests}
 use Rattle.rm_model.specs.ControlRows.{is_absent}
@@ -39,8 +40,8 @@ count_or p q zero h = refl
 count_or p q (suc n) h = omega (arith, add_tests (p n) (q n) (h n), count_or p q n h)
 
 -- a number that a row can have
-pub below : (i : ℕ) → is_row_number i ≡ true → i < 65536
-below i h = grind (arith, nat_tests)
+pub below : (table : ControlTable) (i : ℕ) → is_row_number table i ≡ true → i < (2 ^ 32)
+below table i h = (table.indexed.within i h).1
 
 module _ {C : Type 0} where
   abbrev pub AllBelow : ℕ → List (Row C) → Type 0
@@ -58,15 +59,15 @@ module _ {C : Type 0} where
       let apart = count_or (nat_eq r.index) (λ i. is_some (row_in rows i)) n (λ i e. let is = eqb-true r.index i e in ap is_some (above_none r.index i rows rise.0 (omega arith))) in
       omega (arith, split, apart, count_one r.index n low.0, length-count rows n rise.1 low.1)
 
-  pub all_below : (rows : List (Row C)) → AllThere rows → AllBelow 65536 rows
-  all_below [] h = tt
-  all_below (r ∷ rows) h = (below r.index h.0.0, all_below rows h.1)
+  pub all_below : (table : ControlTable) (rows : List (Row C)) → AllThere table rows → AllBelow (2 ^ 32) rows
+  all_below table [] h = tt
+  all_below table (r ∷ rows) h = (below table r.index h.0.0, all_below table rows h.1)
 
   -- how many rows there are
-  pub length-counted : (rows : List (Row C)) → AreControlRows rows → length rows ≡ count_below (λ i. is_some (row_in rows i)) 65536
-  length-counted rows h = length-count rows 65536 h.0 (all_below rows h.1)
+  pub length-counted : (table : ControlTable) (rows : List (Row C)) → AreControlRows table rows → length rows ≡ count_below (λ i. is_some (row_in rows i)) (2 ^ 32)
+  length-counted table rows h = length-count rows (2 ^ 32) h.0 (all_below table rows h.1)
 
   -- a row is held where its state isn't absent
-  pub held_is : (rows : List (Row C)) (i : ℕ) → AllThere rows → not (is_absent (state_in rows i)) ≡ is_some (row_in rows i)
-  held_is [] i h = refl
-  held_is (r ∷ rows) i h = elim (nat_eq r.index i) as (λ t. not (is_absent (state_seen (cond t (Some r) (row_in rows i)))) ≡ is_some (cond t (Some r) (row_in rows i))) [ true ↦ ap not h.0.1 | false ↦ held_is rows i h.1 ]
+  pub held_is : (table : ControlTable) (rows : List (Row C)) (i : ℕ) → AllThere table rows → not (is_absent (state_in rows i)) ≡ is_some (row_in rows i)
+  held_is table [] i h = refl
+  held_is table (r ∷ rows) i h = elim (nat_eq r.index i) as (λ t. not (is_absent (state_seen (cond t (Some r) (row_in rows i)))) ≡ is_some (cond t (Some r) (row_in rows i))) [ true ↦ ap not h.0.1 | false ↦ held_is table rows i h.1 ]

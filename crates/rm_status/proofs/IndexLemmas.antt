@@ -1,90 +1,148 @@
 -- The least index of a row above some numbers.
-use Rattle.std.proofs.Common.{◌≡◌, ℕ, zero, suc, ◌<◌, List, [], ◌∷◌, length, slice_index, true, false, cond, Option, Some, None, refl, ap, subst, nat_eq, nat_lt, arith}
+use Rattle.std.proofs.Common.{◌≡◌, ℕ, ◌<◌, List, [], ◌∷◌, length, ◌≤◌, true, false, Bool, cond, Option, Some, None, find, refl, sym, ap, subst, ◌∙◌, nat_eq, nat_lt, arith}
 use Rattle.std.proofs.lemmas.Bool.Decides.{nat_tests}
+use Rattle.std.proofs.lemmas.Cmp.{nat_list_cmp_total}
+use Rattle.std.proofs.lemmas.Option.{same_Some}
 use Rattle.std.specs.Prelude.{is_some}
 use Rattle.std.specs.Option.{option_map}
-use Rattle.std.specs.Ordering.{nat_cmp, ordering_then}
+use Rattle.std.specs.Ordering.{nat_cmp, is_lt, ordering_reverse}
+use Rattle.std.specs.declared.cmp.Ordering.{Ordering}
 use Rattle.std.specs.declared.cmp.Ordering.TheVariants.{Less, Equal, Greater}
 use Rattle.std.specs.Cmp.Lexicographic.{slice_cmp}
+use borrow.Author.Tests.{eqb-true}
+use Rattle.rm_model.specs.ControlTable.{ControlTable, row_index}
 use Rattle.rm_model.specs.Names.{Below, IsLeastAbove}
 use Rattle.rm_model.specs.Judgement.{is_row_number}
 use Rattle.rm_status.specs.declared.row.Row.{Row}
-use Rattle.rm_status.specs.Rows.{row_in, AllThere, IsIndexAfter}
-use Rattle.rm_status.specs.Indexes.{is_index_in}
+use Rattle.rm_status.specs.Rows.{row_in, Rising, AreControlRows}
+use Rattle.rm_status.specs.Indexes.{has_number, is_index_in}
+use Rattle.rm_status.proofs.RowEdits.{above_none, eq_itself}
+use Rattle.rm_status.proofs.RowFacts.{found_there}
 
-less_yes : (n k : ℕ) → n < k → nat_lt n k ≡ true
-less_yes n k h = grind (arith, nat_tests)
+less_is : (o : Ordering) → is_lt o ≡ true → o ≡ Less
+less_is Less h = refl
+less_is Equal h = cc
+less_is Greater h = cc
 
-less_is : (n k : ℕ) → nat_lt n k ≡ true → n < k
-less_is n k h = grind (arith, nat_tests)
+not_both : (x y : List ℕ) → Below x y → Below y x → ⊥
+not_both x y low high =
+    let turned : slice_cmp nat_cmp y x ≡ Greater = nat_list_cmp_total.antisymm y x ∙ ap ordering_reverse low in
+    cc
 
--- above some numbers is a greater number than the first of them, alone
-above_first : (n : ℕ) (more : List ℕ) (k : ℕ) → n < k → Below (n ∷ more) (k ∷ [])
-above_first n more k h = rw (less_yes n k h) refl
+abbrev behind_of : ControlTable → List ℕ → ℕ → Bool
+behind_of t index n = is_lt (slice_cmp nat_cmp index (row_index t n))
 
-under_first : (n : ℕ) (more : List ℕ) (k : ℕ) → Below (n ∷ more) (k ∷ []) → n < k
-under_first n more k h =
-    elim (nat_lt n k) as (λ t. nat_lt n k ≡ t → ordering_then (cond t Less (cond (nat_eq n k) Equal Greater)) (slice_cmp nat_cmp more []) ≡ Less → n < k) [
-      | true ↦ λ e _. less_is n k e
-      | false ↦ λ e is. absurd (elim (nat_eq n k) as (λ s. ordering_then (cond s Equal Greater) (slice_cmp nat_cmp more []) ≡ Less → ⊥) [ true ↦ none_below more | false ↦ λ other. cc ] is)
-    ] refl h
-  where
-    none_below : (more : List ℕ) → slice_cmp nat_cmp more [] ≡ Less → ⊥
-    none_below [] h = cc
-    none_below (x ∷ xs) h = cc
+module _ {C : Type 0} (t : ControlTable) (index : List ℕ) where
+  abbrev first : List (Row C) → Option (Row C)
+  first rows = find (λ r. behind_of t index r.index) rows
 
-is_found : {A : Type 0} (o : Option A) (x : A) → o ≡ Some x → is_some o ≡ true
-is_found o x e = ap is_some e
+  -- the first row behind the numbers is one of the rows
+  held : (rows : List (Row C)) (x : Row C) → Rising rows → first rows ≡ Some x → row_in rows x.index ≡ Some x
+  held [] x rise e = absurd (cc)
+  held (r ∷ rows) x rise e =
+      elim (behind_of t index r.index) as (λ b. cond b (Some r) (first rows) ≡ Some x → row_in (r ∷ rows) x.index ≡ Some x) [
+        | true ↦ λ here. subst (λ (y : Row C). row_in (r ∷ rows) y.index ≡ Some y) (same_Some r x here) (ap (λ b. cond b (Some r) (row_in rows r.index)) (eq_itself r.index))
+        | false ↦ λ later. elim (nat_eq r.index x.index) as (λ b. nat_eq r.index x.index ≡ b → cond b (Some r) (row_in rows x.index) ≡ Some x) [
+          | true ↦ λ same.
+              let none : row_in rows x.index ≡ None = above_none r.index x.index rows rise.0 (let is = eqb-true r.index x.index same in omega (arith, is)) in
+              let some = held rows x rise.1 later in
+              absurd (cc)
+          | false ↦ λ _. held rows x rise.1 later
+        ] refl
+      ] e
 
-module _ {C : Type 0} (rows : List (Row C)) where
-  -- above a number that is followed by others, or by none
-  pub above_number : (n : ℕ) (more : List ℕ) (found : Option ℕ) → IsIndexAfter rows n found → IsLeastAbove (is_index_in rows) (n ∷ more) (option_map (λ row. row ∷ []) found)
-  above_number n more None least = none
-    where
-      none : (name : List ℕ) → Below (n ∷ more) name → is_index_in rows name ≡ false
-      none [] above = refl
-      none (k ∷ []) above = ap is_some (least k (under_first n more k above))
-      none (k ∷ l ∷ rest) above = refl
-  above_number n more (Some k) least = (above_first n more k least.0, is_found (row_in rows k) least.1.0 least.1.1, none)
-    where
-      none : (name : List ℕ) → Below (n ∷ more) name → Below name (k ∷ []) → is_index_in rows name ≡ false
-      none [] above under = refl
-      none (j ∷ []) above under = ap is_some (least.2 j (under_first n more j above) (under_first j [] k under))
-      none (j ∷ l ∷ rest) above under = refl
+  behind : (rows : List (Row C)) (x : Row C) → first rows ≡ Some x → behind_of t index x.index ≡ true
+  behind [] x e = absurd (cc)
+  behind (r ∷ rows) x e =
+      elim (behind_of t index r.index) as (λ b. behind_of t index r.index ≡ b → cond b (Some r) (first rows) ≡ Some x → behind_of t index x.index ≡ true) [
+        | true ↦ λ is here. subst (λ (y : Row C). behind_of t index y.index ≡ true) (same_Some r x here) is
+        | false ↦ λ _ later. behind rows x later
+      ] refl e
 
-  pub above_numbers : (index : List ℕ) (n : ℕ) (found : Option ℕ) → (length index ≡ 0 → ⊥) → n ≡ slice_index index 0 → IsIndexAfter rows n found → IsLeastAbove (is_index_in rows) index (option_map (λ row. row ∷ []) found)
-  above_numbers [] n found some first least = absurd (some refl)
-  above_numbers (m ∷ more) n found some first least = above_number m more found (subst (λ k. IsIndexAfter rows k found) first least)
+  -- no row is behind the numbers where none is found
+  none_behind : (rows : List (Row C)) (k : ℕ) (row : Row C) → first rows ≡ None → row_in rows k ≡ Some row → behind_of t index k ≡ false
+  none_behind [] k row e there = absurd (cc)
+  none_behind (r ∷ rows) k row e there =
+      elim (behind_of t index r.index) as (λ b. behind_of t index r.index ≡ b → cond b (Some r) (first rows) ≡ None → behind_of t index k ≡ false) [
+        | true ↦ λ _ no. absurd (cc)
+        | false ↦ λ not none. elim (nat_eq r.index k) as (λ b. nat_eq r.index k ≡ b → cond b (Some r) (row_in rows k) ≡ Some row → behind_of t index k ≡ false) [
+          | true ↦ λ same _. subst (λ n. behind_of t index n ≡ false) (eqb-true r.index k same) not
+          | false ↦ λ _ later. none_behind rows k row none later
+        ] refl there
+      ] refl e
 
-  -- no row has the index 0
-  no_zero : (some : List (Row C)) → AllThere some → row_in some 0 ≡ None
-  no_zero [] there = refl
-  no_zero (row ∷ more) there =
-      elim (nat_eq row.index 0) as (λ t. nat_eq row.index 0 ≡ t → cond t (Some row) (row_in more 0) ≡ None) [
-        | true ↦ λ e. absurd (zero_is row.index e there.0.0)
-        | false ↦ λ _. no_zero more there.1
-      ] refl
-    where
-      zero_is : (n : ℕ) → nat_eq n 0 ≡ true → is_row_number n ≡ true → ⊥
-      zero_is n e h = let same : n ≡ 0 = grind (arith, nat_tests) in let is : is_row_number 0 ≡ true = rw same at h in cc
+  -- nor is one before the first that is found
+  none_before : (rows : List (Row C)) (x : Row C) (k : ℕ) (row : Row C) → Rising rows → first rows ≡ Some x → row_in rows k ≡ Some row → k < x.index → behind_of t index k ≡ false
+  none_before [] x k row rise e there under = absurd (cc)
+  none_before (r ∷ rows) x k row rise e there under =
+      elim (behind_of t index r.index) as (λ b. behind_of t index r.index ≡ b → cond b (Some r) (first rows) ≡ Some x → behind_of t index k ≡ false) [
+        | true ↦ λ _ here.
+            let low : k < r.index = subst (λ (y : Row C). k < y.index) (sym (same_Some r x here)) under in
+            let other : nat_eq r.index k ≡ false = grind (arith, nat_tests) in
+            let none : row_in rows k ≡ None = above_none r.index k rows rise.0 (omega arith) in
+            let gone : row_in (r ∷ rows) k ≡ None = ap (λ b. cond b (Some r) (row_in rows k)) other ∙ none in
+            absurd (cc)
+        | false ↦ λ not later. elim (nat_eq r.index k) as (λ b. nat_eq r.index k ≡ b → cond b (Some r) (row_in rows k) ≡ Some row → behind_of t index k ≡ false) [
+          | true ↦ λ same _. subst (λ n. behind_of t index n ≡ false) (eqb-true r.index k same) not
+          | false ↦ λ _ more. none_before rows x k row rise.1 later more under
+        ] refl there
+      ] refl e
 
-  -- above no numbers
-  pub above_nothing : (found : Option ℕ) → AllThere rows → IsIndexAfter rows 0 found → IsLeastAbove (is_index_in rows) [] (option_map (λ row. row ∷ []) found)
-  above_nothing None there least = none
-    where
-      none : (name : List ℕ) → Below [] name → is_index_in rows name ≡ false
-      none [] above = refl
-      none (zero ∷ []) above = ap is_some (no_zero rows there)
-      none (suc k ∷ []) above = ap is_some (least (suc k) (omega arith))
-      none (k ∷ l ∷ rest) above = refl
-  above_nothing (Some k) there least = (refl, is_found (row_in rows k) least.1.0 least.1.1, none)
-    where
-      none : (name : List ℕ) → Below [] name → Below name (k ∷ []) → is_index_in rows name ≡ false
-      none [] above under = refl
-      none (zero ∷ []) above under = ap is_some (no_zero rows there)
-      none (suc j ∷ []) above under = ap is_some (least.2 (suc j) (omega arith) (under_first (suc j) [] k under))
-      none (j ∷ l ∷ rest) above under = refl
+  module _ (rows : List (Row C)) (rise : AreControlRows t rows) where
+    -- an index of a row is that of a number
+    numbered : (name : List ℕ) → is_index_in t rows name ≡ true → (k : ℕ) × (row : Row C) × (row_in rows k ≡ Some row) × (row_index t k ≡ name)
+    numbered name is = by_number (t.indexing.number_of name) refl is
+      where
+        by_row : (k : ℕ) (o : Option (Row C)) → row_in rows k ≡ o → is_some o ≡ true → (row : Row C) × (row_in rows k ≡ Some row)
+        by_row k None e no_way = absurd (cc)
+        by_row k (Some row) e _ = (row, e)
 
-  pub above_none : (index : List ℕ) (found : Option ℕ) → length index ≡ 0 → AllThere rows → IsIndexAfter rows 0 found → IsLeastAbove (is_index_in rows) index (option_map (λ row. row ∷ []) found)
-  above_none [] found none there least = above_nothing found there least
-  above_none (x ∷ more) found none there least = absurd (cc)
+        by_number : (o : Option ℕ) → t.indexing.number_of name ≡ o → has_number rows o ≡ true → (k : ℕ) × (row : Row C) × (row_in rows k ≡ Some row) × (row_index t k ≡ name)
+        by_number None e no_way = absurd (cc)
+        by_number (Some k) e some = let it = by_row k (row_in rows k) refl some in (k, it.0, it.1, t.indexed.one_to_one.forth name k e)
+
+    is_lt_of : (name : List ℕ) → Below index name → is_lt (slice_cmp nat_cmp index name) ≡ true
+    is_lt_of name below = ap is_lt below
+
+    not_index : (name : List ℕ) → (is_index_in t rows name ≡ true → ⊥) → is_index_in t rows name ≡ false
+    not_index name never = elim (is_index_in t rows name) as (λ b. is_index_in t rows name ≡ b → b ≡ false) [ true ↦ λ e. absurd (never e) | false ↦ λ _. refl ] refl
+
+    above : (o : Option (Row C)) → first rows ≡ o → IsLeastAbove (is_index_in t rows) index (option_map (λ r. row_index t r.index) o)
+    above None none = λ name below. not_index name (λ is.
+        let it = numbered name is in
+        let is_so : behind_of t index it.0 ≡ true = ap (λ n. is_lt (slice_cmp nat_cmp index n)) it.3 ∙ is_lt_of name below in
+        let no : behind_of t index it.0 ≡ false = none_behind rows it.0 it.1 none it.2 in
+        cc)
+    above (Some x) found =
+        let here : row_in rows x.index ≡ Some x = held rows x rise.0 found in (
+          less_is _ (behind rows x found),
+          ap (has_number rows) (t.indexed.back x.index) ∙ ap is_some here,
+          λ name low high. not_index name (λ is.
+              let it = numbered name is in
+              let k = it.0 in
+              let is_so : behind_of t index k ≡ true = ap (λ n. is_lt (slice_cmp nat_cmp index n)) it.3 ∙ is_lt_of name low in
+              let under : Below (row_index t k) (row_index t x.index) = subst (λ n. Below n (row_index t x.index)) (sym it.3) high in
+              let number = (found_there t rows k it.1 rise.1 it.2).0 in
+              let number_x = (found_there t rows x.index x rise.1 here).0 in
+              by_order k it.1 it.2 is_so under number number_x (nat_lt k x.index) refl (nat_lt x.index k) refl),
+        )
+      where
+        by_order : (k : ℕ) (row : Row C) → row_in rows k ≡ Some row → behind_of t index k ≡ true → Below (row_index t k) (row_index t x.index) → is_row_number t k ≡ true → is_row_number t x.index ≡ true
+            → (a : Bool) → nat_lt k x.index ≡ a → (b : Bool) → nat_lt x.index k ≡ b → ⊥
+        by_order k row there is_so under number number_x true low b e =
+            let less : k < x.index = grind (arith, nat_tests) in
+            let no : behind_of t index k ≡ false = none_before rows x k row rise.0 found there less in
+            cc
+        by_order k row there is_so under number number_x false e true high =
+            let less : x.index < k = grind (arith, nat_tests) in
+            not_both (row_index t k) (row_index t x.index) under (t.indexed.rises x.index k number_x number less)
+        by_order k row there is_so under number number_x false e false f =
+            let same : k ≡ x.index = grind (arith, nat_tests) in
+            let itself : Below (row_index t x.index) (row_index t x.index) = subst (λ n. Below (row_index t n) (row_index t x.index)) same under in
+            not_both (row_index t x.index) (row_index t x.index) itself itself
+
+    pub first_fits : (x : Row C) → first rows ≡ Some x → length (row_index t x.index) ≤ t.indexing.longest
+    first_fits x found = t.indexed.fits x.index (found_there t rows x.index x rise.1 (held rows x rise.0 found)).0
+
+    pub least_behind : IsLeastAbove (is_index_in t rows) index (option_map (λ r. row_index t r.index) (first rows))
+    least_behind = above (first rows) refl

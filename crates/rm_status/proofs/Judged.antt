@@ -15,9 +15,9 @@ use Rattle.rm_status.specs.RowsAfter.{AreRowsAfter}
 
 -- the second pass on rows that are those after a journal is that on the journal's
 pub judged_after : {C : Type 0} (t : ControlTable) (beginning : Beginning) (set_to : C → ℕ → Option Val) (rows : List (Row C)) (journal : Journal) → AreRowsAfter t beginning set_to rows journal → (bs : Bindings) (verdict : Verdict)
-    → IsFirstFault (length bs) (second_pass t (rows_before set_to rows) bs) verdict → IsFirstFault (length bs) (second_pass t (rows_after t beginning journal) bs) verdict
+    → IsFirstFault (length bs) (second_pass t (rows_before t set_to rows) bs) verdict → IsFirstFault (length bs) (second_pass t (rows_after t beginning journal) bs) verdict
 judged_after t beginning set_to rows journal is bs verdict first =
-    let same = second_pass_alike t (rows_before set_to rows) (rows_after t beginning journal) is.alike bs in
+    let same = second_pass_alike t (rows_before t set_to rows) (rows_after t beginning journal) is.alike bs in
     subst (λ (fault : ℕ → Option ErrorStatus). IsFirstFault (length bs) fault verdict) (λ d k. same k d) first
 
 -- what is next among cells is next among the same cells

@@ -7,6 +7,8 @@ pub mod RowEdits
 pub mod RowCalls
 pub mod Loops
 pub mod Held
+pub mod RowsBefore
+pub mod NumberLemmas
 pub mod Puts
 pub mod Settles
 pub mod Commits

@@ -8,12 +8,13 @@ use Rattle.rm_val.specs.Val.{Val}
 use Rattle.rm_model.specs.declared.place.Place.{Place}
 use Rattle.rm_model.specs.declared.place.Place.TheVariants.{Outside, Entry, Column, Cell}
 use Rattle.rm_model.specs.Journal.{value_given}
-use Rattle.rm_model.specs.ControlTable.{ControlTable, column_of, is_ready}
+use Rattle.rm_model.specs.ControlTable.{row_index, ControlTable, column_of, is_ready}
 use Rattle.rm_model.specs.ControlRows.{cell_name, is_absent}
 use Rattle.rm_model.specs.Judgement.{Bindings, place_of, column_kind, writable_kind, value_fault, alone_fault, first_pass, of_columns, set_before, is_sound}
 use Rattle.rm_status.specs.declared.row.Row.{Row}
 use Rattle.rm_status.specs.Rows.{row_in, state_seen, columns_seen, rows_before, AreControlRows}
 use Rattle.rm_status.specs.Commit.{is_cell, put_at, put_all}
+use Rattle.rm_status.proofs.RowsBefore.{number_at}
 use Rattle.rm_status.proofs.RowFacts.{row_there}
 use Rattle.rm_status.proofs.PlaceLemmas.{is_cell_name}
 
@@ -24,7 +25,7 @@ no_first (Some x) p h = cc
 -- nothing is wrong with each binding alone
 abbrev pub AllFine : ControlTable → Bindings → Type 0
 AllFine t [] = Unit {0}
-AllFine t (b ∷ bs) = (alone_fault t (place_of t.entry b.name) b.value ≡ None) × AllFine t bs
+AllFine t (b ∷ bs) = (alone_fault t (place_of t b.name) b.value ≡ None) × AllFine t bs
 
 pub all_fine : (t : ControlTable) (bs : Bindings) → ((k : ℕ) → k < length bs → first_pass t bs k ≡ None) → AllFine t bs
 all_fine t [] h = tt
@@ -67,26 +68,26 @@ module _ {C : Type 0} (t : ControlTable) (with_column : C → ℕ → Val → C)
       ]
 
   -- what a column is then set to
-  pub set_in_all : (bs : Bindings) (i m : ℕ) (x : C) → nat_eq t.status m ≡ false → AllFine t bs → set_to (put_all t with_column blank bs i x) m ≡ option_or (value_given bs (cell_name t.entry m (i ∷ []))) (set_to x m)
+  pub set_in_all : (bs : Bindings) (i m : ℕ) (x : C) → nat_eq t.status m ≡ false → AllFine t bs → set_to (put_all t with_column blank bs i x) m ≡ option_or (value_given bs (cell_name t.entry m (row_index t i))) (set_to x m)
   set_in_all [] i m x ne fine = refl
   set_in_all (b ∷ bs) i m x ne fine =
-      let name : List ℕ = cell_name t.entry m (i ∷ []) in
-      set_at i m (place_of t.entry b.name) b.value (put_all t with_column blank bs i x) ne fine.0
-      ∙ elim (is_cell m i (place_of t.entry b.name)) as (λ s. cond s (Some b.value) (set_to (put_all t with_column blank bs i x) m) ≡ option_or (option_map (λ a. a.value) (cond s (Some b) (find (λ a. bytes_eq a.name name) bs))) (set_to x m)) [
+      let name : List ℕ = cell_name t.entry m (row_index t i) in
+      set_at i m (place_of t b.name) b.value (put_all t with_column blank bs i x) ne fine.0
+      ∙ elim (is_cell m i (place_of t b.name)) as (λ s. cond s (Some b.value) (set_to (put_all t with_column blank bs i x) m) ≡ option_or (option_map (λ a. a.value) (cond s (Some b) (find (λ a. bytes_eq a.name name) bs))) (set_to x m)) [
         | true ↦ refl
         | false ↦ set_in_all bs i m x ne fine.1
       ]
-      ∙ ap (λ s. option_or (option_map (λ a. a.value) (cond s (Some b) (find (λ a. bytes_eq a.name name) bs))) (set_to x m)) (is_cell_name t.entry b.name m i)
+      ∙ ap (λ s. option_or (option_map (λ a. a.value) (cond s (Some b) (find (λ a. bytes_eq a.name name) bs))) (set_to x m)) (is_cell_name t t.entry b.name m i)
 
   module _ (sound : is_sound t ≡ true) (bs : Bindings) (i : ℕ) (x : C) (fine : AllFine t bs) where
-    each : (m : ℕ) → of_columns t (set_to (put_all t with_column blank bs i x)) m ≡ of_columns t (λ column. option_or (value_given bs (cell_name t.entry column (i ∷ []))) (set_to x column)) m
-    each m = elim (is_some (column_of t m)) as (λ b. is_some (column_of t m) ≡ b → cond b (set_to (put_all t with_column blank bs i x) m) None ≡ cond b (option_or (value_given bs (cell_name t.entry m (i ∷ []))) (set_to x m)) None) [
+    each : (m : ℕ) → of_columns t (set_to (put_all t with_column blank bs i x)) m ≡ of_columns t (λ column. option_or (value_given bs (cell_name t.entry column (row_index t i))) (set_to x column)) m
+    each m = elim (is_some (column_of t m)) as (λ b. is_some (column_of t m) ≡ b → cond b (set_to (put_all t with_column blank bs i x) m) None ≡ cond b (option_or (value_given bs (cell_name t.entry m (row_index t i))) (set_to x m)) None) [
       | true ↦ λ e. set_in_all bs i m x (not_status t m sound e) fine
       | false ↦ λ _. refl
     ] refl
 
     -- so a row is as ready as its columns say
-    pub ready_is : is_ready t (of_columns t (set_to (put_all t with_column blank bs i x))) ≡ is_ready t (of_columns t (λ column. option_or (value_given bs (cell_name t.entry column (i ∷ []))) (set_to x column)))
+    pub ready_is : is_ready t (of_columns t (set_to (put_all t with_column blank bs i x))) ≡ is_ready t (of_columns t (λ column. option_or (value_given bs (cell_name t.entry column (row_index t i))) (set_to x column)))
     ready_is = ap (is_ready t) (λ d m. each m d)
 
 -- a row is as ready by columns that were set to the same
@@ -95,12 +96,15 @@ same_ready t given set other same = ap (λ (f : ℕ → Option Val). is_ready t 
 
 module _ {C : Type 0} (t : ControlTable) (set_to : C → ℕ → Option Val) (rows : List (Row C)) (i : ℕ) where
   abbrev before_in : Option (Row C) → ℕ → Option Val
-  before_in o n = cond (is_absent (state_seen o)) (t.rules.first (i ∷ []) n) (option_and_then (λ c. set_to c n) (columns_seen o))
+  before_in o n = cond (is_absent (state_seen o)) (t.rules.first (row_index t i) n) (option_and_then (λ c. set_to c n) (columns_seen o))
+
+  before_at : (n : ℕ) → before_in (row_in rows i) n ≡ set_before t (rows_before t set_to rows) (row_index t i) n
+  before_at n = ap (λ k. before_in (row_in rows k) n) (sym (number_at t i))
 
   -- what the columns of a row were set to before a Set, and what they are set to at first
-  pub set_held : AreControlRows rows → (row : Row C) → Some row ≡ row_in rows i → (n : ℕ) → set_to row.columns n ≡ set_before t (rows_before set_to rows) (i ∷ []) n
+  pub set_held : AreControlRows t rows → (row : Row C) → Some row ≡ row_in rows i → (n : ℕ) → set_to row.columns n ≡ set_before t (rows_before t set_to rows) (row_index t i) n
   set_held held row here n =
-      sym (ap (λ b. cond b (t.rules.first (i ∷ []) n) (set_to row.columns n)) (row_there rows i row held (sym here))) ∙ ap (λ o. before_in o n) here
+      sym (ap (λ b. cond b (t.rules.first (row_index t i) n) (set_to row.columns n)) (row_there t rows i row held (sym here))) ∙ ap (λ o. before_in o n) here ∙ before_at n
 
-  pub set_not_held : None ≡ row_in rows i → (n : ℕ) → t.rules.first (i ∷ []) n ≡ set_before t (rows_before set_to rows) (i ∷ []) n
-  set_not_held none n = ap (λ o. before_in o n) none
+  pub set_not_held : None ≡ row_in rows i → (n : ℕ) → t.rules.first (row_index t i) n ≡ set_before t (rows_before t set_to rows) (row_index t i) n
+  set_not_held none n = ap (λ o. before_in o n) none ∙ before_at n

@@ -9,13 +9,14 @@ use Rattle.rm_model.specs.declared.row.State.{State}
 use Rattle.rm_model.specs.declared.row.State.TheVariants.{Absent}
 use Rattle.rm_model.specs.declared.place.Place.{Place}
 use Rattle.rm_model.specs.declared.place.Place.TheVariants.{Outside, Entry, Column, Cell}
-use Rattle.rm_model.specs.ControlTable.{ControlTable}
+use Rattle.rm_model.specs.ControlTable.{row_index, ControlTable}
 use Rattle.rm_model.specs.ControlRows.{set_ask, next_state}
-use Rattle.rm_model.specs.Judgement.{Bindings, name_at, place_of, first_pass, second_pass, together_fault, is_made, is_again, is_crowded}
+use Rattle.rm_model.specs.Judgement.{Bindings, name_at, place_of, first_pass, second_pass, together_fault, is_made, is_again, is_crowded, row_fault, is_ready_with}
 use Rattle.rm_status.specs.declared.row.Row.{Row}
 use Rattle.rm_status.specs.Rows.{row_in, state_in, state_seen, rows_before, AreControlRows}
 use Rattle.rm_status.specs.Commit.{is_cell, is_status, made_by, count_made, made_row, made_now}
 use Rattle.rm_status.proofs.Commits.{made_first}
+use Rattle.rm_status.proofs.RowsBefore.{state_before}
 use Rattle.rm_status.proofs.Crowds.{earlier_status, crowded_is}
 use Rattle.rm_status.proofs.RowEdits.{lt_yes, lt_no, eq_itself}
 
@@ -55,31 +56,31 @@ not_both false b x o h e = cc
 
 module _ {C : Type 0} (t : ControlTable) (with_column : C → ℕ → Val → C) (blank : ℕ → C) (bs : Bindings) (init : List (Row C)) where
   abbrev made : ℕ → Row C
-  made i = record { index = i; state = next_state (set_ask t bs (i ∷ [])) Absent; columns = blank i }
+  made i = record { index = i; state = next_state (set_ask t bs (row_index t i)) Absent; columns = blank i }
 
-  again_none : (rows : List (Row C)) (k i : ℕ) → ((j : ℕ) → row_in rows j ≡ made_first t with_column blank bs init k j) → place_of t.entry (name_at bs k) ≡ Cell t.status i → is_made Absent (set_ask t bs (i ∷ [])) ≡ true → row_in rows i ≡ None → (row_in init i ≡ None) × (is_again bs k ≡ false)
+  again_none : (rows : List (Row C)) (k i : ℕ) → ((j : ℕ) → row_in rows j ≡ made_first t with_column blank bs init k j) → place_of t (name_at bs k) ≡ Cell t.status i → is_made Absent (set_ask t bs (row_index t i)) ≡ true → row_in rows i ≡ None → (row_in init i ≡ None) × (is_again bs k ≡ false)
   again_none rows k i makes here asks gone =
       let none = sym (makes i) ∙ gone in (
         no_some (row_in init i) (made_row t with_column blank bs i) (list_any (is_status t i) (take k bs)) none,
-        sym (earlier_status t (state_in init) bs k i here) ∙ no_made (row_in init i) (made i) (list_any (is_status t i) (take k bs)) (is_made Absent (set_ask t bs (i ∷ []))) none asks,
+        sym (earlier_status t (state_in init) bs k i here) ∙ no_made (row_in init i) (made i) (list_any (is_status t i) (take k bs)) (is_made Absent (set_ask t bs (row_index t i))) none asks,
       )
 
   -- such a binding makes a row by what the rows were at first too
-  made_one : (k i : ℕ) → row_in init i ≡ None → is_again bs k ≡ false → is_made Absent (set_ask t bs (i ∷ [])) ≡ true → ◌≡◌ {A = ℕ} (cond (not (is_again bs k) && is_made (state_in init i) (set_ask t bs (i ∷ []))) 1 0) 1
+  made_one : (k i : ℕ) → row_in init i ≡ None → is_again bs k ≡ false → is_made Absent (set_ask t bs (row_index t i)) ≡ true → ◌≡◌ {A = ℕ} (cond (not (is_again bs k) && is_made (state_in init i) (set_ask t bs (row_index t i))) 1 0) 1
   made_one k i gone first asks =
-      ap (λ a. cond (not a && is_made (state_in init i) (set_ask t bs (i ∷ []))) 1 0) first
-      ∙ ap (λ o. cond (is_made (state_seen o) (set_ask t bs (i ∷ []))) 1 0) gone ∙ ap (λ m. cond m 1 0) asks
+      ap (λ a. cond (not a && is_made (state_in init i) (set_ask t bs (row_index t i))) 1 0) first
+      ∙ ap (λ o. cond (is_made (state_seen o) (set_ask t bs (row_index t i))) 1 0) gone ∙ ap (λ m. cond m 1 0) asks
 
-  now_made : (rows : List (Row C)) (k : ℕ) → ((j : ℕ) → row_in rows j ≡ made_first t with_column blank bs init k j) → (p : Place) → place_of t.entry (name_at bs k) ≡ p → made_now t with_column blank rows bs p ≤ made_by t (state_in init) bs (is_again bs k) p
+  now_made : (rows : List (Row C)) (k : ℕ) → ((j : ℕ) → row_in rows j ≡ made_first t with_column blank bs init k j) → (p : Place) → place_of t (name_at bs k) ≡ p → made_now t with_column blank rows bs p ≤ made_by t (state_in init) bs (is_again bs k) p
   now_made rows k makes Outside e = omega arith
   now_made rows k makes Entry e = omega arith
   now_made rows k makes (Column c) e = omega arith
   now_made rows k makes (Cell c i) e =
-      elim (nat_eq c t.status) as (λ s. nat_eq c t.status ≡ s → cond (s && (is_made Absent (set_ask t bs (i ∷ [])) && is_none (row_in rows i))) 1 0 ≤ cond (s && (not (is_again bs k) && is_made (state_in init i) (set_ask t bs (i ∷ [])))) 1 0) [
-        | true ↦ λ st. elim (is_made Absent (set_ask t bs (i ∷ []))) as (λ m. is_made Absent (set_ask t bs (i ∷ [])) ≡ m → cond (m && is_none (row_in rows i)) 1 0 ≤ cond (not (is_again bs k) && is_made (state_in init i) (set_ask t bs (i ∷ []))) 1 0) [
-          | true ↦ λ asks. elim (row_in rows i) as (λ o. row_in rows i ≡ o → cond (is_none o) 1 0 ≤ cond (not (is_again bs k) && is_made (state_in init i) (set_ask t bs (i ∷ []))) 1 0) [
+      elim (nat_eq c t.status) as (λ s. nat_eq c t.status ≡ s → cond (s && (is_made Absent (set_ask t bs (row_index t i)) && is_none (row_in rows i))) 1 0 ≤ cond (s && (not (is_again bs k) && is_made (state_in init i) (set_ask t bs (row_index t i)))) 1 0) [
+        | true ↦ λ st. elim (is_made Absent (set_ask t bs (row_index t i))) as (λ m. is_made Absent (set_ask t bs (row_index t i)) ≡ m → cond (m && is_none (row_in rows i)) 1 0 ≤ cond (not (is_again bs k) && is_made (state_in init i) (set_ask t bs (row_index t i))) 1 0) [
+          | true ↦ λ asks. elim (row_in rows i) as (λ o. row_in rows i ≡ o → cond (is_none o) 1 0 ≤ cond (not (is_again bs k) && is_made (state_in init i) (set_ask t bs (row_index t i))) 1 0) [
             | None ↦ λ gone.
-                let status : place_of t.entry (name_at bs k) ≡ Cell t.status i = e ∙ ap (λ n. Cell n i) (eqb-true c t.status st) in
+                let status : place_of t (name_at bs k) ≡ Cell t.status i = e ∙ ap (λ n. Cell n i) (eqb-true c t.status st) in
                 let both = again_none rows k i makes status asks gone in
                 let one = made_one k i both.0 both.1 asks in
                 omega (arith, one)
@@ -91,22 +92,23 @@ module _ {C : Type 0} (t : ControlTable) (with_column : C → ℕ → Val → C)
       ] refl
 
   -- the rows so far are no more than those held and made
-  pub few_more : (rows new : List (Row C)) (k : ℕ) → ((j : ℕ) → row_in rows j ≡ made_first t with_column blank bs init k j) → length rows ≤ length init + count_made t (state_in init) bs k → length new ≡ length rows + made_now t with_column blank rows bs (place_of t.entry (name_at bs k)) → length new ≤ length init + count_made t (state_in init) bs (k + 1)
+  pub few_more : (rows new : List (Row C)) (k : ℕ) → ((j : ℕ) → row_in rows j ≡ made_first t with_column blank bs init k j) → length rows ≤ length init + count_made t (state_in init) bs k → length new ≡ length rows + made_now t with_column blank rows bs (place_of t (name_at bs k)) → length new ≤ length init + count_made t (state_in init) bs (k + 1)
   few_more rows new k makes few is =
-      let now = now_made rows k makes (place_of t.entry (name_at bs k)) refl in
+      let now = now_made rows k makes (place_of t (name_at bs k)) refl in
       rw (add-one k) (omega (arith, now, is, few))
 
   -- so there is room for the row that the binding at a place makes
-  pub room_at : (set_to : C → ℕ → Option Val) → AreControlRows init → ((j : ℕ) → j < length bs → first_pass t bs j ≡ None) → (rows : List (Row C)) (k i : ℕ) → k < length bs → ((j : ℕ) → row_in rows j ≡ made_first t with_column blank bs init k j) → length rows ≤ length init + count_made t (state_in init) bs k → second_pass t (rows_before set_to init) bs k ≡ None → is_cell t.status i (place_of t.entry (name_at bs k)) ≡ true → is_made Absent (set_ask t bs (i ∷ [])) ≡ true → row_in rows i ≡ None → length rows < t.most
+  pub room_at : (set_to : C → ℕ → Option Val) → AreControlRows t init → ((j : ℕ) → j < length bs → first_pass t bs j ≡ None) → (rows : List (Row C)) (k i : ℕ) → k < length bs → ((j : ℕ) → row_in rows j ≡ made_first t with_column blank bs init k j) → length rows ≤ length init + count_made t (state_in init) bs k → second_pass t (rows_before t set_to init) bs k ≡ None → is_cell t.status i (place_of t (name_at bs k)) ≡ true → is_made Absent (set_ask t bs (row_index t i)) ≡ true → row_in rows i ≡ None → length rows < t.most
   room_at set_to ordered alone rows k i lt makes few fine is asks gone =
-      let before = rows_before set_to init in
-      let place = cell_of t.status i (place_of t.entry (name_at bs k)) is in
+      let before = rows_before t set_to init in
+      let place = cell_of t.status i (place_of t (name_at bs k)) is in
       let both = again_none rows k i makes place asks gone in
-      let making : is_made (state_in init i) (set_ask t bs (i ∷ [])) ≡ true = ap (λ o. is_made (state_seen o) (set_ask t bs (i ∷ []))) both.0 ∙ asks in
-      let here : together_fault t before bs k (Cell t.status i) ≡ None = ap (together_fault t before bs k) (sym place) ∙ fine in
-      let ok : is_crowded t before bs ≡ false = not_both (is_made (state_in init i) (set_ask t bs (i ∷ []))) (is_crowded t before bs) _ _ here making in
+      let making : is_made (state_in init i) (set_ask t bs (row_index t i)) ≡ true = ap (λ o. is_made (state_seen o) (set_ask t bs (row_index t i))) both.0 ∙ asks in
+      let fault : together_fault t before bs k (Cell t.status i) ≡ None = ap (together_fault t before bs k) (sym place) ∙ fine in
+      let here = ap (λ s. row_fault t (row_index t i) s (set_ask t bs (row_index t i)) (is_ready_with t before bs (row_index t i)) (is_crowded t before bs) (is_again bs k) t.status) (sym (state_before t set_to init i)) ∙ fault in
+      let ok : is_crowded t before bs ≡ false = not_both (is_made (state_in init i) (set_ask t bs (row_index t i))) (is_crowded t before bs) _ _ here making in
       let bound = lt_no t.most (length init + count_made t (state_in init) bs (length bs)) (sym (crowded_is t set_to bs init ordered alone) ∙ ok) in
-      let one : made_by t (state_in init) bs (is_again bs k) (place_of t.entry (name_at bs k)) ≡ 1 =
-      ap (made_by t (state_in init) bs (is_again bs k)) place ∙ ap (λ e. cond (e && (not (is_again bs k) && is_made (state_in init i) (set_ask t bs (i ∷ [])))) 1 0) (eq_itself t.status) ∙ made_one k i both.0 both.1 asks in
+      let one : made_by t (state_in init) bs (is_again bs k) (place_of t (name_at bs k)) ≡ 1 =
+      ap (made_by t (state_in init) bs (is_again bs k)) place ∙ ap (λ e. cond (e && (not (is_again bs k) && is_made (state_in init i) (set_ask t bs (row_index t i)))) 1 0) (eq_itself t.status) ∙ made_one k i both.0 both.1 asks in
       let next = grows t (state_in init) bs (suc k) (length bs) lt in
       omega (arith, few, one, next, bound)

@@ -2,6 +2,7 @@
 use Rattle.std.proofs.Common.{◌≡◌, ℕ, ◌≤◌, ◌+◌, suc, true, false, cond, not, nat_lt, List, [], ◌∷◌, length, Some, None, nat_eq, refl, sym, ap, subst, ◌∙◌, arith}
 use Rattle.std.specs.Prelude.{insert, remove}
 use Rattle.std.specs.List.{position_or_len}
+use Rattle.rm_model.specs.ControlTable.{ControlTable}
 use Rattle.rm_status.specs.declared.row.Row.{Row}
 use Rattle.rm_status.specs.Rows.{row_in, place_in, IsThere, AreControlRows}
 use Rattle.rm_status.proofs.Places.{within}
@@ -12,10 +13,10 @@ module _ {C : Type 0} where
   abbrev pub Lacks : List (Row C) → List (Row C) → ℕ → Type 0
   Lacks now new i = (j : ℕ) → row_in new j ≡ cond (nat_eq i j) None (row_in now j)
 
-  pub removed : (items now new : List (Row C)) (i k : ℕ) → items ≡ now → k ≡ place_in now i → new ≡ remove items k → AreControlRows items → AreControlRows new × Lacks now new i
-  removed items now new i k view place is rows =
+  pub removed : (table : ControlTable) (items now new : List (Row C)) (i k : ℕ) → items ≡ now → k ≡ place_in now i → new ≡ remove items k → AreControlRows table items → AreControlRows table new × Lacks now new i
+  removed table items now new i k view place is rows =
       let e : new ≡ without items i = is ∙ ap (λ n. remove items n) (place ∙ ap (λ l. place_in l i) (sym view)) ∙ remove-place items i in (
-        subst AreControlRows (sym e) (rising-without items i rows.0, there-without items i rows.1),
+        subst (AreControlRows table) (sym e) (rising-without items i rows.0, there-without table items i rows.1),
         λ j. ap (λ l. row_in l j) e ∙ row_in-without items i j rows.0 ∙ ap (λ l. cond (nat_eq i j) None (row_in l j)) view,
       )
 
@@ -37,11 +38,11 @@ module _ {C : Type 0} where
   abbrev pub Has : List (Row C) → List (Row C) → Row C → Type 0
   Has now new x = (j : ℕ) → row_in new j ≡ cond (nat_eq x.index j) (Some x) (row_in now j)
 
-  pub inserted : (items now new : List (Row C)) (x : Row C) (k : ℕ) → items ≡ now → k ≡ position_or_len (λ r. nat_lt x.index r.index) now → new ≡ insert items k x → AreControlRows items → IsThere x → row_in now x.index ≡ None → AreControlRows new × Has now new x × (length new ≡ length now + 1)
-  inserted items now new x k view place is rows here absent =
+  pub inserted : (table : ControlTable) (items now new : List (Row C)) (x : Row C) (k : ℕ) → items ≡ now → k ≡ position_or_len (λ r. nat_lt x.index r.index) now → new ≡ insert items k x → AreControlRows table items → IsThere table x → row_in now x.index ≡ None → AreControlRows table new × Has now new x × (length new ≡ length now + 1)
+  inserted table items now new x k view place is rows here absent =
       let e : new ≡ with_row items x = is ∙ ap (λ n. insert items n x) (place ∙ ap (λ l. position_or_len (λ r. nat_lt x.index r.index) l) (sym view)) ∙ insert-place items x in
       let gone : row_in items x.index ≡ None = ap (λ l. row_in l x.index) view ∙ absent in (
-        subst AreControlRows (sym e) (rising-with_row items x rows.0 gone, there-with_row items x rows.1 here),
+        subst (AreControlRows table) (sym e) (rising-with_row items x rows.0 gone, there-with_row table items x rows.1 here),
         λ j. ap (λ l. row_in l j) e ∙ row_in-with_row items x j gone ∙ ap (λ l. cond (nat_eq x.index j) (Some x) (row_in l j)) view,
         ap (λ l. length l) e ∙ length-with_row items x ∙ ap (λ l. length l + 1) view,
       )

@@ -6,6 +6,7 @@ use Rattle.std.specs.Option.{option_map}
 use Rattle.std.proofs.Math.Numerals.{one-add}
 use Rattle.std.proofs.lemmas.Bool.Decides.{nat_tests}
 use borrow.Author.Tests.{eqb-true, eq-eqb}
+use Rattle.rm_model.specs.ControlTable.{ControlTable}
 use Rattle.rm_status.specs.declared.row.Row.{Row}
 use Rattle.rm_status.specs.Rows.{row_in, place_in, AllAbove, Rising, IsIndexAfter, IsThere, AllThere}
 
@@ -105,9 +106,9 @@ module _ {C : Type 0} where
         | false ↦ λ k. more
       ] refl
 
-  pub there-without : (rows : List (Row C)) (i : ℕ) → AllThere rows → AllThere (without rows i)
-  there-without [] i h = tt
-  there-without (r ∷ rows) i h = elim (nat_eq r.index i) as (λ t. AllThere (cond t rows (r ∷ without rows i))) [ true ↦ h.1 | false ↦ (h.0, there-without rows i h.1) ]
+  pub there-without : (table : ControlTable) (rows : List (Row C)) (i : ℕ) → AllThere table rows → AllThere table (without rows i)
+  there-without table [] i h = tt
+  there-without table (r ∷ rows) i h = elim (nat_eq r.index i) as (λ t. AllThere table (cond t rows (r ∷ without rows i))) [ true ↦ h.1 | false ↦ (h.0, there-without table rows i h.1) ]
 
   -- a row put in its place
   abbrev pub with_row : List (Row C) → Row C → List (Row C)
@@ -126,9 +127,9 @@ module _ {C : Type 0} where
   above-with_row i [] x h lt = (lt, tt)
   above-with_row i (r ∷ rows) x h lt = elim (nat_lt x.index r.index) as (λ t. AllAbove i (cond t (x ∷ (r ∷ rows)) (r ∷ with_row rows x))) [ true ↦ (lt, h) | false ↦ (h.0, above-with_row i rows x h.1 lt) ]
 
-  pub there-with_row : (rows : List (Row C)) (x : Row C) → AllThere rows → IsThere x → AllThere (with_row rows x)
-  there-with_row [] x h here = (here, tt)
-  there-with_row (r ∷ rows) x h here = elim (nat_lt x.index r.index) as (λ t. AllThere (cond t (x ∷ (r ∷ rows)) (r ∷ with_row rows x))) [ true ↦ (here, h) | false ↦ (h.0, there-with_row rows x h.1 here) ]
+  pub there-with_row : (table : ControlTable) (rows : List (Row C)) (x : Row C) → AllThere table rows → IsThere table x → AllThere table (with_row rows x)
+  there-with_row table [] x h here = (here, tt)
+  there-with_row table (r ∷ rows) x h here = elim (nat_lt x.index r.index) as (λ t. AllThere table (cond t (x ∷ (r ∷ rows)) (r ∷ with_row rows x))) [ true ↦ (here, h) | false ↦ (h.0, there-with_row table rows x h.1 here) ]
 
   not_here : (r x : Row C) (rows : List (Row C)) → row_in (r ∷ rows) x.index ≡ None → nat_eq r.index x.index ≡ false
   not_here r x rows h = elim (nat_eq r.index x.index) as (λ t. cond t (Some r) (row_in rows x.index) ≡ None → t ≡ false) [ true ↦ λ k. cc | false ↦ λ k. refl ] h
@@ -175,9 +176,9 @@ module _ {C : Type 0} where
     rising-map [] h = tt
     rising-map (r ∷ rows) h = (rw (same r) (above-map r.index rows h.0), rising-map rows h.1)
 
-    pub there-map : ((r : Row C) → (f r).state ≡ r.state) → (rows : List (Row C)) → AllThere rows → AllThere (map f rows)
-    there-map kept [] h = tt
-    there-map kept (r ∷ rows) h = (((rw (same r) h.0.0), (rw (kept r) h.0.1)), there-map kept rows h.1)
+    pub there-map : (table : ControlTable) → ((r : Row C) → (f r).state ≡ r.state) → (rows : List (Row C)) → AllThere table rows → AllThere table (map f rows)
+    there-map table kept [] h = tt
+    there-map table kept (r ∷ rows) h = (((rw (same r) h.0.0), (rw (kept r) h.0.1)), there-map table kept rows h.1)
 
     pub row_in-map : (rows : List (Row C)) (i : ℕ) → row_in (map f rows) i ≡ option_map f (row_in rows i)
     row_in-map [] i = refl
@@ -197,9 +198,9 @@ module _ {C : Type 0} where
     rising-filter [] h = tt
     rising-filter (r ∷ rows) h = elim (f r) as (λ o. Keeps r o → Rising (cons_option o (filter_map f rows))) [ None ↦ λ k. rising-filter rows h.1 | Some x ↦ λ k. (rw k (above-filter r.index rows h.0), rising-filter rows h.1) ] (same r)
 
-    pub there-filter : ((r x : Row C) → f r ≡ Some x → IsThere r → IsThere x) → (rows : List (Row C)) → AllThere rows → AllThere (filter_map f rows)
-    there-filter stays [] h = tt
-    there-filter stays (r ∷ rows) h = elim (f r) as (λ o. f r ≡ o → AllThere (cons_option o (filter_map f rows))) [ None ↦ λ _. there-filter stays rows h.1 | Some x ↦ λ e. (stays r x e h.0, there-filter stays rows h.1) ] refl
+    pub there-filter : (table : ControlTable) → ((r x : Row C) → f r ≡ Some x → IsThere table r → IsThere table x) → (rows : List (Row C)) → AllThere table rows → AllThere table (filter_map f rows)
+    there-filter table stays [] h = tt
+    there-filter table stays (r ∷ rows) h = elim (f r) as (λ o. f r ≡ o → AllThere table (cons_option o (filter_map f rows))) [ None ↦ λ _. there-filter table stays rows h.1 | Some x ↦ λ e. (stays r x e h.0, there-filter table stays rows h.1) ] refl
 
     abbrev pub then_f : Option (Row C) → Option (Row C)
     then_f None = None

@@ -1,23 +1,17 @@
 -- Rows of a control table.
-use Rattle.std.proofs.Common.{◌≡◌, ℕ, ◌<◌, ◌≤◌, List, [], ◌∷◌, Bool, true, false, cond, ◌&&◌, Option, Some, None, refl, sym, ap, subst, ◌∙◌, nat_eq, nat_le, arith}
+use Rattle.std.proofs.Common.{◌≡◌, ℕ, ◌<◌, ◌^◌, List, [], ◌∷◌, Bool, true, false, cond, ◌&&◌, Option, Some, None, refl, sym, ap, subst, ◌∙◌, nat_eq, nat_le, arith}
 use Rattle.std.specs.Prelude.{OnSome}
 use Rattle.std.specs.Borrow.{Bor}
 use Rattle.std.specs.Option.{option_copied, option_map}
 use Rattle.std.proofs.lemmas.Bool.Decides.{nat_tests}
 use borrow.Author.Tests.{eqb-true}
+use Rattle.rm_model.specs.ControlTable.{ControlTable}
 use Rattle.rm_model.specs.ControlRows.{is_absent, is_valid}
 use Rattle.rm_model.specs.Judgement.{is_row_number}
 use Rattle.rm_model.specs.declared.row.State.{State}
 use Rattle.rm_model.specs.declared.row.State.TheVariants.{Absent, UnderCreation, Valid}
 use Rattle.rm_status.specs.declared.row.Row.{Row}
 use Rattle.rm_status.specs.Rows.{row_in, state_in, columns_in, state_seen, columns_seen, AreControlRows, AllThere, IsIndexAfter, with_columns}
-
-in_range : (n : ℕ) → is_row_number n ≡ true → n ≤ 65535
-in_range n h = right (nat_le 1 n) h
-  where
-    right : (b : Bool) → (b && nat_le n 65535) ≡ true → n ≤ 65535
-    right true is = grind (arith, nat_tests)
-    right false is = absurd (cc)
 
 pub valid_there : (s : State) → is_valid s ≡ true → is_absent s ≡ false
 valid_there Absent h = cc
@@ -29,54 +23,43 @@ valid_is Valid h = refl
 valid_is s h = cc
 
 module _ {C : Type 0} where
-  pub found_there : (rows : List (Row C)) (i : ℕ) (row : Row C) → AllThere rows → row_in rows i ≡ Some row → (is_row_number i ≡ true) × (is_absent row.state ≡ false)
-  found_there [] i row there e = absurd (cc)
-  found_there (x ∷ rows) i row there e =
-      elim (nat_eq x.index i) as (λ t. nat_eq x.index i ≡ t → cond t (Some x) (row_in rows i) ≡ Some row → (is_row_number i ≡ true) × (is_absent row.state ≡ false)) [
-        | true ↦ λ named k. let is : x ≡ row = cc in (subst (λ n. is_row_number n ≡ true) (eqb-true x.index i named) there.0.0, ap (λ r. is_absent r.state) (sym is) ∙ there.0.1)
-        | false ↦ λ _ k. found_there rows i row there.1 k
+  pub found_there : (table : ControlTable) (rows : List (Row C)) (i : ℕ) (row : Row C) → AllThere table rows → row_in rows i ≡ Some row → (is_row_number table i ≡ true) × (is_absent row.state ≡ false)
+  found_there table [] i row there e = absurd (cc)
+  found_there table (x ∷ rows) i row there e =
+      elim (nat_eq x.index i) as (λ t. nat_eq x.index i ≡ t → cond t (Some x) (row_in rows i) ≡ Some row → (is_row_number table i ≡ true) × (is_absent row.state ≡ false)) [
+        | true ↦ λ named k. let is : x ≡ row = cc in (subst (λ n. is_row_number table n ≡ true) (eqb-true x.index i named) there.0.0, ap (λ r. is_absent r.state) (sym is) ∙ there.0.1)
+        | false ↦ λ _ k. found_there table rows i row there.1 k
       ] refl e
 
-  pub row_there : (rows : List (Row C)) (i : ℕ) (row : Row C) → AreControlRows rows → row_in rows i ≡ Some row → is_absent row.state ≡ false
-  row_there rows i row held e = (found_there rows i row held.1 e).1
+  pub row_there : (table : ControlTable) (rows : List (Row C)) (i : ℕ) (row : Row C) → AreControlRows table rows → row_in rows i ≡ Some row → is_absent row.state ≡ false
+  row_there table rows i row held e = (found_there table rows i row held.1 e).1
 
-  -- a row that is found has an index that a row can have
-  pub found_fits : (rows : List (Row C)) (i : ℕ) (o : Option (Bor (Row C))) → AllThere rows → option_copied o ≡ row_in rows i → OnSome o (i ≤ 65535)
-  found_fits rows i None there e = tt
-  found_fits rows i (Some row) there e = in_range i (found_there rows i row.now there (sym e)).0
+  -- a row that is found has a number that a row can have
+  pub found_fits : (table : ControlTable) (rows : List (Row C)) (i : ℕ) (o : Option (Bor (Row C))) → AllThere table rows → option_copied o ≡ row_in rows i → OnSome o (is_row_number table i ≡ true)
+  found_fits table rows i None there e = tt
+  found_fits table rows i (Some row) there e = (found_there table rows i row.now there (sym e)).0
 
-  pub index_fits : (rows : List (Row C)) (i : ℕ) (o : Option (Row C)) (columns : C) → AreControlRows rows → row_in rows i ≡ o → Some columns ≡ columns_seen o → i ≤ 65535
-  index_fits rows i None columns held e is = absurd (cc)
-  index_fits rows i (Some row) columns held e is = in_range i (found_there rows i row held.1 e).0
+  pub row_fits : (table : ControlTable) (rows : List (Row C)) (i : ℕ) (row : Row C) → AllThere table rows → row_in rows i ≡ Some row → (0 < i) × (i < 2 ^ 32)
+  row_fits table rows i row there e = table.indexed.within i (found_there table rows i row there e).0
 
-  pub row_fits : (rows : List (Row C)) (i : ℕ) (row : Row C) → AllThere rows → row_in rows i ≡ Some row → i ≤ 65535
-  row_fits rows i row there e = in_range i (found_there rows i row there e).0
-
-  pub above_fits : (rows : List (Row C)) (last index : ℕ) → AllThere rows → IsIndexAfter rows last (Some index) → index ≤ 65535
-  above_fits rows last index there after = row_fits rows index after.1.0 there after.1.1
-
-  -- a valid row has an index that a row can have
-  pub valid_fits : (rows : List (Row C)) (i : ℕ) → AllThere rows → is_valid (state_in rows i) ≡ true → (1 ≤ i) × (i ≤ 65535)
-  valid_fits rows i there valid = by_row (row_in rows i) refl valid
+  -- a valid row has a number that a row can have
+  pub valid_number : (table : ControlTable) (rows : List (Row C)) (i : ℕ) → AllThere table rows → is_valid (state_in rows i) ≡ true → is_row_number table i ≡ true
+  valid_number table rows i there valid = by_row (row_in rows i) refl valid
     where
-      least : (n : ℕ) → is_row_number n ≡ true → 1 ≤ n
-      least n h = left (nat_le 1 n) refl h
-        where
-          left : (b : Bool) → nat_le 1 n ≡ b → (b && nat_le n 65535) ≡ true → 1 ≤ n
-          left true e is = grind (arith, nat_tests)
-          left false e is = absurd (cc)
-
-      by_row : (o : Option (Row C)) → row_in rows i ≡ o → is_valid (state_seen o) ≡ true → (1 ≤ i) × (i ≤ 65535)
+      by_row : (o : Option (Row C)) → row_in rows i ≡ o → is_valid (state_seen o) ≡ true → is_row_number table i ≡ true
       by_row None e no_way = absurd (cc)
-      by_row (Some row) e is = let number = (found_there rows i row there e).0 in (least i number, in_range i number)
+      by_row (Some row) e is = (found_there table rows i row there e).0
+
+  pub valid_fits : (table : ControlTable) (rows : List (Row C)) (i : ℕ) → AllThere table rows → is_valid (state_in rows i) ≡ true → (0 < i) × (i < 2 ^ 32)
+  valid_fits table rows i there valid = table.indexed.within i (valid_number table rows i there valid)
 
   -- a row that there is isn't absent, and one that there isn't is
-  pub some_there : (rows : List (Row C)) (i : ℕ) (columns : C) → AreControlRows rows → Some columns ≡ columns_in rows i → is_absent (state_in rows i) ≡ false
-  some_there rows i columns held has = by_row (row_in rows i) refl has
+  pub some_there : (table : ControlTable) (rows : List (Row C)) (i : ℕ) (columns : C) → AreControlRows table rows → Some columns ≡ columns_in rows i → is_absent (state_in rows i) ≡ false
+  some_there table rows i columns held has = by_row (row_in rows i) refl has
     where
       by_row : (o : Option (Row C)) → row_in rows i ≡ o → Some columns ≡ columns_seen o → is_absent (state_seen o) ≡ false
       by_row None e no_way = absurd (cc)
-      by_row (Some row) e is = (found_there rows i row held.1 e).1
+      by_row (Some row) e is = (found_there table rows i row held.1 e).1
 
   pub none_there : (rows : List (Row C)) (i : ℕ) → None ≡ columns_in rows i → state_in rows i ≡ Absent
   none_there rows i none = by_row (row_in rows i) none
@@ -93,9 +76,6 @@ module _ {C : Type 0} where
       by_row None no_way = absurd (cc)
       by_row (Some row) is = (row.columns, refl)
 
-  pub valid_below : (rows : List (Row C)) (i : ℕ) → AllThere rows → is_valid (state_in rows i) ≡ true → i < 65536
-  valid_below rows i there valid = let fits = (valid_fits rows i there valid).1 in omega (arith, fits)
-
   -- between a row and the next one there is none
   pub none_between : (rows : List (Row C)) (last index : ℕ) → IsIndexAfter rows last (Some index) → (i : ℕ) → last < i → i < index → is_valid (state_in rows i) ≡ false
   none_between rows last index after i low high = ap (λ o. is_valid (state_seen o)) (after.2 i low high)
@@ -103,13 +83,13 @@ module _ {C : Type 0} where
   pub none_above : (rows : List (Row C)) (last : ℕ) → IsIndexAfter rows last None → (i : ℕ) → last < i → is_valid (state_in rows i) ≡ false
   none_above rows last after i low = ap (λ o. is_valid (state_seen o)) (after i low)
 
-  -- no row has the index 0
-  pub no_row_0 : (rows : List (Row C)) → AllThere rows → row_in rows 0 ≡ None
-  no_row_0 rows there = by_row (row_in rows 0) refl
+  -- no row has the number 0
+  pub no_row_0 : (table : ControlTable) (rows : List (Row C)) → AllThere table rows → row_in rows 0 ≡ None
+  no_row_0 table rows there = by_row (row_in rows 0) refl
     where
       by_row : (o : Option (Row C)) → row_in rows 0 ≡ o → o ≡ None
       by_row None e = refl
-      by_row (Some row) e = let is = (found_there rows 0 row there e).0 in absurd (cc)
+      by_row (Some row) e = let is = (row_fits table rows 0 row there e).0 in absurd (omega (arith, is))
 
   abbrev pub with_w : C → Row C → Row C
   with_w w row = record { index = row.index; state = row.state; columns = w }

@@ -4,6 +4,7 @@ use Rattle.std.specs.Prelude.{IfSome, IfNone}
 use Rattle.std.specs.Borrow.{MutBor}
 use Rattle.std.proofs.Math.Numerals.{one-add}
 use Rattle.std.proofs.lemmas.List.Folds.{find_at}
+use Rattle.rm_model.specs.ControlTable.{ControlTable}
 use Rattle.rm_status.specs.declared.row.Row.{Row}
 use Rattle.rm_status.specs.Rows.{place_in, columns_seen, columns_in, AllAbove, Rising, AllThere, AreControlRows, with_columns, with_columns_at, with_state_at}
 use Rattle.rm_model.specs.declared.row.State.{State}
@@ -43,13 +44,13 @@ module _ {C : Type 0} where
   rising-with (r ∷ rows) zero w h = h
   rising-with (r ∷ rows) (suc k) w h = (above-with r.index rows k w h.0, rising-with rows k w h.1)
 
-  there-with : (rows : List (Row C)) (k : ℕ) (w : C) → AllThere rows → AllThere (with_columns_at rows k w)
-  there-with [] k w h = h
-  there-with (r ∷ rows) zero w h = h
-  there-with (r ∷ rows) (suc k) w h = (h.0, there-with rows k w h.1)
+  there-with : (table : ControlTable) (rows : List (Row C)) (k : ℕ) (w : C) → AllThere table rows → AllThere table (with_columns_at rows k w)
+  there-with table [] k w h = h
+  there-with table (r ∷ rows) zero w h = h
+  there-with table (r ∷ rows) (suc k) w h = (h.0, there-with table rows k w h.1)
 
-  pub rows-with : (rows : List (Row C)) (k : ℕ) (w : C) → AreControlRows rows → AreControlRows (with_columns_at rows k w)
-  rows-with rows k w h = (rising-with rows k w h.0, there-with rows k w h.1)
+  pub rows-with : (table : ControlTable) (rows : List (Row C)) (k : ℕ) (w : C) → AreControlRows table rows → AreControlRows table (with_columns_at rows k w)
+  rows-with table rows k w h = (rising-with rows k w h.0, there-with table rows k w h.1)
 
   abbrev Found : List (Row C) → ℕ → Option (MutBor C) → Type 0
   Found rows i r = IfSome r (λ c. columns_in rows i ≡ Some c.now) × IfNone r (columns_in rows i ≡ None)

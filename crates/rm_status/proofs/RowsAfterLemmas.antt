@@ -1,6 +1,6 @@
 -- The rows of a control table after each act.
 use Rattle.std.proofs.Common.{◌≡◌, ℕ, List, [], ◌∷◌, Bool, true, false, cond, not, ◌&&◌, Option, Some, None, refl, sym, ap, subst, ◌∙◌, nat_eq, find, option_map}
-use Rattle.std.specs.Prelude.{ℤ, unwrap_or}
+use Rattle.std.specs.Prelude.{ℤ, is_some, unwrap_or}
 use Rattle.std.specs.Option.{option_or, option_and_then}
 use Rattle.std.specs.Str.{bytes_eq}
 use Rattle.std.proofs.lemmas.Option.{none-some, same_Some}
@@ -13,17 +13,18 @@ use Rattle.rm_model.specs.declared.row.Ask.TheVariants.{Nothing, Destroy}
 use Rattle.rm_model.specs.declared.place.Place.{Place}
 use Rattle.rm_model.specs.declared.place.Place.TheVariants.{Outside, Entry, Column, Cell}
 use Rattle.rm_model.specs.Journal.{Act, Frame, Assignments, passes, assigns, samples, Journal, frames_in, value_given}
-use Rattle.rm_model.specs.ControlTable.{ControlTable}
+use Rattle.rm_model.specs.ControlTable.{row_index, ControlTable}
 use Rattle.rm_model.specs.ControlRows.{Beginning, cell_name, value_ask, set_ask, act_ask, next_state, is_absent, is_valid, state_of, set_value, stays_valid, since}
-use Rattle.rm_model.specs.Judgement.{Bindings, place_of, place_behind, value_fault, writable_kind, alone_fault, column_kind, is_sound}
+use Rattle.rm_model.specs.Judgement.{Bindings, place_in, place_of, place_behind, value_fault, writable_kind, alone_fault, column_kind, is_sound}
 use Rattle.rm_model.specs.Alike.{HasSameColumns}
 use Rattle.rm_model.proofs.Tables.{behind_front}
 use Rattle.rm_status.specs.declared.row.Row.{Row}
-use Rattle.rm_status.specs.Rows.{row_in, row_number, rows_before, state_seen, columns_seen, state_in, columns_in, AreControlRows}
+use Rattle.rm_status.specs.Rows.{row_in, number_in, rows_before, state_seen, columns_seen, state_in, columns_in, AreControlRows}
 use Rattle.rm_status.specs.Change.{changed_row}
 use Rattle.rm_status.specs.Commit.{put_at, put_all, row_after}
-use Rattle.rm_status.specs.Indexes.{is_index_in}
-use Rattle.rm_status.specs.RowsAfter.{is_one_number, AreRowsAfter}
+use Rattle.rm_status.specs.Indexes.{has_number, is_index_in}
+use Rattle.rm_status.specs.RowsAfter.{is_numbered, AreRowsAfter}
+use Rattle.rm_status.proofs.RowsBefore.{state_before}
 use Rattle.rm_status.proofs.After.{alike_after}
 use Rattle.rm_status.proofs.Held.{held_is}
 use Rattle.rm_status.proofs.Puts.{AllFine}
@@ -31,22 +32,24 @@ use Rattle.rm_status.proofs.Puts.{AllFine}
 -- A name that isn't that of a cell has no fault alone only outside the table, so that a Set with which nothing is wrong
 -- makes no row whose index isn't one number.
 
-place_other : (entry : List ℕ) (column : ℕ) (index : List ℕ) → is_one_number index ≡ false → place_of entry (cell_name entry column index) ≡ Column column
-place_other entry column [] other = ap place_behind (behind_front entry (column ∷ []))
-place_other entry column (n ∷ []) other = absurd (cc)
-place_other entry column (n ∷ m ∷ more) other = ap place_behind (behind_front entry (column ∷ n ∷ m ∷ more))
+place_other : (t : ControlTable) (column : ℕ) (index : List ℕ) → is_numbered t index ≡ false → place_of t (cell_name t.entry column index) ≡ Column column
+place_other t column index other = ap (place_behind t) (behind_front t.entry (column ∷ index)) ∙ by_number (t.indexing.number_of index) other
+  where
+    by_number : (o : Option ℕ) → is_some o ≡ false → place_in column o ≡ Column column
+    by_number None none = refl
+    by_number (Some n) none = absurd (cc)
 
 never_none : (o : Option ErrorStatus) → option_or o (Some NoCreation) ≡ None → ⊥
 never_none None e = cc
 never_none (Some x) e = cc
 
-none_given : (t : ControlTable) (column : ℕ) (index : List ℕ) → is_one_number index ≡ false → (bs : Bindings) → AllFine t bs → value_given bs (cell_name t.entry column index) ≡ None
+none_given : (t : ControlTable) (column : ℕ) (index : List ℕ) → is_numbered t index ≡ false → (bs : Bindings) → AllFine t bs → value_given bs (cell_name t.entry column index) ≡ None
 none_given t column index other [] fine = refl
 none_given t column index other (b ∷ more) fine =
     elim (bytes_eq b.name (cell_name t.entry column index)) as (λ s. bytes_eq b.name (cell_name t.entry column index) ≡ s → option_map (λ a. a.value) (cond s (Some b) (find (λ a. bytes_eq a.name (cell_name t.entry column index)) more)) ≡ None) [
       | true ↦ λ e.
           let is : b.name ≡ cell_name t.entry column index = (bytes_eq-Decides b.name (cell_name t.entry column index)).0 e in
-          let place : place_of t.entry b.name ≡ Column column = ap (place_of t.entry) is ∙ place_other t.entry column index other in
+          let place : place_of t b.name ≡ Column column = ap (place_of t) is ∙ place_other t column index other in
           let fault : alone_fault t (Column column) b.value ≡ None = ap (λ p. alone_fault t p b.value) (sym place) ∙ fine.0 in
           absurd (never_none (value_fault (writable_kind t column) b.value) fault)
       | false ↦ λ _. none_given t column index other more fine.1
@@ -80,45 +83,47 @@ module _ {C : Type 0} (t : ControlTable) (beginning : Beginning) (set_to : C →
   -- a sample changes no row of a table that isn't sampled
   pub rows_samples : t.is_sampled ≡ false → (rows : List (Row C)) (journal : Journal) (moment alarm : ℕ) (reading : Option ℤ) → AreRowsAfter t beginning set_to rows journal → AreRowsAfter t beginning set_to rows (samples moment alarm reading ∷ journal)
   rows_samples unsampled rows journal moment alarm reading is = record {
-    alike = record { states = λ i. is.alike.states i ∙ sym (state_sampled t beginning unsampled journal moment alarm reading (i ∷ [])); columns = is.alike.columns };
+    alike = record { states = λ i. is.alike.states i ∙ sym (state_sampled t beginning unsampled journal moment alarm reading (row_index t i)); columns = is.alike.columns };
     others = λ index other. state_sampled t beginning unsampled journal moment alarm reading index ∙ is.others index other;
   }
 
   -- a change of the rows' other data leaves what their columns were set to
   module _ (change : ℕ → State → C → C) (keeps : (index : ℕ) (state : State) (columns : C) (n : ℕ) → set_to (change index state columns) n ≡ set_to columns n) (rows new : List (Row C)) (changed : (i : ℕ) → row_in new i ≡ option_map (changed_row change) (row_in rows i)) where
-    pub same_before : rows_before set_to new ≡ rows_before set_to rows
+    pub same_before : rows_before t set_to new ≡ rows_before t set_to rows
     same_before = λ d. record {
-      state = λ index. (ap state_seen (changed (row_number index)) ∙ state_kept change (row_in rows (row_number index))) d;
-      set = λ index column. (ap (λ o. option_and_then (λ c. set_to c column) (columns_seen o)) (changed (row_number index)) ∙ set_kept set_to change keeps (row_in rows (row_number index)) column) d;
+      state = λ index. (ap state_seen (changed (number_in t index)) ∙ state_kept change (row_in rows (number_in t index))) d;
+      set = λ index column. (ap (λ o. option_and_then (λ c. set_to c column) (columns_seen o)) (changed (number_in t index)) ∙ set_kept set_to change keeps (row_in rows (number_in t index)) column) d;
     }
 
     pub rows_changed : (journal : Journal) → AreRowsAfter t beginning set_to rows journal → AreRowsAfter t beginning set_to new journal
     rows_changed journal is = record {
       alike = record {
-        states = λ i. ap state_seen (changed i) ∙ state_kept change (row_in rows i) ∙ is.alike.states i;
-        columns = λ i there.
-            let was : is_absent (state_in rows i) ≡ false = ap is_absent (sym (ap state_seen (changed i) ∙ state_kept change (row_in rows i))) ∙ there in
-            let same : (n : ℕ) → option_and_then (λ c. set_to c n) (columns_in new i) ≡ option_and_then (λ c. set_to c n) (columns_in rows i) = λ n. ap (λ o. option_and_then (λ c. set_to c n) (columns_seen o)) (changed i) ∙ set_kept set_to change keeps (row_in rows i) n in
-            subst (λ (f : ℕ → Option Val). HasSameColumns t f (set_value t beginning journal (i ∷ []))) (sym (λ d n. same n d)) (is.alike.columns i was);
+        states = λ i. ap (λ before. before.state (row_index t i)) same_before ∙ is.alike.states i;
+        columns = λ i there. subst (λ (before : Beginning). HasSameColumns t (before.set (row_index t i)) (set_value t beginning journal (row_index t i))) (sym same_before)
+            (is.alike.columns i (ap (λ before. is_absent (before.state (row_index t i))) (sym same_before) ∙ there));
       };
       others = is.others;
     }
 
   -- the indexes of the rows are those of the rows after the journal
-  pub is_row_after : (rows : List (Row C)) (journal : Journal) → AreControlRows rows → AreRowsAfter t beginning set_to rows journal → (index : List ℕ) → not (is_absent (state_of t beginning journal index)) ≡ is_index_in rows index
-  is_row_after rows journal held is [] = ap (λ s. not (is_absent s)) (is.others [] refl)
-  is_row_after rows journal held is (n ∷ []) = ap (λ s. not (is_absent s)) (sym (is.alike.states n)) ∙ held_is rows n held.1
-  is_row_after rows journal held is (n ∷ m ∷ more) = ap (λ s. not (is_absent s)) (is.others (n ∷ m ∷ more) refl)
+  pub is_row_after : (rows : List (Row C)) (journal : Journal) → AreControlRows t rows → AreRowsAfter t beginning set_to rows journal → (index : List ℕ) → not (is_absent (state_of t beginning journal index)) ≡ is_index_in t rows index
+  is_row_after rows journal held is index = by_number (t.indexing.number_of index) refl
+    where
+      by_number : (o : Option ℕ) → t.indexing.number_of index ≡ o → not (is_absent (state_of t beginning journal index)) ≡ has_number rows o
+      by_number None e = ap (λ s. not (is_absent s)) (is.others index (ap is_some e))
+      by_number (Some n) e =
+          subst (λ (at : List ℕ). not (is_absent (state_of t beginning journal at)) ≡ is_some (row_in rows n)) (t.indexed.one_to_one.forth index n e)
+          (ap (λ s. not (is_absent s)) (sym (is.alike.states n) ∙ state_before t set_to rows n) ∙ held_is t rows n held.1)
 
   -- a Set with which nothing is wrong
   module _ (with_column : C → ℕ → Val → C) (blank : ℕ → C)
       (set_with : (c : C) (n m : ℕ) (v : Val) → value_fault (column_kind t n) v ≡ None → set_to (with_column c n v) m ≡ cond (nat_eq n m) (Some v) (set_to c m))
-      (blank_alike : (i : ℕ) → HasSameColumns t (set_to (blank i)) (t.rules.first (i ∷ [])))
+      (blank_alike : (i : ℕ) → HasSameColumns t (set_to (blank i)) (t.rules.first (row_index t i)))
       (sound : is_sound t ≡ true)
       (journal : Journal) (moment : ℕ) (bs : Bindings) (values : Assignments)
       (gives : (name : List ℕ) → value_given values name ≡ value_given bs name)
       (fine : AllFine t bs)
-      (rows new : List (Row C)) (held : AreControlRows rows)
+      (rows new : List (Row C)) (held : AreControlRows t rows)
       (is : AreRowsAfter t beginning set_to rows journal)
       (after : (i : ℕ) → row_in new i ≡ row_after t with_column blank bs i (row_in rows i)) where
     pub rows_assigns : AreRowsAfter t beginning set_to new (assigns moment values ∷ journal)
@@ -172,13 +177,13 @@ module _ {C D : Type 0} (t : ControlTable) (with_column : C → ℕ → Val → 
 
   pub all_leave : (bs : Bindings) (i : ℕ) (c : C) → other (put_all t with_column blank bs i c) ≡ other c
   all_leave [] i c = refl
-  all_leave (b ∷ more) i c = put_leaves i (place_of t.entry b.name) b.value (put_all t with_column blank more i c) ∙ all_leave more i c
+  all_leave (b ∷ more) i c = put_leaves i (place_of t b.name) b.value (put_all t with_column blank more i c) ∙ all_leave more i c
 
 -- a row that is there after a Set has its next state and the bindings in its columns
 pub is_after : {C : Type 0} (t : ControlTable) (with_column : C → ℕ → Val → C) (blank : ℕ → C) (bs : Bindings) (i : ℕ) (o : Option (Row C)) (row : Row C) → row_after t with_column blank bs i o ≡ Some row
-    → (row.state ≡ next_state (set_ask t bs (i ∷ [])) (state_seen o)) × (row.columns ≡ put_all t with_column blank bs i (unwrap_or (columns_seen o) (blank i)))
+    → (row.state ≡ next_state (set_ask t bs (row_index t i)) (state_seen o)) × (row.columns ≡ put_all t with_column blank bs i (unwrap_or (columns_seen o) (blank i)))
 is_after {C} t with_column blank bs i o row is =
-    let next : State = next_state (set_ask t bs (i ∷ [])) (state_seen o) in
+    let next : State = next_state (set_ask t bs (row_index t i)) (state_seen o) in
     let made : Row C = record { index = i; state = next; columns = put_all t with_column blank bs i (unwrap_or (columns_seen o) (blank i)) } in
     let same : made ≡ row = there made (is_absent next) is in
     (ap (λ r. r.state) (sym same), ap (λ r. r.columns) (sym same))

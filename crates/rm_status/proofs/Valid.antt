@@ -1,10 +1,10 @@
 -- How many rows are valid, before and after a Set.
-use Rattle.std.proofs.Common.{◌≡◌, ℕ, ◌<◌, ◌≤◌, zero, suc, Bool, true, false, cond, ◌||◌, ◌&&◌, List, [], ◌∷◌, length, filter, Option, Some, None, find, refl, sym, ap, subst, ◌∙◌, arith, get_or, nat_eq}
+use Rattle.std.proofs.Common.{◌≡◌, ◌^◌, ℕ, ◌<◌, ◌≤◌, zero, suc, Bool, true, false, cond, ◌||◌, ◌&&◌, List, [], ◌∷◌, length, filter, Option, Some, None, find, refl, sym, ap, subst, ◌∙◌, arith, get_or, nat_eq}
 use Rattle.std.specs.Option.{option_map}
 use borrow.Author.Tests.{eqb-true}
 use Rattle.rm_val.specs.Val.{Val}
 use Rattle.rm_model.specs.Journal.{Assignment}
-use Rattle.rm_model.specs.ControlTable.{ControlTable}
+use Rattle.rm_model.specs.ControlTable.{row_index, ControlTable}
 use Rattle.rm_model.specs.ControlRows.{Beginning, value_ask, next_state, is_valid}
 use Rattle.rm_model.specs.Judgement.{Bindings, nothing_bound, name_at, place_of, count_below}
 use Rattle.rm_model.specs.Reserves.{state_after, makes_valid, activates_at, activates, count_valid, count_valid_after}
@@ -15,6 +15,7 @@ use Rattle.rm_model.specs.declared.place.Place.TheVariants.{Outside, Entry, Colu
 use Rattle.rm_status.specs.declared.row.Row.{Row}
 use Rattle.rm_status.specs.Rows.{row_in, state_seen, state_in, rows_before, Rising, AreControlRows}
 use Rattle.rm_status.specs.Commit.{is_cell, is_status}
+use Rattle.rm_status.proofs.RowsBefore.{valid_before}
 use Rattle.rm_status.proofs.PlaceLemmas.{is_cell_name}
 use Rattle.rm_status.proofs.RowEdits.{above_none}
 use Rattle.rm_status.proofs.Held.{AllBelow, count_none, count_one, count_or, all_below}
@@ -42,33 +43,33 @@ module _ (t : ControlTable) (before : Beginning) (bs : Bindings) where
         | false ↦ λ e more. let rest = place_found p l a more in (suc rest.0, omega (arith, rest.1), rest.2)
       ] refl h
 
-  at_status : (row : ℕ) (p : Place) → is_cell t.status row p ≡ true → makes_valid t before bs (row ∷ []) ≡ true → activates_at t before bs p ≡ true
+  at_status : (row : ℕ) (p : Place) → is_cell t.status row p ≡ true → makes_valid t before bs (row_index t row) ≡ true → activates_at t before bs p ≡ true
   at_status row Outside here made = absurd (cc)
   at_status row Entry here made = absurd (cc)
   at_status row (Column c) here made = absurd (cc)
   at_status row (Cell c number) here made =
-      elim (nat_eq number row) as (λ x. nat_eq number row ≡ x → (x && nat_eq c t.status) ≡ true → (nat_eq c t.status && makes_valid t before bs (number ∷ [])) ≡ true) [
-        | true ↦ λ e is. let made_there : makes_valid t before bs (number ∷ []) ≡ true = subst (λ n. makes_valid t before bs (n ∷ []) ≡ true) (sym (eqb-true number row e)) made in rw (is, made_there) refl
+      elim (nat_eq number row) as (λ x. nat_eq number row ≡ x → (x && nat_eq c t.status) ≡ true → (nat_eq c t.status && makes_valid t before bs (row_index t number)) ≡ true) [
+        | true ↦ λ e is. let made_there : makes_valid t before bs (row_index t number) ≡ true = subst (λ n. makes_valid t before bs (row_index t n) ≡ true) (sym (eqb-true number row e)) made in rw (is, made_there) refl
         | false ↦ λ _ no. absurd (cc)
       ] refl here
 
-  no_more : ((k : ℕ) → k < length bs → activates t before bs k ≡ false) → (row : ℕ) → is_valid (state_after t before bs (row ∷ [])) ≡ true → is_valid (before.state (row ∷ [])) ≡ true
+  no_more : ((k : ℕ) → k < length bs → activates t before bs k ≡ false) → (row : ℕ) → is_valid (state_after t before bs (row_index t row)) ≡ true → is_valid (before.state (row_index t row)) ≡ true
   no_more none row after =
-      elim (is_valid (before.state (row ∷ []))) as (λ x. is_valid (before.state (row ∷ [])) ≡ x → x ≡ true) [
+      elim (is_valid (before.state (row_index t row))) as (λ x. is_valid (before.state (row_index t row)) ≡ x → x ≡ true) [
         | true ↦ λ _. refl
         | false ↦ λ was.
-            let made : makes_valid t before bs (row ∷ []) ≡ true = rw (after, was) refl in
-            let given = asked t.status_kind (find (is_status t row) bs) (before.state (row ∷ [])) after was in
+            let made : makes_valid t before bs (row_index t row) ≡ true = rw (after, was) refl in
+            let given = asked t.status_kind (find (is_status t row) bs) (before.state (row_index t row)) after was in
             let at = place_found (is_status t row) bs given.0 given.1 in
-            let here : is_cell t.status row (place_of t.entry (name_at bs at.0)) ≡ true = is_cell_name t.entry (name_at bs at.0) t.status row ∙ at.2 in
-            let yes : activates t before bs at.0 ≡ true = at_status row (place_of t.entry (name_at bs at.0)) here made in
+            let here : is_cell t.status row (place_of t (name_at bs at.0)) ≡ true = is_cell_name t t.entry (name_at bs at.0) t.status row ∙ at.2 in
+            let yes : activates t before bs at.0 ≡ true = at_status row (place_of t (name_at bs at.0)) here made in
             let no : activates t before bs at.0 ≡ false = none at.0 at.1 in
             absurd (cc)
       ] refl
 
   -- where no binding makes a row valid, no more rows are valid than before
-  pub none_activated : ((k : ℕ) → k < length bs → activates t before bs k ≡ false) → count_valid_after t before bs ≤ count_valid before
-  none_activated none = count_less (λ row. is_valid (state_after t before bs (row ∷ []))) (λ row. is_valid (before.state (row ∷ []))) 65536 (no_more none)
+  pub none_activated : ((k : ℕ) → k < length bs → activates t before bs k ≡ false) → count_valid_after t before bs ≤ count_valid t before
+  none_activated none = count_less (λ row. is_valid (state_after t before bs (row_index t row))) (λ row. is_valid (before.state (row_index t row))) (2 ^ 32) (no_more none)
 
 module _ {C : Type 0} where
   pub valid-count : (rows : List (Row C)) (n : ℕ) → Rising rows → AllBelow n rows → length (filter (λ r. is_valid r.state) rows) ≡ count_below (λ i. is_valid (state_in rows i)) n
@@ -94,8 +95,10 @@ module _ {C : Type 0} where
       not_row v i = elim (nat_eq r.index i) as (λ t. nat_eq r.index i ≡ t → is_valid (state_seen (cond t (Some r) (row_in rows i))) ≡ is_valid (state_in rows i)) [ true ↦ λ e. v ∙ sym (no_other i e) | false ↦ λ _. refl ] refl
 
   -- how many rows are valid
-  pub valid-counted : (set_to : C → ℕ → Option Val) (items now : List (Row C)) → items ≡ now → AreControlRows items → length (filter (λ r. is_valid r.state) items) ≡ count_valid (rows_before set_to now)
-  valid-counted set_to items now view h = valid-count items 65536 h.0 (all_below items h.1) ∙ ap (λ l. count_valid (rows_before set_to l)) view
+  pub valid-counted : (table : ControlTable) (set_to : C → ℕ → Option Val) (items now : List (Row C)) → items ≡ now → AreControlRows table items → length (filter (λ r. is_valid r.state) items) ≡ count_valid table (rows_before table set_to now)
+  valid-counted table set_to items now view h =
+      valid-count items (2 ^ 32) h.0 (all_below table items h.1)
+      ∙ sym (valid_before table set_to items) ∙ ap (λ l. count_valid table (rows_before table set_to l)) view
 
 pub filter-short : {X : Type 0} (p : X → Bool) (xs : List X) → length (filter p xs) ≤ length xs
 filter-short p [] = omega arith

@@ -1,7 +1,7 @@
 -- What a Set makes of the rows of a control table.
 use Rattle.std.specs.Prelude.{ℕ, zero, suc, List, [], ◌∷◌, ◌+◌, Bool, false, Option, Some, None, nat_eq, ◌&&◌, not, is_none, unwrap_or, if◌then◌else◌}
 use Rattle.rm_val.specs.Val.{Val}
-use Rattle.rm_model.specs.ControlTable.{ControlTable}
+use Rattle.rm_model.specs.ControlTable.{ControlTable, row_index}
 use Rattle.std.specs.Str.{bytes_eq}
 use Rattle.rm_model.specs.Journal.{Assignment}
 use Rattle.rm_model.specs.ControlRows.{cell_name, set_ask, next_state, is_absent}
@@ -20,19 +20,19 @@ is_cell column row elsewhere = false
 
 -- whether a binding is that of the status of a row
 abbrev pub is_status : ControlTable → ℕ → Assignment → Bool
-is_status table row binding = bytes_eq binding.name (cell_name table.entry table.status (row ∷ []))
+is_status table row binding = bytes_eq binding.name (cell_name table.entry table.status (row_index table row))
 
 -- how many rows the binding at a place makes by what the rows were before, one or none: the first one of the row's status does
 abbrev pub made_by : ControlTable → (ℕ → State) → Bindings → Bool → Place → ℕ
 made_by table state bindings again (Cell column row) =
-    if nat_eq column table.status && (not again && is_made (state row) (set_ask table bindings (row ∷ []))) then 1 else 0
+    if nat_eq column table.status && (not again && is_made (state row) (set_ask table bindings (row_index table row))) then 1 else 0
 made_by table state bindings again elsewhere = 0
 
 -- how many rows the bindings at the first places make
 abbrev pub count_made : ControlTable → (ℕ → State) → Bindings → ℕ → ℕ
 count_made table state bindings zero = 0
 count_made table state bindings (suc k) =
-    count_made table state bindings k + made_by table state bindings (is_again bindings k) (place_of table.entry (name_at bindings k))
+    count_made table state bindings k + made_by table state bindings (is_again bindings k) (place_of table (name_at bindings k))
 
 module _ {C : Type 0} (table : ControlTable) (with_column : C → ℕ → Val → C) (blank : ℕ → C) where
   -- the columns of a row with a binding in them, by where its name stands
@@ -44,7 +44,7 @@ module _ {C : Type 0} (table : ControlTable) (with_column : C → ℕ → Val �
   -- the columns of a row with the bindings in them, so that of each variable the first one counts
   abbrev pub put_all : Bindings → ℕ → C → C
   put_all [] i columns = columns
-  put_all (binding ∷ more) i columns = put_at i (place_of table.entry binding.name) binding.value (put_all more i columns)
+  put_all (binding ∷ more) i columns = put_at i (place_of table binding.name) binding.value (put_all more i columns)
 
   -- a row, if it isn't absent
   abbrev pub if_there : Row C → Option (Row C)
@@ -54,21 +54,21 @@ module _ {C : Type 0} (table : ControlTable) (with_column : C → ℕ → Val �
   abbrev pub row_after : Bindings → ℕ → Option (Row C) → Option (Row C)
   row_after bindings i row = if_there (record {
     index = i;
-    state = next_state (set_ask table bindings (i ∷ [])) (state_seen row);
+    state = next_state (set_ask table bindings (row_index table i)) (state_seen row);
     columns = put_all bindings i (unwrap_or (columns_seen row) (blank i));
   })
 
   -- the row that a Set makes, before its bindings are in it
   abbrev pub made_row : Bindings → ℕ → Option (Row C)
   made_row bindings i =
-      if is_made Absent (set_ask table bindings (i ∷ []))
-      then Some (record { index = i; state = next_state (set_ask table bindings (i ∷ [])) Absent; columns = blank i })
+      if is_made Absent (set_ask table bindings (row_index table i))
+      then Some (record { index = i; state = next_state (set_ask table bindings (row_index table i)) Absent; columns = blank i })
       else None
 
   -- how many rows the binding at a place makes among rows, one or none
   abbrev pub made_now : List (Row C) → Bindings → Place → ℕ
   made_now rows bindings (Cell column row) =
-      if nat_eq column table.status && (is_made Absent (set_ask table bindings (row ∷ [])) && is_none (row_in rows row)) then 1 else 0
+      if nat_eq column table.status && (is_made Absent (set_ask table bindings (row_index table row)) && is_none (row_in rows row)) then 1 else 0
   made_now rows bindings elsewhere = 0
 
   -- a row with the bindings in its columns
@@ -77,4 +77,4 @@ module _ {C : Type 0} (table : ControlTable) (with_column : C → ℕ → Val �
 
   -- a row in its next state
   abbrev pub settle_row : Bindings → Row C → Option (Row C)
-  settle_row bindings row = if_there (record row { state = next_state (set_ask table bindings (row.index ∷ [])) row.state })
+  settle_row bindings row = if_there (record row { state = next_state (set_ask table bindings (row_index table row.index)) row.state })

@@ -5,7 +5,7 @@ use Rattle.rm_model.specs.Cells.{Table}
 use Rattle.rm_model.specs.ControlTable.{ControlTable, default_of}
 use Rattle.rm_model.specs.ControlCells.{control_value}
 use Rattle.rm_status.specs.declared.row.Row.{Row}
-use Rattle.rm_status.specs.Rows.{row_in, row_number}
+use Rattle.rm_status.specs.Rows.{row_in, number_in}
 use Rattle.rm_status.specs.Indexes.{is_index_in}
 
 module _ {C : Type 0} (table : ControlTable) (set_to : C → ℕ → Option Val) where
@@ -23,6 +23,6 @@ module _ {C : Type 0} (table : ControlTable) (set_to : C → ℕ → Option Val)
   kept_cells columns others rows = record {
     entry = table.entry;
     columns = columns;
-    is_row = is_index_in rows;
-    value = λ column index. kept_value (row_in rows (row_number index)) (others column index) column;
+    is_row = is_index_in table rows;
+    value = λ column index. kept_value (row_in rows (number_in table index)) (others column index) column;
   }

@@ -1,8 +1,9 @@
--- The rows that a control table holds, in order of their indexes.
-use Rattle.std.specs.Prelude.{◌≡◌, ℕ, zero, suc, List, [], ◌∷◌, ◌<◌, true, false, Option, Some, None, find, nat_eq, if◌then◌else◌}
+-- The rows that a control table holds, in order of their numbers.
+use Rattle.std.specs.Prelude.{◌≡◌, ℕ, zero, suc, List, [], ◌∷◌, ◌<◌, true, false, Option, Some, None, unwrap_or, find, nat_eq, if◌then◌else◌}
 use Rattle.std.specs.Option.{option_and_then}
 use Rattle.std.specs.List.{position_or_len}
 use Rattle.rm_val.specs.Val.{Val}
+use Rattle.rm_model.specs.ControlTable.{ControlTable}
 use Rattle.rm_model.specs.ControlRows.{Beginning, is_absent}
 use Rattle.rm_model.specs.Judgement.{is_row_number}
 use Rattle.rm_model.specs.declared.row.State.{State}
@@ -14,8 +15,12 @@ abbrev pub row_number : List ℕ → ℕ
 row_number (number ∷ []) = number
 row_number index = 0
 
+-- the number of the row whose index some numbers can be, and 0, which is no row's, where they can be none
+abbrev pub number_in : ControlTable → List ℕ → ℕ
+number_in table index = unwrap_or (table.indexing.number_of index) 0
+
 module _ {C : Type 0} where
-  -- the row with an index
+  -- the row with a number
   abbrev pub row_in : List (Row C) → ℕ → Option (Row C)
   row_in rows i = find (λ row. nat_eq row.index i) rows
 
@@ -38,32 +43,32 @@ module _ {C : Type 0} where
   columns_in rows i = columns_seen (row_in rows i)
 
   -- the rows as a Set finds them
-  abbrev pub rows_before : (C → ℕ → Option Val) → List (Row C) → Beginning
-  rows_before set_to rows = record {
-    state = λ index. state_in rows (row_number index);
-    set = λ index column. option_and_then (λ columns. set_to columns column) (columns_in rows (row_number index));
+  abbrev pub rows_before : ControlTable → (C → ℕ → Option Val) → List (Row C) → Beginning
+  rows_before table set_to rows = record {
+    state = λ index. state_in rows (number_in table index);
+    set = λ index column. option_and_then (λ columns. set_to columns column) (columns_in rows (number_in table index));
   }
 
   abbrev pub AllAbove : ℕ → List (Row C) → Type 0
   AllAbove i [] = Unit {0}
   AllAbove i (row ∷ rows) = (i < row.index) × AllAbove i rows
 
-  -- the indexes rise
+  -- the numbers rise
   abbrev pub Rising : List (Row C) → Type 0
   Rising [] = Unit {0}
   Rising (row ∷ rows) = AllAbove row.index rows × Rising rows
 
-  -- a row has an index that a row can have, and isn't absent
-  abbrev pub IsThere : Row C → Type 0
-  IsThere row = (is_row_number row.index ≡ true) × (is_absent row.state ≡ false)
+  -- a row has a number that a row can have, and isn't absent
+  abbrev pub IsThere : ControlTable → Row C → Type 0
+  IsThere table row = (is_row_number table row.index ≡ true) × (is_absent row.state ≡ false)
 
-  abbrev pub AllThere : List (Row C) → Type 0
-  AllThere [] = Unit {0}
-  AllThere (row ∷ rows) = IsThere row × AllThere rows
+  abbrev pub AllThere : ControlTable → List (Row C) → Type 0
+  AllThere table [] = Unit {0}
+  AllThere table (row ∷ rows) = IsThere table row × AllThere table rows
 
-  -- the rows of a control table: their indexes rise, from 1 to 65535, and none is absent
-  abbrev pub AreControlRows : List (Row C) → Type 0
-  AreControlRows rows = Rising rows × AllThere rows
+  -- the rows of a control table: their numbers rise, are such as rows can have, and none is absent
+  abbrev pub AreControlRows : ControlTable → List (Row C) → Type 0
+  AreControlRows table rows = Rising rows × AllThere table rows
 
   -- the rows with the columns of one of them set
   abbrev pub with_columns : List (Row C) → ℕ → C → List (Row C)
@@ -80,7 +85,7 @@ module _ {C : Type 0} where
   with_state_at (row ∷ rows) zero s = record row { state = s } ∷ rows
   with_state_at (row ∷ rows) (suc k) s = row ∷ with_state_at rows k s
 
-  -- the least index above one, if there is one
+  -- the least number of a row above one, if there is one
   abbrev pub IsIndexAfter : List (Row C) → ℕ → Option ℕ → Type 0
   IsIndexAfter rows at None = (i : ℕ) → at < i → row_in rows i ≡ None
   IsIndexAfter rows at (Some k) = (at < k) × ((row : Row C) × (row_in rows k ≡ Some row)) × ((i : ℕ) → at < i → i < k → row_in rows i ≡ None)

@@ -1,9 +1,10 @@
 // The rows of a control table, in the form in which a group keeps them.
-ghost use Rattle.std.specs.Prelude.{◌≡◌, ℕ, ◌≤◌, [], ◌∷◌, IfSome, None};
+ghost use Rattle.std.specs.Prelude.{◌≡◌, ℕ, ◌≤◌, length, drop, IfSome, None};
 ghost use Rattle.std.specs.Option.{option_map};
 ghost use Rattle.rm_val.specs.Val.{val_of};
 ghost use Rattle.rm_val.specs.Spellable.{HasSpelling};
-ghost use Rattle.rm_model.specs.Judgement.{column_kind, value_fault};
+ghost use Rattle.rm_model.specs.ControlTable.{row_index};
+ghost use Rattle.rm_model.specs.Judgement.{column_kind, value_fault, is_row_number};
 ghost use Rattle.rm_model.specs.Sheet.{columns_of};
 ghost use Rattle.rm_status.specs.Field.{shown_with};
 ghost use Rattle.rm_status.specs.RowForm.{RowForm};
@@ -43,13 +44,26 @@ pub trait ControlRow: Default + Drop {
     fn blank(index: u32) -> Self
         ensures { result ≡ form.blank index };
 
+    /// The index of the row that has a number.
+    fn index(number: u32) -> Oid
+        ensures { result ≡ row_index form.table number };
+
+    /// The number of the row whose index is what a name has from a place on. None where that can be the index of no row.
+    fn number(name: &Oid, from: usize) -> Option<u32>
+        requires { from ≤ length name.now }
+        ensures { result ≡ form.table.indexing.number_of (drop from name.now) };
+
+    /// Whether a row can have a number.
+    fn is_row(number: u32) -> bool
+        ensures { result ≡ is_row_number form.table number };
+
     /// Whether a column of a row can never be set.
     fn is_fixed(index: u32, column: u32) -> bool
-        ensures { result ≡ form.table.rules.is_fixed (index ∷ []) column };
+        ensures { result ≡ form.table.rules.is_fixed (row_index form.table index) column };
 
     /// Whether a row was there from the beginning and stays.
     fn stays(index: u32) -> bool
-        ensures { result ≡ form.table.rules.stays (index ∷ []) };
+        ensures { result ≡ form.table.rules.stays (row_index form.table index) };
 
     /// Sets a column to a value that it takes.
     fn put(&mut self, column: u32, value: &Value<'_>)
@@ -91,6 +105,18 @@ impl<R: ControlRow> Columns for R {
 
     fn most() -> usize {
         R::table().most
+    }
+
+    fn index(number: u32) -> Oid {
+        <R as ControlRow>::index(number)
+    }
+
+    fn number(name: &Oid, from: usize) -> Option<u32> {
+        <R as ControlRow>::number(name, from)
+    }
+
+    fn is_row(number: u32) -> bool {
+        <R as ControlRow>::is_row(number)
     }
 
     fn is_fixed(index: u32, column: u32) -> bool {

@@ -6,10 +6,13 @@ mod each;
 mod judge;
 mod valid;
 
-ghost use Rattle.std.specs.Prelude.{◌≡◌, ℕ, ◌<◌, ◌≤◌, ◌+◌, List, [], length, false, Option, Some, None, is_some, IfSome, OnSome, IfNone, IsTrue, position, find, nat_eq, nat_lt, if◌then◌else◌, slice_get};
+ghost use Rattle.std.specs.Prelude.{◌≡◌, ◌^◌, ℕ, ◌<◌, ◌≤◌, ◌+◌, List, [], length, false, Option, Some, None, is_some, IfSome, OnSome, IfNone, IsTrue, position, find, nat_eq, nat_lt, if◌then◌else◌, slice_get};
 ghost use Rattle.std.specs.Option.{option_copied};
 ghost use Rattle.std.specs.List.{position_or_len};
 ghost use Rattle.std.specs.Borrow.{sem};
+ghost use Rattle.std.specs.Ordering.{nat_cmp, is_lt};
+ghost use Rattle.std.specs.Cmp.Lexicographic.{slice_cmp};
+ghost use Rattle.rm_model.specs.ControlTable.{row_index};
 ghost use Rattle.rm_model.specs.ControlRows.{is_absent};
 ghost use Rattle.rm_model.specs.Judgement.{is_row_number, count_below};
 ghost use Rattle.rm_status.specs.declared.row.Row.{Row};
@@ -20,15 +23,13 @@ use crate::columns::Columns;
 use crate::row::Row;
 use arrayvec::ArrayVec;
 use rm_model::{State, StatusKind};
+use rm_val::Oid;
 use std::marker::Model;
 
 /// For how many rows of a control table there is room.
 pub const MAX_ROWS: usize = 32;
 
-/// The greatest index that a row of a control table may have.
-pub(crate) const MAX_INDEX: u32 = 65535;
-
-/// The rows of a control table, in order of their indexes.
+/// The rows of a control table, each under the number of its index, in order of these numbers and so of the indexes.
 #[derive(Drop)]
 pub struct Controls<C: Columns> {
     rows: ArrayVec<Row<C>, MAX_ROWS>,
@@ -44,7 +45,7 @@ impl<C: Columns> Model for Controls<C> {
 
     ghost view = { λ s. s.rows.items };
 
-    ghost invariant = { λ s. (s.kind ≡ C.table.status_kind) × AreControlRows s.rows.items };
+    ghost invariant = { λ s. (s.kind ≡ C.table.status_kind) × AreControlRows C.table s.rows.items };
 }
 
 impl<C: Columns> Controls<C> {
@@ -63,8 +64,8 @@ impl<C: Columns> Controls<C> {
     pub fn len(&self) -> usize
         ensures value { result ≡ length self.now }
         ensures most { result ≤ 32 }
-        ensures rows { AreControlRows self.now }
-        ensures counted { result ≡ count_below (λ row. is_some (row_in self.now row)) 65536 }
+        ensures rows { AreControlRows C.table self.now }
+        ensures counted { result ≡ count_below (λ row. is_some (row_in self.now row)) (2 ^ 32) }
     {
         self.rows.len()
     }
@@ -79,10 +80,10 @@ impl<C: Columns> Controls<C> {
         }
     }
 
-    /// A row, which has an index of at most 65535. None where there is no such row.
+    /// A row, which has a number that a row can have. None where there is no such row.
     pub fn row(&self, index: u32) -> Option<&Row<C>>
         ensures value { option_copied result ≡ row_in self.now index }
-        ensures index { OnSome result (index ≤ 65535) }
+        ensures index { OnSome result (IsTrue (is_row_number C.table index)) }
     {
         prove!(self.len() <= MAX_ROWS);
         self.find(index)
@@ -108,10 +109,10 @@ impl<C: Columns> Controls<C> {
         columns_at(&mut self.rows, place)
     }
 
-    /// The least index of a row above that one. None where there is no row above.
+    /// The least number of a row above that one. None where there is no row above.
     pub fn after(&self, index: u32) -> Option<u32>
         ensures least { IsIndexAfter self.now index result }
-        ensures rows { AreControlRows self.now }
+        ensures rows { AreControlRows C.table self.now }
     {
         let _ = &self.rows;
         match self.first_above(index) {
@@ -122,7 +123,7 @@ impl<C: Columns> Controls<C> {
 
     /// Puts in a row that there isn't yet, as one that a table has from the beginning.
     pub fn insert(&mut self, index: u32, state: State, columns: C)
-        requires index { IsTrue (is_row_number index) }
+        requires index { IsTrue (is_row_number C.table index) }
         requires there { is_absent state ≡ false }
         requires absent { row_in self.old index ≡ None }
         requires room { length self.old < C.table.most }
@@ -175,6 +176,18 @@ impl<C: Columns> Controls<C> {
             .position(|row| row.index == index)
     }
 
+    /// The first row whose index is above some numbers.
+    pub(crate) fn first_behind(&self, index: &Oid) -> Option<&Row<C>>
+        ensures value { option_copied result ≡ find (λ r. is_lt (slice_cmp nat_cmp index.now (row_index C.table r.index))) self.now }
+        ensures rows { AreControlRows C.table self.now }
+    {
+        let _ = &self.rows;
+        self.rows
+            .as_slice()
+            .iter()
+            .find(|row| is_behind(row, index))
+    }
+
     // The first row above an index.
     fn first_above(&self, index: u32) -> Option<&Row<C>>
         ensures { option_copied result ≡ find (λ r. nat_lt index r.index) self.now }
@@ -200,6 +213,13 @@ impl<C: Columns> Controls<C> {
             .iter()
             .position(|row| index < row.index)
     }
+}
+
+// Whether the index of a row is above some numbers.
+fn is_behind<C: Columns>(row: &Row<C>, index: &Oid) -> bool
+    ensures { result ≡ is_lt (slice_cmp nat_cmp index.now (row_index C.table row.now.index)) }
+{
+    index.compare(&C::index(row.index)).is_lt()
 }
 
 // Lends the columns of the row at a place.

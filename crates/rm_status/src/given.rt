@@ -4,12 +4,12 @@ ghost use Rattle.std.specs.Option.{option_or};
 ghost use Rattle.rm_val.specs.Val.{val_of};
 ghost use Rattle.rm_val.specs.Spellable.{HasSpelling};
 ghost use Rattle.rm_val.specs.declared.error.ErrorStatus.TheVariants.{InconsistentValue};
+ghost use Rattle.rm_model.specs.ControlTable.{row_index};
 ghost use Rattle.rm_model.specs.ControlRows.{set_ask};
 ghost use Rattle.rm_model.specs.Judgement.{IsFirstFault, place_of, writable_kind, value_fault, alone_fault, first_pass, is_again, row_fault, unless};
 ghost use Rattle.rm_status.specs.Commit.{put_at, put_all};
 
 use crate::columns::Columns;
-use crate::controls::MAX_INDEX;
 use crate::place::{is_cell, place_under};
 use crate::sheet::{check, may_always};
 use crate::steps::{
@@ -30,12 +30,12 @@ pub(crate) fn set_ask<C: Columns, A: Assigns>(
     requires kind { kind ≡ C.table.status_kind }
     requires entry { entry.now ≡ C.table.entry }
     requires status { status ≡ C.table.status }
-    ensures { result ≡ set_ask C.table (A.bindings set.now) (row ∷ []) }
+    ensures { result ≡ set_ask C.table (A.bindings set.now) (row_index C.table row) }
 {
     let count = set.count();
     for place in 0..count {
         let name = set.name(place);
-        if is_cell(&name, entry, status, row) {
+        if is_cell::<C>(&name, entry, status, row) {
             let value = set.value(place);
             return value_ask(kind, &value);
         }
@@ -97,7 +97,7 @@ pub(crate) fn alone_fault<C: Columns>(
         Place::Cell(column, row) => match column_value_fault::<C>(kind, status, column, value) {
             Some(fault) => Some(fault),
             None => {
-                if 1 <= row && row <= MAX_INDEX {
+                if C::is_row(row) {
                     None
                 } else {
                     Some(ErrorStatus::NoCreation)
@@ -123,7 +123,7 @@ pub(crate) fn judge_alone<C: Columns, A: Assigns>(
     for place in 0..count {
         let name = set.name(place);
         let value = set.value(place);
-        let at = place_under(&name, entry);
+        let at = place_under::<C>(&name, entry);
         match alone_fault::<C>(kind, status, at, &value) {
             None => {}
             Some(fault) => return wrong_at(place, fault),
@@ -147,7 +147,7 @@ pub(crate) fn row_fault<C: Columns>(
 ) -> Option<ErrorStatus>
     requires kind { kind ≡ C.table.status_kind }
     requires status { status ≡ C.table.status }
-    ensures { result ≡ row_fault C.table (row ∷ []) state asked ready crowded again column }
+    ensures { result ≡ row_fault C.table (row_index C.table row) state asked ready crowded again column }
 {
     if is_made(state, asked) && crowded {
         return Some(ErrorStatus::InconsistentName);
@@ -187,11 +187,11 @@ fn put_one<C: Columns>(
 )
     requires entry { entry.now ≡ C.table.entry }
     requires status { status ≡ C.table.status }
-    requires fine { alone_fault C.table (place_of C.table.entry name.now) (val_of value.now) ≡ None }
+    requires fine { alone_fault C.table (place_of C.table name.now) (val_of value.now) ≡ None }
     requires spelling { HasSpelling (val_of value.now) }
-    ensures { columns.new ≡ put_at C.table C.with_column C.blank_row row (place_of C.table.entry name.now) (val_of value.now) columns.old }
+    ensures { columns.new ≡ put_at C.table C.with_column C.blank_row row (place_of C.table name.now) (val_of value.now) columns.old }
 {
-    if let Place::Cell(column, number) = place_under(name, entry) {
+    if let Place::Cell(column, number) = place_under::<C>(name, entry) {
         if number == row && column != status {
             columns.put(column, value);
         }

@@ -1,33 +1,39 @@
 // Where names stand in a control table.
-ghost use Rattle.std.specs.Prelude.{◌≡◌, ◌∷◌, []};
+ghost use Rattle.std.specs.Prelude.{◌≡◌};
 ghost use Rattle.std.specs.Str.{bytes_eq};
+ghost use Rattle.rm_model.specs.Cells.{behind};
+ghost use Rattle.rm_model.specs.ControlTable.{row_index};
 ghost use Rattle.rm_model.specs.ControlRows.{cell_name};
-ghost use Rattle.rm_model.specs.Judgement.{place_of};
+ghost use Rattle.rm_model.specs.Judgement.{place_behind};
 ghost use Rattle.rm_status.specs.Commit.{is_cell};
 
+use crate::columns::Columns;
 use rm_model::Place;
 use rm_val::Oid;
 
-/// Where a name stands under the entry of a table.
-pub fn place_under(name: &Oid, entry: &Oid) -> Place
-    ensures { result ≡ place_of entry.now name.now }
+/// Where a name stands under an entry, by the indexes that the rows of a table can have.
+pub fn place_under<C: Columns>(name: &Oid, entry: &Oid) -> Place
+    ensures { result ≡ place_behind C.table (behind entry.now name.now) }
 {
     if !name.starts_with(entry) {
         return Place::Outside;
     }
     let at = entry.len();
-    match name.len() - at {
-        0 => Place::Entry,
-        2 => Place::Cell(name.at(at), name.at(at + 1)),
-        _ => Place::Column(name.at(at)),
+    if name.len() == at {
+        return Place::Entry;
+    }
+    let column = name.at(at);
+    match C::number(name, at + 1) {
+        Some(row) => Place::Cell(column, row),
+        None => Place::Column(column),
     }
 }
 
 /// Whether a name is that of a column of a row.
-pub(crate) fn is_cell(name: &Oid, entry: &Oid, column: u32, row: u32) -> bool
-    ensures { result ≡ bytes_eq name.now (cell_name entry.now column (row ∷ [])) }
+pub(crate) fn is_cell<C: Columns>(name: &Oid, entry: &Oid, column: u32, row: u32) -> bool
+    ensures { result ≡ bytes_eq name.now (cell_name entry.now column (row_index C.table row)) }
 {
-    is_at(place_under(name, entry), column, row)
+    is_at(place_under::<C>(name, entry), column, row)
 }
 
 /// Whether a place is that of a column of a row.

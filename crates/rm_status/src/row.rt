@@ -13,7 +13,7 @@ use rm_val::Value;
 /// A row of a control table: its index, its state, and its columns.
 #[derive(Default, Drop)]
 pub struct Row<C> {
-    /// The one number of its index, in a control table 1 to 65535.
+    /// The number of its index; where that is one number, that number. The rows of a control table have such as rows can have.
     pub index: u32,
     /// Its state, in a control table never absent.
     pub state: State,

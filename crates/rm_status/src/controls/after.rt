@@ -1,5 +1,6 @@
 // The rows as a Set will leave them.
 ghost use Rattle.std.specs.Prelude.{◌≡◌, ℕ, [], ◌∷◌, length};
+ghost use Rattle.rm_model.specs.ControlTable.{row_index};
 ghost use Rattle.rm_model.specs.Judgement.{IsFirstFault, first_pass, second_pass};
 ghost use Rattle.rm_model.specs.Reserves.{state_after};
 ghost use Rattle.rm_status.specs.Rows.{rows_before, state_in};
@@ -20,8 +21,8 @@ impl<C: Columns> Controls<C> {
         requires entry { entry.now ≡ C.table.entry }
         requires status { status ≡ C.table.status }
         requires fine { IsFirstFault (length (A.bindings set.now)) (first_pass C.table (A.bindings set.now)) Verdict.Fine }
-        requires together { let bindings = A.bindings set.now in IsFirstFault (length bindings) (second_pass C.table (rows_before C.set_to self.now) bindings) Verdict.Fine }
-        ensures { (i : ℕ) → state_in result i ≡ state_after C.table (rows_before C.set_to self.now) (A.bindings set.now) (i ∷ []) }
+        requires together { let bindings = A.bindings set.now in IsFirstFault (length bindings) (second_pass C.table (rows_before C.table C.set_to self.now) bindings) Verdict.Fine }
+        ensures { (i : ℕ) → state_in result i ≡ state_after C.table (rows_before C.table C.set_to self.now) (A.bindings set.now) (row_index C.table i) }
     {
         let mut rows = self.bare();
         rows.commit(set, entry, status);

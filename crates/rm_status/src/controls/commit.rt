@@ -2,6 +2,7 @@
 ghost use Rattle.std.specs.Prelude.{◌≡◌, ℕ, ◌<◌, ◌+◌, [], ◌∷◌, length, map, true, None, if◌then◌else◌};
 ghost use Rattle.std.specs.List.{filter_map};
 ghost use Rattle.std.specs.Option.{option_or};
+ghost use Rattle.rm_model.specs.ControlTable.{row_index};
 ghost use Rattle.rm_model.specs.ControlRows.{set_ask};
 ghost use Rattle.rm_model.specs.Judgement.{IsFirstFault, first_pass, second_pass, name_at, place_of, is_made};
 ghost use Rattle.rm_status.specs.Rows.{row_in, rows_before, with_state_at};
@@ -25,7 +26,7 @@ impl<C: Columns> Controls<C> {
         requires entry { entry.now ≡ C.table.entry }
         requires status { status ≡ C.table.status }
         requires fine { IsFirstFault (length (A.bindings set.now)) (first_pass C.table (A.bindings set.now)) Verdict.Fine }
-        requires together { let bindings = A.bindings set.now in IsFirstFault (length bindings) (second_pass C.table (rows_before C.set_to self.old) bindings) Verdict.Fine }
+        requires together { let bindings = A.bindings set.now in IsFirstFault (length bindings) (second_pass C.table (rows_before C.table C.set_to self.old) bindings) Verdict.Fine }
         ensures { let bindings = A.bindings set.now in (i : ℕ) → row_in self.new i ≡ row_after C.table C.with_column C.blank_row bindings i (row_in self.old i) }
     {
         let _ = &self.rows;
@@ -44,12 +45,12 @@ impl<C: Columns> Controls<C> {
         requires status { status ≡ C.table.status }
         requires within { place < length (A.bindings set.now) }
         requires fine { first_pass C.table (A.bindings set.now) place ≡ None }
-        requires room { let bindings = A.bindings set.now in (i : ℕ) → is_cell C.table.status i (place_of C.table.entry (name_at bindings place)) ≡ true → is_made State.Absent (set_ask C.table bindings (i ∷ [])) ≡ true → row_in self.old i ≡ None → length self.old < C.table.most }
-        ensures rows { let bindings = A.bindings set.now in (i : ℕ) → row_in self.new i ≡ option_or (row_in self.old i) (if is_cell C.table.status i (place_of C.table.entry (name_at bindings place)) then made_row C.table C.with_column C.blank_row bindings i else None) }
-        ensures few { let bindings = A.bindings set.now in length self.new ≡ length self.old + made_now C.table C.with_column C.blank_row self.old bindings (place_of C.table.entry (name_at bindings place)) }
+        requires room { let bindings = A.bindings set.now in (i : ℕ) → is_cell C.table.status i (place_of C.table (name_at bindings place)) ≡ true → is_made State.Absent (set_ask C.table bindings (row_index C.table i)) ≡ true → row_in self.old i ≡ None → length self.old < C.table.most }
+        ensures rows { let bindings = A.bindings set.now in (i : ℕ) → row_in self.new i ≡ option_or (row_in self.old i) (if is_cell C.table.status i (place_of C.table (name_at bindings place)) then made_row C.table C.with_column C.blank_row bindings i else None) }
+        ensures few { let bindings = A.bindings set.now in length self.new ≡ length self.old + made_now C.table C.with_column C.blank_row self.old bindings (place_of C.table (name_at bindings place)) }
     {
         let name = set.name(place);
-        if let Place::Cell(column, row) = place_under(&name, entry) {
+        if let Place::Cell(column, row) = place_under::<C>(&name, entry) {
             let kind = self.kind;
             let asked = set_ask::<C, A>(kind, set, entry, status, row);
             if column == status && is_made(State::Absent, asked) && self.find(row).is_none() {

@@ -2,7 +2,7 @@
 ghost use Rattle.std.specs.Prelude.{◌≡◌, ◌<◌, ◌≤◌, [], ◌∷◌, length};
 ghost use Rattle.std.specs.Option.{option_or};
 ghost use Rattle.rm_model.specs.Journal.{value_given};
-ghost use Rattle.rm_model.specs.ControlTable.{is_ready};
+ghost use Rattle.rm_model.specs.ControlTable.{row_index, is_ready};
 ghost use Rattle.rm_model.specs.ControlRows.{cell_name};
 ghost use Rattle.rm_model.specs.Judgement.{IsFirstFault, first_pass, second_pass, name_at, place_of, is_again, is_crowded, is_ready_with, of_columns};
 ghost use Rattle.rm_status.specs.Rows.{AreControlRows, rows_before, state_in};
@@ -36,8 +36,8 @@ impl<C: Columns> Controls<C> {
         requires entry { entry.now ≡ C.table.entry }
         requires status { status ≡ C.table.status }
         requires fine { IsFirstFault (length (A.bindings set.now)) (first_pass C.table (A.bindings set.now)) Verdict.Fine }
-        ensures verdict { let bindings = A.bindings set.now in IsFirstFault (length bindings) (second_pass C.table (rows_before C.set_to self.now) bindings) result }
-        ensures rows { AreControlRows self.now }
+        ensures verdict { let bindings = A.bindings set.now in IsFirstFault (length bindings) (second_pass C.table (rows_before C.table C.set_to self.now) bindings) result }
+        ensures rows { AreControlRows C.table self.now }
     {
         let _ = &self.rows;
         let crowded = self.is_crowded(set, entry, status);
@@ -56,7 +56,7 @@ impl<C: Columns> Controls<C> {
         requires entry { entry.now ≡ C.table.entry }
         requires status { status ≡ C.table.status }
         requires fine { IsFirstFault (length (A.bindings set.now)) (first_pass C.table (A.bindings set.now)) Verdict.Fine }
-        ensures { result ≡ is_crowded C.table (rows_before C.set_to self.now) (A.bindings set.now) }
+        ensures { result ≡ is_crowded C.table (rows_before C.table C.set_to self.now) (A.bindings set.now) }
     {
         self.rows.len() + self.count_made(set, entry, status) > C::most()
     }
@@ -81,11 +81,11 @@ impl<C: Columns> Controls<C> {
         requires entry { entry.now ≡ C.table.entry }
         requires status { status ≡ C.table.status }
         requires within { place < length (A.bindings set.now) }
-        ensures value { let bindings = A.bindings set.now in result ≡ made_by C.table (state_in self.now) bindings (is_again bindings place) (place_of C.table.entry (name_at bindings place)) }
+        ensures value { let bindings = A.bindings set.now in result ≡ made_by C.table (state_in self.now) bindings (is_again bindings place) (place_of C.table (name_at bindings place)) }
         ensures few { result ≤ 1 }
     {
         let name = set.name(place);
-        match place_under(&name, entry) {
+        match place_under::<C>(&name, entry) {
             Place::Cell(column, row) => {
                 let kind = self.kind;
                 let asked = set_ask::<C, A>(kind, set, entry, status, row);
@@ -113,11 +113,11 @@ impl<C: Columns> Controls<C> {
         requires status { status ≡ C.table.status }
         requires fine { IsFirstFault (length (A.bindings set.now)) (first_pass C.table (A.bindings set.now)) Verdict.Fine }
         requires within { place < length (A.bindings set.now) }
-        requires crowded { crowded ≡ is_crowded C.table (rows_before C.set_to self.now) (A.bindings set.now) }
-        ensures { result ≡ second_pass C.table (rows_before C.set_to self.now) (A.bindings set.now) place }
+        requires crowded { crowded ≡ is_crowded C.table (rows_before C.table C.set_to self.now) (A.bindings set.now) }
+        ensures { result ≡ second_pass C.table (rows_before C.table C.set_to self.now) (A.bindings set.now) place }
     {
         let name = set.name(place);
-        match place_under(&name, entry) {
+        match place_under::<C>(&name, entry) {
             Place::Cell(column, row) => {
                 let kind = self.kind;
                 let state = self.state(row);
@@ -137,7 +137,7 @@ impl<C: Columns> Controls<C> {
         requires entry { entry.now ≡ C.table.entry }
         requires status { status ≡ C.table.status }
         requires fine { IsFirstFault (length (A.bindings set.now)) (first_pass C.table (A.bindings set.now)) Verdict.Fine }
-        ensures { result ≡ is_ready_with C.table (rows_before C.set_to self.now) (A.bindings set.now) (row ∷ []) }
+        ensures { result ≡ is_ready_with C.table (rows_before C.table C.set_to self.now) (A.bindings set.now) (row_index C.table row) }
     {
         prove!(self.len() <= MAX_ROWS);
         match self.row(row) {
@@ -158,7 +158,7 @@ fn is_ready_after<C: Columns, A: Assigns>(
     requires entry { entry.now ≡ C.table.entry }
     requires status { status ≡ C.table.status }
     requires fine { IsFirstFault (length (A.bindings set.now)) (first_pass C.table (A.bindings set.now)) Verdict.Fine }
-    ensures { result ≡ is_ready C.table (of_columns C.table (λ column. option_or (value_given (A.bindings set.now) (cell_name C.table.entry column (row ∷ []))) (C.set_to columns column))) }
+    ensures { result ≡ is_ready C.table (of_columns C.table (λ column. option_or (value_given (A.bindings set.now) (cell_name C.table.entry column (row_index C.table row))) (C.set_to columns column))) }
 {
     let mut with = columns;
     put_all::<C, A>(&mut with, set, entry, status, row);

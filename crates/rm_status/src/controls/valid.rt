@@ -1,5 +1,6 @@
 // The valid rows of a control table, and those that a Set makes valid.
 ghost use Rattle.std.specs.Prelude.{◌≡◌, ℕ, ◌+◌, ◌<◌, ◌≤◌, [], ◌∷◌, length, filter, IsTrue, IfSome, IfNone};
+ghost use Rattle.rm_model.specs.ControlTable.{row_index};
 ghost use Rattle.rm_model.specs.ControlRows.{is_valid};
 ghost use Rattle.rm_model.specs.Reserves.{activates, makes_valid, count_valid, count_valid_after};
 ghost use Rattle.rm_status.specs.Rows.{rows_before};
@@ -17,7 +18,7 @@ use rm_val::Oid;
 impl<C: Columns> Controls<C> {
     /// How many rows are valid.
     pub fn count_valid(&self) -> usize
-        ensures value { result ≡ count_valid (rows_before C.set_to self.now) }
+        ensures value { result ≡ count_valid C.table (rows_before C.table C.set_to self.now) }
         ensures few { result ≤ 32 }
     {
         let _ = &self.rows;
@@ -30,8 +31,8 @@ impl<C: Columns> Controls<C> {
         requires entry { entry.now ≡ C.table.entry }
         requires status { status ≡ C.table.status }
         ensures some { IfSome result (λ index. (place : ℕ) × (place < length (A.bindings set.now)) × (index ≡ place + 1)
-            × IsTrue (activates C.table (rows_before C.set_to self.now) (A.bindings set.now) place)) }
-        ensures none { IfNone result (count_valid_after C.table (rows_before C.set_to self.now) (A.bindings set.now) ≤ count_valid (rows_before C.set_to self.now)) }
+            × IsTrue (activates C.table (rows_before C.table C.set_to self.now) (A.bindings set.now) place)) }
+        ensures none { IfNone result (count_valid_after C.table (rows_before C.table C.set_to self.now) (A.bindings set.now) ≤ count_valid C.table (rows_before C.table C.set_to self.now)) }
     {
         for place in 0..set.count() {
             if self.activates(set, entry, status, place) {
@@ -46,10 +47,10 @@ impl<C: Columns> Controls<C> {
         requires entry { entry.now ≡ C.table.entry }
         requires status { status ≡ C.table.status }
         requires within { place < length (A.bindings set.now) }
-        ensures { result ≡ activates C.table (rows_before C.set_to self.now) (A.bindings set.now) place }
+        ensures { result ≡ activates C.table (rows_before C.table C.set_to self.now) (A.bindings set.now) place }
     {
         let name = set.name(place);
-        match place_under(&name, entry) {
+        match place_under::<C>(&name, entry) {
             Place::Cell(column, row) => {
                 column == status && self.makes_valid(set, entry, status, row)
             }
@@ -61,7 +62,7 @@ impl<C: Columns> Controls<C> {
     fn makes_valid<A: Assigns>(&self, set: &A, entry: &Oid, status: u32, row: u32) -> bool
         requires entry { entry.now ≡ C.table.entry }
         requires status { status ≡ C.table.status }
-        ensures { result ≡ makes_valid C.table (rows_before C.set_to self.now) (A.bindings set.now) (row ∷ []) }
+        ensures { result ≡ makes_valid C.table (rows_before C.table C.set_to self.now) (A.bindings set.now) (row_index C.table row) }
     {
         let _ = &self.rows;
         let kind = self.kind;

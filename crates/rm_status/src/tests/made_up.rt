@@ -4,7 +4,7 @@ ghost use Rattle.std.specs.Prelude.{◌≡◌, [], ◌∷◌, map, None, refl};
 ghost use Rattle.rm_val.specs.Val.{int};
 ghost use Rattle.rm_status.specs.MadeUp.{plain, ruled, second_at_first, set_to, with_value, blank_alike, ruled_alike, set_with};
 
-use crate::{ControlRow, ControlSheet};
+use crate::{ControlRow, ControlSheet, index_of_one, is_one_number, one_number};
 use arrayvec::ArrayVec;
 use rm_group::{Assigns, TableObjects};
 use rm_model::Setting::Number;
@@ -66,6 +66,18 @@ impl ControlRow for MadeUp {
 
     fn table() -> ControlSheet {
         TABLE
+    }
+
+    fn index(number: u32) -> Oid {
+        index_of_one(number)
+    }
+
+    fn number(name: &Oid, from: usize) -> Option<u32> {
+        one_number(name, from)
+    }
+
+    fn is_row(number: u32) -> bool {
+        is_one_number(number)
     }
 
     fn is_fixed(_index: u32, _column: u32) -> bool {
@@ -150,6 +162,18 @@ impl ControlRow for Ruled {
             most: 4,
             ..TABLE
         }
+    }
+
+    fn index(number: u32) -> Oid {
+        index_of_one(number)
+    }
+
+    fn number(name: &Oid, from: usize) -> Option<u32> {
+        one_number(name, from)
+    }
+
+    fn is_row(number: u32) -> bool {
+        is_one_number(number)
     }
 
     fn is_fixed(index: u32, column: u32) -> bool {

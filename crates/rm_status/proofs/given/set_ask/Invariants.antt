@@ -1,5 +1,6 @@
 use Rattle.std.proofs.Common.{◌≡◌, ℕ, ◌<◌, [], ◌∷◌, false}
 use Rattle.std.specs.Str.{bytes_eq}
+use Rattle.rm_model.specs.ControlTable.{row_index}
 use Rattle.rm_model.specs.ControlRows.{cell_name}
 use Rattle.rm_model.specs.Judgement.{name_at}
 use Rattle.rm_status.proofs.given.set_ask.Given as goal
@@ -7,4 +8,4 @@ use Rattle.rm_status.proofs.given.set_ask.Given as goal
 -- no binding so far is the row's status
 abbrev pub invariant-loop-place : goal.invariant-loop-place
 invariant-loop-place g l =
-    (k : ℕ) → k < l.place → bytes_eq (name_at (g.A.Assigns.bindings l.set) k) (cell_name g.C.Columns.table.entry g.C.Columns.table.status (l.row ∷ [])) ≡ false
+    (k : ℕ) → k < l.place → bytes_eq (name_at (g.A.Assigns.bindings l.set) k) (cell_name g.C.Columns.table.entry g.C.Columns.table.status (row_index g.C.Columns.table l.row)) ≡ false

@@ -4,6 +4,6 @@ use Rattle.rm_status.proofs.PlaceLemmas.{is_cell_name}
 use Rattle.rm_status.proofs.place.is_cell.Goals as goal
 
 pub returns : goal.returns
-returns c =
+returns g c =
     c.is_at.ensures ∙ ap (is_cell c.args.column c.args.row) c.place_under.ensures
-    ∙ is_cell_name c.args.entry.now c.args.name.now c.args.column c.args.row
+    ∙ is_cell_name g.C.Columns.table c.args.entry.now c.args.name.now c.args.column c.args.row

@@ -1,23 +1,28 @@
-use Rattle.std.proofs.Common.{◌≡◌, sym, ◌∙◌, length, ◌-◌, ◌+◌, get_or, arith}
-use Rattle.rm_status.proofs.PlaceLemmas.{place_outside, place_entry, place_cell, place_column}
+use Rattle.std.proofs.Common.{◌≡◌, ℕ, sym, ◌∙◌, length, ◌+◌, get_or, ap, drop}
+use Rattle.rm_model.specs.Judgement.{place_in}
+use Rattle.rm_status.proofs.PlaceLemmas.{place_outside, place_entry, place_column}
 use Rattle.rm_status.proofs.place.place_under.Goals as goal
 
 pub returns-then-not-starts_with : goal.returns-then-not-starts_with
-returns-then-not-starts_with c = place_outside c.args.entry.now c.args.name.now (sym c.if-not-starts_with.true ∙ c.starts_with.ensures.value)
+returns-then-not-starts_with g c = place_outside g.C.Columns.table c.args.entry.now c.args.name.now (sym c.if-not-starts_with.true ∙ c.starts_with.ensures.value)
 
-pub returns-in-0 : goal.returns-in-0
-returns-in-0 c =
-    let left : length c.args.name.now - length c.args.entry.now ≡ 0 = cc in
-    place_entry c.args.entry.now c.args.name.now (sym c.if-not-starts_with.false ∙ c.starts_with.ensures.value) left
+pub returns-then-len-at : goal.returns-then-len-at
+returns-then-len-at g c =
+    place_entry g.C.Columns.table c.args.entry.now c.args.name.now (sym c.if-not-starts_with.false ∙ c.starts_with.ensures.value)
+    (sym c.len.ensures.value ∙ c.if-len-at.true ∙ c.len-at.ensures.value)
 
-pub returns-in-2 : goal.returns-in-2
-returns-in-2 c =
-    let left : length c.args.name.now - length c.args.entry.now ≡ 2 = cc in
-    let first : c.at.result ≡ get_or c.args.name.now (length c.args.entry.now) 0 = rw (← c.len-at.ensures.value) c.at.ensures in
-    let second : c.at-in-2.result ≡ get_or c.args.name.now (length c.args.entry.now + 1) 0 = rw (← c.len-at.ensures.value) c.at-in-2.ensures in
-    place_cell c.args.entry.now c.args.name.now (sym c.if-not-starts_with.false ∙ c.starts_with.ensures.value) _ _ left first second
+pub returns-in-Some : goal.returns-in-Some
+returns-in-Some g c =
+    let t = g.C.Columns.table in
+    let first : c.at-column.result ≡ get_or c.args.name.now (length c.args.entry.now) 0 = rw (← c.len-at.ensures.value) c.at-column.ensures in
+    ap (place_in c.at-column.result) c.in-Some.ensures ∙ ap (λ (k : ℕ). place_in c.at-column.result (t.indexing.number_of (drop (k + 1) c.args.name.now))) c.len-at.ensures.value
+    ∙ place_column t c.args.entry.now c.args.name.now (sym c.if-not-starts_with.false ∙ c.starts_with.ensures.value) c.at-column.result
+    (λ same. c.if-len-at.false (c.len.ensures.value ∙ same ∙ sym c.len-at.ensures.value)) first
 
-pub returns-in_default : goal.returns-in_default
-returns-in_default c =
-    let first : c.at-in_default.result ≡ get_or c.args.name.now (length c.args.entry.now) 0 = rw (← c.len-at.ensures.value) c.at-in_default.ensures in
-    place_column c.args.entry.now c.args.name.now (sym c.if-not-starts_with.false ∙ c.starts_with.ensures.value) c.at-in_default.result (λ z. omega arith) (λ z. omega arith) first
+pub returns-in-None : goal.returns-in-None
+returns-in-None g c =
+    let t = g.C.Columns.table in
+    let first : c.at-column.result ≡ get_or c.args.name.now (length c.args.entry.now) 0 = rw (← c.len-at.ensures.value) c.at-column.ensures in
+    ap (place_in c.at-column.result) c.in-None.ensures ∙ ap (λ (k : ℕ). place_in c.at-column.result (t.indexing.number_of (drop (k + 1) c.args.name.now))) c.len-at.ensures.value
+    ∙ place_column t c.args.entry.now c.args.name.now (sym c.if-not-starts_with.false ∙ c.starts_with.ensures.value) c.at-column.result
+    (λ same. c.if-len-at.false (c.len.ensures.value ∙ same ∙ sym c.len-at.ensures.value)) first

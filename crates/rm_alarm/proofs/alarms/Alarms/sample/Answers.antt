@@ -26,10 +26,10 @@ abbrev number_read : Option Reading → Option ℤ
 number_read o = option_map (λ reading. reading.value) o
 
 -- what is read of the variable of an alarm of which a sample is due
-reads : (rows : List (Row AlarmRow)) (held : AreControlRows rows) (journal : Journal) (is : AreRowsAfter alarm_table no_rows set_to rows journal) (index moment : ℕ) (due : Due rows index moment) (readings : Readings) (read o : Option Reading)
+reads : (rows : List (Row AlarmRow)) (held : AreControlRows alarm_table rows) (journal : Journal) (is : AreRowsAfter alarm_table no_rows set_to rows journal) (index moment : ℕ) (due : Due rows index moment) (readings : Readings) (read o : Option Reading)
     → ((row : Row AlarmRow) → row_in rows index ≡ Some row → read ≡ readings (variable_kept row.columns)) → read ≡ o → number_read o ≡ number_read (readings (variable_of journal index))
 reads rows held journal is index moment due readings read o told same =
-    ap number_read (sym same ∙ told due.row due.here ∙ ap readings (variable_is rows journal is index due.row due.here (row_there rows index due.row held due.here)))
+    ap number_read (sym same ∙ told due.row due.here ∙ ap readings (variable_is rows journal is index due.row due.here (row_there alarm_table rows index due.row held due.here)))
 
 pub invariant_of-self : goal.invariant_of-self
 invariant_of-self g c =

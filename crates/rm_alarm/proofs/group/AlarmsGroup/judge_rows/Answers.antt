@@ -15,7 +15,7 @@ pub returns-clause-verdict : goal.returns-clause-verdict
 returns-clause-verdict g c settings journal stands later askable =
     let bs = g.A.Assigns.bindings c.args.set.now in
     let readings = g.L.Look.readings c.args.look.now c.args.now in
-    let before = rows_before set_to c.args.self.now.rows in
+    let before = rows_before alarm_table set_to c.args.self.now.rows in
     let then_ = rows_after alarm_table no_rows journal in
     let same : (k : ℕ) → alarm_together readings before bs k ≡ alarm_together readings then_ bs k =
     λ k. ap (λ o. option_or o (variable_fault readings before bs k)) (second_pass_alike alarm_table before then_ stands.stand.rows.alike bs k)
@@ -26,7 +26,7 @@ returns-clause-verdict g c settings journal stands later askable =
 pub returns-clause-within : goal.returns-clause-within
 returns-clause-within g c =
     let bs = g.A.Assigns.bindings c.args.set.now in
-    let before = rows_before set_to c.args.self.now.rows in
+    let before = rows_before alarm_table set_to c.args.self.now.rows in
     c.lower_verdict.ensures.within (length bs)
     (fault_within (length bs) (second_pass alarm_table before bs) c.judge_rows-rows.result c.judge_rows-rows.ensures.verdict)
     (fault_within (length bs) (variable_fault (g.L.Look.readings c.args.look.now c.args.now) before bs) c.judge_variables-variables.result c.judge_variables-variables.ensures.verdict)

@@ -14,7 +14,7 @@ use Rattle.rm_event.proofs.group.EventsGroup.prepare.Goals as goal
 pub returns-clause-denied : goal.returns-clause-denied
 returns-clause-denied g c =
     let bs = g.A.Assigns.bindings c.args.set.now in
-    let before = rows_before set_to c.args.self.now.rows in
+    let before = rows_before event_table set_to c.args.self.now.rows in
     of_error (λ (denied : Denied). Reserves event_table before bs denied.index)
     (λ (denied : Denied). (settings : Settings) (journal : Journal) → Stands c.args.self.now settings journal → Reserves event_table (rows_after event_table no_rows journal) bs denied.index)
     (λ denied is settings journal stands. reserves_alike event_table before (rows_after event_table no_rows journal) stands.rows.alike.states bs denied.index is)

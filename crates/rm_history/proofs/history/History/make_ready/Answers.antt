@@ -25,7 +25,7 @@ pub returns-in-Err-clause-denied : goal.returns-in-Err-clause-denied
 returns-in-Err-clause-denied g c settings journal stands =
     let old = c.args.self.now in
     let bs = g.A.Assigns.bindings c.args.set.now in
-    let before = rows_before set_to old.rows in
+    let before = rows_before history_control set_to old.rows in
     let others = rows_after history_control no_rows journal in
     let first = c.in-Some.ensures.some in
     let count = count_after_alike history_control before others bs stands.rows.alike.states in

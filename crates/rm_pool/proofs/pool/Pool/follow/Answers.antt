@@ -1,5 +1,6 @@
-use Rattle.std.proofs.Common.{rules, ℕ, ◌≤◌, sym, subst}
+use Rattle.std.proofs.Common.{◌^◌, rules, ℕ, ◌≤◌, length, sym, subst}
 use Rattle.rm_model.specs.Judgement.{count_below}
+use Rattle.rm_status.proofs.RowsBefore.{valid_before}
 use Rattle.rm_pool.specs.Pools.{valid_in}
 use Rattle.rm_pool.proofs.Follows.{freed_valid, follow_valid, follow_stays, follow_begun}
 use Rattle.rm_pool.proofs.pool.Pool.follow.Goals as goal
@@ -8,19 +9,20 @@ pub begin_each-requires : goal.begin_each-requires
 begin_each-requires g c = (
   search rules,
   (
-    freed_valid c.args.rows.now c.len.ensures.rows.1 (g.B.Begin.begun c.args.how.now) c.args.self.now c.release.new.self c.release.new.self c.release.ensures.parts,
-    subst (λ (n : ℕ). count_below (valid_in c.args.rows.now) 65536 ≤ n) (sym c.release.ensures.size) c.requires,
+    freed_valid g.C.Columns.table c.args.rows.now c.len.ensures.rows.1 (g.B.Begin.begun c.args.how.now) c.args.self.now c.release.new.self c.release.new.self c.release.ensures.parts,
+    subst (λ (n : ℕ). count_below (valid_in c.args.rows.now) (2 ^ 32) ≤ n) (sym c.release.ensures.size)
+        (subst (λ (n : ℕ). n ≤ length c.args.self.now) (valid_before g.C.Columns.table g.C.Columns.set_to c.args.rows.now) c.requires),
   ),
 )
 
 pub returns-clause-of_valid : goal.returns-clause-of_valid
 returns-clause-of_valid g c =
-    follow_valid c.args.rows.now c.len.ensures.rows.1 (g.B.Begin.begun c.args.how.now) c.args.self.now c.release.new.self c.begin_each.new.self c.release.ensures.parts c.begin_each.ensures
+    follow_valid g.C.Columns.table c.args.rows.now c.len.ensures.rows.1 (g.B.Begin.begun c.args.how.now) c.args.self.now c.release.new.self c.begin_each.new.self c.release.ensures.parts c.begin_each.ensures
 
 pub returns-clause-stays : goal.returns-clause-stays
 returns-clause-stays g c =
-    follow_stays c.args.rows.now c.len.ensures.rows.1 (g.B.Begin.begun c.args.how.now) c.args.self.now c.release.new.self c.begin_each.new.self c.release.ensures.parts c.begin_each.ensures
+    follow_stays g.C.Columns.table c.args.rows.now c.len.ensures.rows.1 (g.B.Begin.begun c.args.how.now) c.args.self.now c.release.new.self c.begin_each.new.self c.release.ensures.parts c.begin_each.ensures
 
 pub returns-clause-begun : goal.returns-clause-begun
 returns-clause-begun g c =
-    follow_begun c.args.rows.now c.len.ensures.rows.1 (g.B.Begin.begun c.args.how.now) c.args.self.now c.release.new.self c.begin_each.new.self c.release.ensures.parts c.begin_each.ensures
+    follow_begun g.C.Columns.table c.args.rows.now c.len.ensures.rows.1 (g.B.Begin.begun c.args.how.now) c.args.self.now c.release.new.self c.begin_each.new.self c.release.ensures.parts c.begin_each.ensures

@@ -11,7 +11,7 @@ make_at-requires g c =
     let bs = g.A.Assigns.bindings c.args.set.now in
     let k = c.loop-place.place in
     let within : k < length bs = omega (arith, c.count-count.ensures.value) in
-    let ordered : AreControlRows c.args.self.now = subst AreControlRows c.self.view_is c.self.invariant.1 in (
+    let ordered : AreControlRows g.C.Columns.table c.args.self.now = subst (AreControlRows g.C.Columns.table) c.self.view_is c.self.invariant.1 in (
       search rules,
       (
         c.requires.entry,
@@ -51,7 +51,7 @@ invariant_of-self g c =
     let bs = g.A.Assigns.bindings c.args.set.now in
     let items = c.self-2.inside.rows.items in
     let is : c.settle_rows.new.rows.items ≡ filter_map (settle_row C.table C.with_column C.blank_row bs) (map (write_row C.table C.with_column C.blank_row bs) items) = c.settle_rows.ensures ∙ ap (filter_map (settle_row C.table C.with_column C.blank_row bs)) c.write_all.ensures in
-    (c.self-2.invariant.0, subst AreControlRows (sym is) (rows_then C.table C.with_column C.blank_row bs items c.self-2.invariant.1))
+    (c.self-2.invariant.0, subst (AreControlRows g.C.Columns.table) (sym is) (rows_then C.table C.with_column C.blank_row bs items c.self-2.invariant.1))
 
 pub returns : goal.returns
 returns g c = λ i.

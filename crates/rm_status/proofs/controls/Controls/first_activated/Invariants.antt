@@ -6,4 +6,4 @@ use Rattle.rm_status.proofs.controls.Controls.first_activated.Given as goal
 abbrev pub invariant-loop-place : goal.invariant-loop-place
 invariant-loop-place g l =
     let C = g.C.Columns in
-    (k : ℕ) → k < l.place → activates C.table (rows_before C.set_to l.self) (g.A.Assigns.bindings l.set) k ≡ false
+    (k : ℕ) → k < l.place → activates C.table (rows_before C.table C.set_to l.self) (g.A.Assigns.bindings l.set) k ≡ false
