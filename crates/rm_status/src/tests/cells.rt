@@ -1,5 +1,6 @@
-// The cells of a made-up control table, whose column 6 shows the index of its row once more.
-ghost use Rattle.rm_model.specs.ControlRows.{index_value};
+// The cells of a made-up control table, whose column 6 shows the index of its row once more, as a counter.
+ghost use Rattle.rm_val.specs.Val.{counter};
+ghost use Rattle.rm_status.specs.Rows.{row_number};
 
 use crate::tests::made_up::{MadeUp, STATUS};
 use crate::{ControlRow, Controls, OtherColumns, Row};
@@ -12,10 +13,10 @@ use std::test::Fail;
 struct Again;
 
 impl OtherColumns<MadeUp> for Again {
-    ghost others = { λ s rows column index. index_value index };
+    ghost others = { λ s rows column index. counter (row_number index) };
 
     fn other(&self, index: u32, _row: &Row<MadeUp>, _column: u32) -> Value<'static> {
-        Value::Int(index as i32)
+        Value::Counter(index)
     }
 }
 
@@ -51,6 +52,7 @@ fn cells_in_order(rt: HostRuntime) -> Result<(), Fail> {
             let mut next = Oid::new();
             match rows.next_cell(&Again, &name, &mut next) {
                 Some(Value::Int(number)) => assert_eq!(rt; number, expected, "{column} {row}"),
+                Some(Value::Counter(number)) => assert_eq!(rt; number, row, "{column} {row}"),
                 _ => assert!(rt; false, "{column} {row}"),
             }
             assert!(rt;
