@@ -1,18 +1,18 @@
 -- The first line of a file, of which a window has the front.
-use Rattle.std.proofs.Common.{◌≡◌, ℕ, ◌+◌, ◌-◌, ◌<◌, ◌≤◌, ◌⊎◌, Bool, true, false, List, [], ◌∷◌, ◌++◌, length, take, drop, Option, Some, None, Result, Ok, Err, refl, sym, ap, subst, ◌∙◌, arith, position, inl, inr, get_or, nat_lt, nat_le}
-use Rattle.std.specs.Prelude.{◌==◌, All, if◌then◌else◌}
+use Rattle.std.proofs.Common.{◌≡◌, ℕ, ◌+◌, ◌-◌, ◌<◌, ◌≤◌, ◌⊎◌, Bool, true, false, List, [], ◌∷◌, length, take, drop, Option, Some, None, Result, Ok, Err, refl, sym, ap, subst, ◌∙◌, arith, position, inl, inr, get_or, nat_lt}
+use Rattle.std.specs.Prelude.{◌==◌, if◌then◌else◌}
 use Rattle.std.specs.List.{position_or_len, slice_index}
 use Rattle.std.specs.Str.Lines.{lines, strip_carriage_return}
 use Rattle.std.proofs.lemmas.Bool.{cases_lt}
-use Rattle.std.proofs.lemmas.List.{take_all, drop_all, length-take, length-take-le, length-drop, drop-drop, get_or-take}
+use Rattle.std.proofs.lemmas.List.{drop_all, length-take-le, length-drop, drop-drop, get_or-take}
 use Rattle.std.proofs.lemmas.List.Quantifiers.{position-Some}
 use Rattle.std.proofs.lemmas.List.Sums.{position_or_len_is}
 use Rattle.std.proofs.lemmas.Bool.{lt-ltb, le-ltb}
 use Rattle.std.proofs.lemmas.Bool.Decides.{nat_tests}
 use Rattle.rm_window.specs.Filling.{IsFront}
 use Rattle.rm_window.proofs.WindowLemmas.{front_of, front_short, front_behind}
-use Rattle.rm_requests.specs.Lines.{TimedDatagram, moment_of, datagram_of, is_blank, both, parts_of, below, number_of, ok_value, request_of, requests_from, with_first}
-use Rattle.rm_requests.specs.Reading.{Reached, is_newline, left, lines_left, IsFirst, HoldsLine, Passes}
+use Rattle.rm_requests.specs.Lines.{TimedDatagram, moment_of, datagram_of, is_blank, both, parts_of, request_of, requests_from, with_first}
+use Rattle.rm_requests.specs.Reading.{Reached, is_newline, left, lines_left, IsFirst, HoldsLine, IsWrongAfter, Passes}
 use Rattle.rm_requests.proofs.LineLemmas.{lines_first, lines_last, none_stands}
 
 -- the digits of a moment, and those of a datagram, are so many at most
@@ -226,13 +226,14 @@ module _ (reached : Reached) (octets line : List ℕ) (passed : ℕ) (bytes : Li
   pub reaches_line : 0 < length (lines_left reached bytes)
   reaches_line = has_line (drop reached.at bytes) (omega (arith, some, front_short octets (drop reached.at bytes) holds.front))
 
-  pub wrong_line : request_of line ≡ None → left reached bytes ≡ Err reached.number
-  wrong_line wrong = wrong_first reached.number reached.last (lines_left reached bytes) (wrong_in_file (position is_newline octets) octets (drop reached.at bytes) line passed refl holds some first wrong)
-
-  pub falls_line : (request : TimedDatagram) → request_of line ≡ Some request → request.moment < reached.last → left reached bytes ≡ Err reached.number
-  falls_line request is falls =
-      falls_first reached.number reached.last (lines_left reached bytes) line (lines (drop passed (drop reached.at bytes))) request
-      (first_of_file (position is_newline octets) octets (drop reached.at bytes) line passed request refl holds some first is) is falls
+  pub wrong_line : IsWrongAfter reached.last line → left reached bytes ≡ Err reached.number
+  wrong_line wrong = by_request (request_of line) refl
+    where
+      by_request : (o : Option TimedDatagram) → request_of line ≡ o → left reached bytes ≡ Err reached.number
+      by_request None is = wrong_first reached.number reached.last (lines_left reached bytes) (wrong_in_file (position is_newline octets) octets (drop reached.at bytes) line passed refl holds some first is)
+      by_request (Some request) is =
+          falls_first reached.number reached.last (lines_left reached bytes) line (lines (drop passed (drop reached.at bytes))) request
+          (first_of_file (position is_newline octets) octets (drop reached.at bytes) line passed request refl holds some first is) is (wrong request is)
 
   pub takes_line : (new : Reached) (request : TimedDatagram) → request_of line ≡ Some request → reached.last ≤ request.moment
       → new.at ≡ reached.at + passed → new.number ≡ reached.number + 1 → new.last ≡ request.moment → new.read ≡ drop passed octets → Passes reached new request bytes

@@ -1,10 +1,10 @@
 -- How far a request file was read, and what reading its next line answers.
-use Rattle.std.specs.Prelude.{◌≡◌, ◌<◌, ◌≤◌, ◌+◌, ◌^◌, ◌==◌, ℕ, Bool, List, [], length, take, drop, position, Option, Some, None, Result, Ok, Err, ⊤}
+use Rattle.std.specs.Prelude.{◌≡◌, ◌<◌, ◌≤◌, ◌+◌, ◌^◌, ◌==◌, ℕ, Bool, List, [], length, take, drop, position, Option, Some, None, Result, Ok, Err}
 use Rattle.std.specs.Str.Lines.{lines, strip_carriage_return}
 use Rattle.rm_edge.specs.Outside.{Held, File}
 use Rattle.rm_window.specs.Filling.{IsFront}
 use Rattle.rm_window.specs.Window.{octets_of}
-use Rattle.rm_requests.specs.Lines.{TimedDatagram, requests_from, with_first}
+use Rattle.rm_requests.specs.Lines.{TimedDatagram, request_of, requests_from, with_first}
 use Rattle.rm_requests.specs.declared.fault.RequestsFault.{RequestsFault}
 use Rattle.rm_requests.specs.declared.fault.RequestsFault.TheVariants.{Line, TooLong, Read}
 use Rattle.rm_requests.specs.declared.requests.Request.{Request}
@@ -22,6 +22,10 @@ IsFirst None octets line passed = (line ≡ octets) × (passed ≡ length octets
 pub record HoldsLine (octets rest : List ℕ) : Type 0 where
   pub front : IsFront octets rest
   pub whole : position is_newline octets ≡ None → length octets < 131083 → octets ≡ rest
+
+-- a line isn't of the form, or its moment is below the one before
+abbrev pub IsWrongAfter : ℕ → List ℕ → Type 0
+IsWrongAfter last line = (request : TimedDatagram) → request_of line ≡ Some request → request.moment < last
 
 -- How far a request file was read: where the next line stands, its number, the moment of the line before, and the octets
 -- that were read from there on.

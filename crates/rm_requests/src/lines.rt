@@ -1,7 +1,7 @@
 // The lines of a request file.
 ghost use Rattle.std.specs.Prelude.{◌≡◌, ◌+◌, ◌≤◌, ◌<◌, ◌^◌, length, take, MatchOption, Some, None, position, ◌==◌};
 ghost use Rattle.std.specs.Str.Lines.{strip_carriage_return};
-ghost use Rattle.rm_requests.specs.Reading.{is_newline, IsFirst};
+ghost use Rattle.rm_requests.specs.Reading.{is_newline, IsFirst, IsWrongAfter};
 ghost use Rattle.rm_requests.specs.Lines.{is_blank, moment_of, datagram_of, request_of};
 
 /// How many octets the longest datagram of a line has.
@@ -23,11 +23,13 @@ pub fn line_end(bytes: &[u8]) -> Option<usize>
     bytes.iter().position(|b| *b == b'\n')
 }
 
-/// The first line, and how many octets it takes with its end. The last line may have no end.
-pub fn first_line(bytes: &[u8]) -> (&[u8], usize)
+/// The first line of octets whose first line feed stands there, and how many octets it takes with its end. The last line
+/// may have no end.
+pub fn first_line(bytes: &[u8], end: Option<usize>) -> (&[u8], usize)
+    requires { end ≡ position is_newline bytes.now }
     ensures { IsFirst (position is_newline bytes.now) bytes.now result.0.now result.1 }
 {
-    match line_end(bytes) {
+    match end {
         Some(end) => (without_return(&bytes[..end]), end + 1),
         None => (bytes, bytes.len()),
     }
@@ -72,10 +74,8 @@ fn first_blank(line: &[u8]) -> Option<usize>
     line.iter().position(|c| *c == b' ')
 }
 
-/// The moment of a line, and how many octets its datagram has, which stands at the front of `into`. None comes exactly where the
-/// line isn't of the form.
 #[tactic(auto, unfolding(crate::specs::Lines::request_of))]
-pub fn read_request(line: &[u8], into: &mut [u8]) -> Option<(u32, usize)>
+fn read_request(line: &[u8], into: &mut [u8]) -> Option<(u32, usize)>
     requires { 65535 ≤ length into.old }
     ensures { MatchOption result (request_of line.now ≡ None)
         (λ found. (found.0 < 2 ^ 32) × (found.1 ≤ 65535) × (request_of line.now ≡ Some (record { moment = found.0; datagram = take found.1 into.new }))) }
@@ -84,4 +84,16 @@ pub fn read_request(line: &[u8], into: &mut [u8]) -> Option<(u32, usize)>
     let moment = read_moment(&line[..blank])?;
     let count = read_datagram(&line[blank + 1..], into)?;
     Some((moment, count))
+}
+
+/// The moment of a line, and how many octets its datagram has, which stands at the front of `into`. None comes exactly where the
+/// line isn't of the form, or its moment is below the one before.
+pub fn read_next(last: u32, line: &[u8], into: &mut [u8]) -> Option<(u32, usize)>
+    requires { 65535 ≤ length into.old }
+    ensures { MatchOption result (IsWrongAfter last line.now)
+        (λ found. (last ≤ found.0) × (found.0 < 2 ^ 32) × (found.1 ≤ 65535)
+        × (request_of line.now ≡ Some (record { moment = found.0; datagram = take found.1 into.new }))) }
+{
+    let (moment, count) = read_request(line, into)?;
+    (moment >= last).then_some((moment, count))
 }

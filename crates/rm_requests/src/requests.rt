@@ -1,11 +1,11 @@
 // A request file that is read line by line.
-ghost use Rattle.std.specs.Prelude.{◌≡◌, ◌≤◌, ◌<◌, ◌*◌, ◌+◌, ℕ, List, [], length, drop, take, vec_len, Err, IfOk, OnOk, IsErr};
+ghost use Rattle.std.specs.Prelude.{◌≡◌, ◌≤◌, ◌<◌, ◌*◌, ◌+◌, ℕ, List, [], length, drop, take, position, vec_len, Err, IfOk, OnOk, IsErr};
 ghost use Rattle.rm_edge.specs.Outside.{File, Absent, HasCause, Rose};
 ghost use Rattle.rm_window.specs.Filling.{IsFront};
 ghost use Rattle.rm_window.specs.Window.{room_of, octets_of};
 
 use crate::fault::RequestsFault;
-use crate::lines::{MOST_DATAGRAM, first_line, line_end, read_request};
+use crate::lines::{MOST_DATAGRAM, first_line, line_end, read_next};
 use rm_edge::{Failed, Shelf};
 use rm_window::Window;
 use std::alloc::{AllocError, Global};
@@ -49,7 +49,7 @@ pub struct Requests {
 }
 
 impl Requests {
-    ghost use Rattle.rm_requests.specs.Reading.{reached_of, datagram_in, beginning, HoldsLine, Stays, Answers};
+    ghost use Rattle.rm_requests.specs.Reading.{is_newline, reached_of, datagram_in, beginning, HoldsLine, Stays, Answers};
 
     /// Before the first line of a file.
     pub fn new(alloc: Global) -> Result<Requests, AllocError>
@@ -91,20 +91,22 @@ impl Requests {
         &self.datagram[..self.count]
     }
 
-    // Sees that a line ends in the window, or that all is there that the file has left, or more than any line has.
-    fn see<S: Shelf>(&mut self, shelf: &mut S, name: &str) -> Result<(), Failed>
+    // Where the first line feed stands in the window. It has one, or all that the file has left, or more than any line has.
+    fn line_end<S: Shelf>(&mut self, shelf: &mut S, name: &str) -> Result<Option<usize>, Failed>
         ensures constant { (each : List ℕ) → S.held shelf.new each ≡ S.held shelf.old each }
         ensures later { (each : List ℕ) → S.faults shelf.old each ≤ S.faults shelf.new each }
         ensures cause { HasCause (S.faults shelf.old name.now) (S.faults shelf.new name.now) result }
+        ensures end { IfOk result (λ end. end ≡ position is_newline (octets_of self.new.window)) }
         ensures stays { Stays (reached_of self.old) (reached_of self.new) }
         ensures holds { (bytes : List ℕ) → S.held shelf.old name.now ≡ File bytes → IsFront (octets_of self.old.window) (drop self.old.at bytes)
             → OnOk result (HoldsLine (octets_of self.new.window) (drop self.old.at bytes)) }
         ensures absent { S.held shelf.old name.now ≡ Absent → octets_of self.old.window ≡ [] → IsErr result }
     {
-        if line_end(self.window.octets()).is_none() {
-            self.window.hold(shelf, name, self.at, LONGEST_LINE)?;
+        if let Some(end) = line_end(self.window.octets()) {
+            return Ok(Some(end));
         }
-        Ok(())
+        self.window.hold(shelf, name, self.at, LONGEST_LINE)?;
+        Ok(line_end(self.window.octets()))
     }
 
     // Passes a line of so many octets.
@@ -139,7 +141,7 @@ impl Requests {
         ensures answers { Answers (S.held shelf.old name.now) (reached_of self.old) (reached_of self.new) (datagram_in self.new) result }
         ensures absent { S.held shelf.old name.now ≡ Absent → (reached_of self.old).read ≡ [] → result ≡ Err RequestsFault.Read }
     {
-        let Ok(()) = self.see(shelf, name) else {
+        let Ok(end) = self.line_end(shelf, name) else {
             return Err(RequestsFault::Read);
         };
         if self.window.len() == 0 {
@@ -149,13 +151,10 @@ impl Requests {
         if number > MOST_LINES {
             return Err(RequestsFault::TooLong);
         }
-        let (line, passed) = first_line(self.window.octets());
-        let Some((moment, count)) = read_request(line, &mut self.datagram) else {
+        let (line, passed) = first_line(self.window.octets(), end);
+        let Some((moment, count)) = read_next(self.last, line, &mut self.datagram) else {
             return Err(RequestsFault::Line(number));
         };
-        if moment < self.last {
-            return Err(RequestsFault::Line(number));
-        }
         self.count = count;
         self.pass(passed, moment);
         Ok(Some(Request { number, moment }))

@@ -1,17 +1,15 @@
-use Rattle.std.proofs.Common.{◌≡◌, ◌<◌, ◌∙◌, List, ℕ, Ok, Err, Some, length, take, drop, sym, ap, subst, arith}
+use Rattle.std.proofs.Common.{◌∙◌, List, ℕ, Err, length, take, drop, sym, ap, subst, arith}
 use Rattle.std.proofs.lemmas.List.{with_items_is}
-use Rattle.rm_edge.specs.Outside.{File}
-use Rattle.rm_window.specs.Filling.{IsFront}
 use Rattle.rm_window.specs.Window.{octets_of}
-use Rattle.rm_requests.specs.Reading.{reached_of, HoldsLine, Reached}
-use Rattle.rm_requests.proofs.FileLemmas.{has_line, wrong_line, falls_line, takes_line}
+use Rattle.rm_requests.specs.Reading.{reached_of, HoldsLine, IsWrongAfter}
+use Rattle.rm_requests.proofs.FileLemmas.{has_line, wrong_line, takes_line}
 use Rattle.rm_window.proofs.WindowLemmas.{front_short}
 use Rattle.rm_requests.proofs.requests.Requests.next.Goals as goal
 
 pub returns-then-number-gt-MOST_LINES-clause-answers : goal.returns-then-number-gt-MOST_LINES-clause-answers
 returns-then-number-gt-MOST_LINES-clause-answers g c =
     let self = c.args.self.now in
-    let octets = octets_of c.see.new.self.window in
+    let octets = octets_of c.line_end.new.self.window in
     let stays = c.in-Ok.ensures.stays in (
       stays,
       omega (arith, stays.number, self.few, c.if-number-gt-MOST_LINES.true),
@@ -20,8 +18,8 @@ returns-then-number-gt-MOST_LINES-clause-answers g c =
           has_line (drop self.at bytes) (omega (arith, c.if-len-eq0.false, c.len.ensures, front_short octets (drop self.at bytes) holds.front)),
     )
 
-pub returns-in_default-read_request-clause-answers : goal.returns-in_default-read_request-clause-answers
-returns-in_default-read_request-clause-answers g c =
+pub returns-in_default-read_next-clause-answers : goal.returns-in_default-read_next-clause-answers
+returns-in_default-read_next-clause-answers g c =
     let self = c.args.self.now in
     let stays = c.in-Ok.ensures.stays in (
       stays,
@@ -30,38 +28,25 @@ returns-in_default-read_request-clause-answers g c =
       λ bytes is front.
           let holds = subst (λ (t : List ℕ). HoldsLine t (drop self.at bytes)) (sym c.octets.ensures) (c.in-Ok.ensures.holds bytes is front) in
           wrong_line (reached_of self) c.octets.result.now c.first_line-passed.result.0.now c.first_line-passed.result.1 bytes holds (omega (arith, c.if-len-eq0.false, c.len.ensures, ap length c.octets.ensures)) c.first_line-passed.ensures
-          c.in_default-read_request.ensures ∙ ap Err (sym stays.number),
-    )
-
-pub returns-then-moment-self-clause-answers : goal.returns-then-moment-self-clause-answers
-returns-then-moment-self-clause-answers g c =
-    let self = c.args.self.now in
-    let stays = c.in-Ok.ensures.stays in (
-      stays,
-      stays.number,
-      omega (arith, c.if-number-gt-MOST_LINES.false),
-      λ bytes is front.
-          let holds = subst (λ (t : List ℕ). HoldsLine t (drop self.at bytes)) (sym c.octets.ensures) (c.in-Ok.ensures.holds bytes is front) in
-          falls_line (reached_of self) c.octets.result.now c.first_line-passed.result.0.now c.first_line-passed.result.1 bytes holds (omega (arith, c.if-len-eq0.false, c.len.ensures, ap length c.octets.ensures)) c.first_line-passed.ensures
-          (record { moment = c.in-Some.moment; datagram = take c.in-Some.count c.read_request.new.into }) c.in-Some.ensures.2 (omega (arith, c.if-moment-self.true, stays.last)) ∙ ap Err (sym stays.number),
+          (subst (λ (last : ℕ). IsWrongAfter last c.first_line-passed.result.0.now) stays.last c.in_default-read_next.ensures) ∙ ap Err (sym stays.number),
     )
 
 pub returns-clause-answers : goal.returns-clause-answers
 returns-clause-answers g c =
     let self = c.args.self.now in
     let stays = c.in-Ok.ensures.stays in
-    let datagram = take c.in-Some.count c.read_request.new.into in
-    let kept = c.pass.ensures.datagram ∙ ap (take c.in-Some.count) (with_items_is c.see.new.self.datagram c.read_request.new.into (omega (arith, c.read_request.auto.into, c.deref_mut.ensures.len))) in
+    let datagram = take c.in-Some.count c.read_next.new.into in
+    let kept = c.pass.ensures.datagram ∙ ap (take c.in-Some.count) (with_items_is c.line_end.new.self.datagram c.read_next.new.into (omega (arith, c.read_next.auto.into, c.deref_mut.ensures.len))) in
     record {
       number = stays.number;
       next = omega (arith, c.pass.ensures.number, stays.number);
       few = omega (arith, c.if-number-gt-MOST_LINES.false, stays.number);
       moment = c.pass.ensures.last;
-      order = omega (arith, c.if-moment-self.false, stays.last);
-      range = c.in-Some.ensures.0;
+      order = omega (arith, c.in-Some.ensures.0, stays.last);
+      range = c.in-Some.ensures.1;
       passes = λ bytes is front.
           let holds = subst (λ (t : List ℕ). HoldsLine t (drop self.at bytes)) (sym c.octets.ensures) (c.in-Ok.ensures.holds bytes is front) in
           rw kept (takes_line (reached_of self) c.octets.result.now c.first_line-passed.result.0.now c.first_line-passed.result.1 bytes holds (omega (arith, c.if-len-eq0.false, c.len.ensures, ap length c.octets.ensures)) c.first_line-passed.ensures
-          (reached_of c.pass.new.self) (record { moment = c.in-Some.moment; datagram = datagram }) c.in-Some.ensures.2 (omega (arith, c.if-moment-self.false, stays.last))
+          (reached_of c.pass.new.self) (record { moment = c.in-Some.moment; datagram = datagram }) c.in-Some.ensures.3 (omega (arith, c.in-Some.ensures.0, stays.last))
           (omega (arith, c.pass.ensures.at, stays.at)) (omega (arith, c.pass.ensures.number, stays.number)) c.pass.ensures.last (c.pass.ensures.read ∙ ap (drop c.first_line-passed.result.1) (sym c.octets.ensures)));
     }
