@@ -7,6 +7,7 @@ ghost use Rattle.rm_proto.specs.Ethernet.{ethernet_type};
 use crate::datagram::Datagram;
 use crate::ethernet::{self, Cast, Pair};
 use crate::known::Facts;
+use crate::wire;
 
 /// The interface that frames come from. There is one.
 const INTERFACE: u32 = 1;
@@ -34,15 +35,15 @@ pub fn facts(bytes: &[u8], original: u32, keep_short: bool) -> Facts
     requires original { original ≤ 262144 }
     ensures { result ≡ facts_of bytes.now original keep_short }
 {
-    let length = ethernet::wire_length(original, keep_short);
+    let length = wire::length(original, keep_short);
     let pair = Pair::at_front(bytes);
     let ether = ethernet::ethernet_type(bytes);
     let datagram = datagram_in(bytes, ether);
     Facts {
         interface: INTERFACE,
         length,
-        good: ethernet::is_good(length),
-        status: ethernet::status(length),
+        good: wire::is_good(length),
+        status: wire::status(length),
         pair,
         cast: Cast::of(pair),
         ether,

@@ -10,6 +10,7 @@ mod known;
 mod ports;
 #[cfg(test)]
 mod tests;
+mod wire;
 
 pub use datagram::IpPair;
 pub use ethernet::{Cast, Pair};
