@@ -164,8 +164,23 @@ value_or_none bytes = elim (element_or_none bytes) [
   | inr none ↦ inr (λ v rest first. none first.tag first.content rest first.stands)
 ]
 
+-- an element with that tag stands first, whose content reads as that
+abbrev pub ReadsFirst : {A : Type 0} → ℕ → (List ℕ → Option A) → A → List ℕ → List ℕ → Type 0
+ReadsFirst tag read value rest bytes = (content : List ℕ) × StandsFirst tag content rest bytes × (read content ≡ Some value)
+
+-- what an element's content reads as is what is read first
+pub reads_once : {A : Type 0} (tag : ℕ) (read : List ℕ → Option A) (found : Option A) (value : A) (content rest other_rest bytes : List ℕ)
+    → StandsFirst tag content rest bytes → found ≡ read content → ReadsFirst tag read value other_rest bytes → (found ≡ Some value) × (rest ≡ other_rest)
+reads_once tag read found value content rest other_rest bytes stands is reads =
+    let same = element_once tag tag content reads.0 rest other_rest bytes stands reads.1 in
+    (is ∙ ap read same.1 ∙ reads.2, same.2)
+
+pub reads_none : {A : Type 0} (tag : ℕ) (read : List ℕ → Option A) (value : A) (content rest other_rest bytes : List ℕ)
+    → StandsFirst tag content rest bytes → None ≡ read content → ReadsFirst tag read value other_rest bytes → ⊥
+reads_none tag read value content rest other_rest bytes stands is reads = none-some value (reads_once tag read None value content rest other_rest bytes stands is reads).0
+
 -- an INTEGER's element
-pub int_parts : (z : ℤ) (rest bytes : List ℕ) → ValueFirst (int z) rest bytes → (content : List ℕ) × StandsFirst 0x02 content rest bytes × (integer_of content ≡ Some z)
+pub int_parts : (z : ℤ) (rest bytes : List ℕ) → ValueFirst (int z) rest bytes → ReadsFirst 0x02 integer_of z rest bytes
 int_parts z rest bytes h =
     (h.content, subst (λ t. StandsFirst t h.content rest bytes) h.is_value.0 h.stands, integer_finds h.content z h.is_value.1)
 
@@ -175,7 +190,7 @@ octets_parts content rest bytes h =
     subst (λ t. StandsFirst t content rest bytes) h.is_value.0 (subst (λ xs. StandsFirst h.tag xs rest bytes) h.is_value.1 h.stands)
 
 -- an OBJECT IDENTIFIER's element
-pub name_parts : (numbers rest bytes : List ℕ) → ValueFirst (name numbers) rest bytes → (content : List ℕ) × StandsFirst 0x06 content rest bytes × (name_in content ≡ Some numbers)
+pub name_parts : (numbers rest bytes : List ℕ) → ValueFirst (name numbers) rest bytes → ReadsFirst 0x06 name_in numbers rest bytes
 name_parts numbers rest bytes h =
     (h.content, subst (λ t. StandsFirst t h.content rest bytes) h.is_value.0 h.stands, name_finds h.content numbers h.is_value.1)
 

@@ -1,11 +1,10 @@
 // The contents of elements: numbers in two's complement (X.690, 8.3), and names in base 128 (X.690, 8.19).
-ghost use Rattle.std.specs.Prelude.{◌≡◌, ◌+◌, ◌≤◌, ◌<◌, ◌^◌, ◌++◌, length, All};
+ghost use Rattle.std.specs.Prelude.{◌≡◌, ◌+◌, ◌-◌, ◌≤◌, ◌<◌, ◌^◌, ◌++◌, length, drop, All};
 ghost use Rattle.rm_val.specs.Spellable.{IsSpellable};
 ghost use Rattle.rm_ber.specs.Element.{integer_octets, number_octets, group_octets, name_octets};
 
 use crate::sizes::{integer_size, number_size};
 use arrayvec::ArrayVec;
-use byteorder::{BigEndian, ByteOrder};
 use rm_val::Oid;
 
 // A number takes at most five octets, and the first two numbers of a name are joined in one.
@@ -18,12 +17,7 @@ const NAME_OCTETS: usize = 127 * GROUP_OCTETS;
 pub(crate) fn integer_content(number: i32) -> ArrayVec<u8, 4>
     ensures { result.items ≡ integer_octets number }
 {
-    let size = integer_size(number);
-    let mut octets = [0; 4];
-    BigEndian::write_int(&mut octets, i64::from(number), size);
-    let mut content = ArrayVec::new();
-    append(&mut content, &octets[..size]);
-    content
+    last_octets(&i64::from(number).to_be_bytes(), integer_size(number))
 }
 
 // The content of the element of an unsigned number.
@@ -31,12 +25,7 @@ pub(crate) fn integer_content(number: i32) -> ArrayVec<u8, 4>
 pub(crate) fn unsigned_content(number: u64) -> ArrayVec<u8, 9>
     ensures { result.items ≡ number_octets number }
 {
-    let size = number_size(number);
-    let mut octets = [0; 9];
-    BigEndian::write_uint128(&mut octets, u128::from(number), size);
-    let mut content = ArrayVec::new();
-    append(&mut content, &octets[..size]);
-    content
+    last_octets(&u128::from(number).to_be_bytes(), number_size(number))
 }
 
 // The content of the element of a name.
@@ -68,6 +57,17 @@ fn group(number: u32) -> ArrayVec<u8, GROUP_OCTETS>
     }
     octets.push((number % 128) as u8);
     octets
+}
+
+// The last octets, so many.
+fn last_octets<const N: usize>(octets: &[u8], count: usize) -> ArrayVec<u8, N>
+    requires within { count ≤ length octets.now }
+    requires room { count ≤ N }
+    ensures { result.items ≡ drop (length octets.now - count) octets.now }
+{
+    let mut last = ArrayVec::new();
+    append(&mut last, &octets[octets.len() - count..]);
+    last
 }
 
 // Appends octets for which there is room.
