@@ -11,12 +11,19 @@ use Rattle.rm_pdu.specs.declared.kind.Kind.{Kind}
 use Rattle.rm_pdu.specs.declared.kind.Kind.TheVariants.{Get, Next, Response, Set, Bulk, Inform, Trap, Report}
 use Rattle.rm_pdu.specs.Message.{kind_tag}
 use Rattle.rm_pdu.specs.Parse.{Awaited, whole, version, community, pdu, request_id, first_number, second_number, bindings, binding, binding_name, binding_value, binding_end, pdu_end, message_end, datagram_end, Point, LeadsTo, Begins, begins, goes_on, is_read, is_request, IsStuck, IsMalformed, IsOtherTag}
-use Rattle.rm_pdu.specs.Reading.{IsAt}
+use Rattle.rm_pdu.specs.Reading.{IsAt, Fails}
+use Rattle.rm_pdu.specs.declared.message.Fault.{Fault}
+use Rattle.rm_pdu.specs.declared.message.Fault.TheVariants.{Malformed}
 
 -- an error that is passed on
 pub errs : {T E : Type 0} (r : Result T E) (e : E) (P : T → Type 0) (Q : E → Type 0) → IsErrAnd r (λ f. f ≡ e) → Q e → MatchResult r P Q
 errs (Ok x) e P Q is holds = absurd is
 errs (Err f) e P Q is holds = subst Q (sym is) holds
+
+-- a rule that is broken where a reader stands is passed on as that
+pub breaks : {T : Type 0} {requests : Bool} {bytes : List ℕ} {place at : ℕ} (r : Result T Fault) (P : T → Type 0) → IsErrAnd r (λ f. f ≡ Malformed place) → place ≡ at
+    → IsMalformed requests bytes at → MatchResult r P (Fails requests bytes)
+breaks {requests = requests} {bytes = bytes} {place = place} r P is same broken = errs r (Malformed place) P (Fails requests bytes) is (rw same broken)
 
 -- an element is passed
 pub moves : (requests : Bool) (bytes : List ℕ) (from to : Awaited) (outer : List (List ℕ)) (old new : Left) → IsAt requests bytes from outer old

@@ -1,11 +1,9 @@
 use Rattle.std.proofs.Common.{◌≡◌, ℕ, Bool, true, false, List, ◌∷◌, refl, sym, ap, ◌∙◌, subst}
 use Rattle.rm_ber.specs.Grammar.{StandsFirst}
 use Rattle.rm_pdu.specs.declared.kind.Kind.{Kind}
-use Rattle.rm_pdu.specs.declared.message.Fault.TheVariants.{Malformed}
 use Rattle.rm_pdu.specs.Message.{kind_tag}
 use Rattle.rm_pdu.specs.Parse.{pdu, request_id, Begins, is_read, is_request}
-use Rattle.rm_pdu.specs.Reading.{Fails}
-use Rattle.rm_pdu.proofs.Steps.{errs, opens, not_ok, no_pdu, not_read, other_tag, tag_then, kind_of_other}
+use Rattle.rm_pdu.proofs.Steps.{breaks, opens, not_ok, no_pdu, not_read, other_tag, tag_then, kind_of_other}
 use Rattle.rm_pdu.proofs.message.open_pdu.Goals as goal
 
 pub returns-then-not-is_read-clause-part : goal.returns-then-not-is_read-clause-part
@@ -27,8 +25,7 @@ returns-then-not-is_read-clause-part c = λ bytes outer at.
 pub returns-in_err-pdu-clause-part : goal.returns-in_err-pdu-clause-part
 returns-in_err-pdu-clause-part c = λ bytes outer at.
     let read : is_read c.args.requests c.next_kind-kind.result ≡ true = sym c.is_read.ensures ∙ c.if-not-is_read.false in
-    errs c.from_residual.result (Malformed c.in_err-pdu.field-0.0.at) _ (Fails c.args.requests bytes) c.from_residual.ensures.1
-    (rw c.in_err-pdu.ensures.place (no_pdu c.args.requests bytes outer c.args.content.now at
+    breaks c.from_residual.result _ c.from_residual.ensures.1 c.in_err-pdu.ensures.place (no_pdu c.args.requests bytes outer c.args.content.now at
     (λ kind content rest only first.
     let then = tag_then (kind_tag kind) content rest c.args.content.now.left first in
     let same = c.next_kind-kind.ensures.comes kind then.0 then.1 in
@@ -38,7 +35,7 @@ returns-in_err-pdu-clause-part c = λ bytes outer at.
     let other = kind_of_other tag tags in
     let same = c.next_kind-kind.ensures.comes other.0 more (left ∙ ap (λ (x : ℕ). x ∷ more) other.1) in
     let yes : is_request other.0 ≡ true = subst (λ (k : Kind). is_request k ≡ true) same (subst (λ (r : Bool). is_read r c.next_kind-kind.result ≡ true) only read) in
-    let no : true ≡ false = sym yes ∙ other.2 in cc)))
+    let no : true ≡ false = sym yes ∙ other.2 in cc))
 
 pub returns-clause-part : goal.returns-clause-part
 returns-clause-part c = λ bytes outer at.

@@ -1,16 +1,14 @@
 use Rattle.std.proofs.Common.{◌≡◌, ℕ, List, [], ◌∷◌, refl, ◌∙◌, subst, inl, inr}
 use Rattle.rm_ber.specs.Grammar.{ValueFirst}
-use Rattle.rm_pdu.specs.declared.message.Fault.TheVariants.{Malformed}
 use Rattle.rm_pdu.specs.Parse.{binding, binding_name, binding_end}
 use Rattle.rm_pdu.specs.Reading.{Fails}
-use Rattle.rm_pdu.proofs.Steps.{errs, opens, closes, not_ok, no_binding, not_ended}
+use Rattle.rm_pdu.proofs.Steps.{breaks, errs, opens, closes, not_ok, no_binding, not_ended}
 use Rattle.rm_pdu.proofs.message.read_binding.Goals as goal
 
 pub returns-in_err-content-clause-part : goal.returns-in_err-content-clause-part
 returns-in_err-content-clause-part c = λ requests bytes outer at some.
-    errs c.from_residual.result (Malformed c.in_err-content.field-0.0.at) _ (Fails requests bytes) c.from_residual.ensures.1
-    (rw c.in_err-content.ensures.place (no_binding requests bytes outer c.args.list.now at some
-    (λ content rest first. not_ok c.enter.result c.in_err-content.field-0.0 (λ inner. inner.left ≡ content) c.in_err-content.was (c.enter.ensures.exact content rest first).0)))
+    breaks c.from_residual.result _ c.from_residual.ensures.1 c.in_err-content.ensures.place (no_binding requests bytes outer c.args.list.now at some
+    (λ content rest first. not_ok c.enter.result c.in_err-content.field-0.0 (λ inner. inner.left ≡ content) c.in_err-content.was (c.enter.ensures.exact content rest first).0))
 
 pub returns-in_err-offsets-clause-part : goal.returns-in_err-offsets-clause-part
 returns-in_err-offsets-clause-part c = λ requests bytes outer at some.
@@ -23,9 +21,8 @@ returns-in_err-finish-clause-part c = λ requests bytes outer at some.
     let opened = opens requests bytes binding binding_name outer c.args.list.now c.enter.new.self c.in_ok-content.content at
     (inr (c.in_ok-content.content.left, c.enter.new.self.left, c.in_ok-content.ensures.found, refl)) c.in_ok-content.ensures.ends c.in_ok-content.ensures.end in
     let ended = (c.in_ok-offsets.ensures.part requests bytes (c.enter.new.self.left ∷ outer) opened).0 in
-    errs c.from_residual-in_err-finish.result (Malformed c.in_err-finish.field-0.0.at) _ (Fails requests bytes) c.from_residual-in_err-finish.ensures.1
-    (rw c.in_err-finish.ensures.place (not_ended requests bytes binding_end (c.enter.new.self.left ∷ outer) c.read_pair.new.content (inl refl) ended
-    (λ none. let no = c.in_err-finish.ensures.done.1 none in absurd cc)))
+    breaks c.from_residual-in_err-finish.result _ c.from_residual-in_err-finish.ensures.1 c.in_err-finish.ensures.place (not_ended requests bytes binding_end (c.enter.new.self.left ∷ outer) c.read_pair.new.content (inl refl) ended
+    (λ none. let no = c.in_err-finish.ensures.done.1 none in absurd cc))
 
 pub returns-clause-part : goal.returns-clause-part
 returns-clause-part c = λ requests bytes outer at some.

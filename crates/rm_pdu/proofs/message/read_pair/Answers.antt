@@ -1,26 +1,20 @@
 use Rattle.std.proofs.Common.{◌≡◌, refl, drop}
 use Rattle.rm_val.specs.Val.{val_of, name}
 use Rattle.rm_ber.specs.Grammar.{ValueFirst}
-use Rattle.rm_pdu.specs.declared.message.Fault.TheVariants.{Malformed}
 use Rattle.rm_pdu.specs.Message.{Binding}
 use Rattle.rm_pdu.specs.Parse.{binding_name, binding_value, binding_end}
-use Rattle.rm_pdu.specs.Reading.{Fails}
-use Rattle.rm_pdu.proofs.Steps.{errs, moves, not_ok, not_both, no_name, no_value}
+use Rattle.rm_pdu.proofs.Steps.{breaks, moves, not_ok, not_both, no_name, no_value}
 use Rattle.rm_pdu.proofs.Octets.{value_at}
 use Rattle.rm_pdu.proofs.message.read_pair.Goals as goal
 
 pub returns-in_err-name-clause-part : goal.returns-in_err-name-clause-part
 returns-in_err-name-clause-part c = λ requests bytes outer at.
-    errs c.from_residual.result (Malformed c.in_err-name.field-0.0.at) _ (Fails requests bytes) c.from_residual.ensures.1
-    (rw c.in_err-name.ensures.place (no_name requests bytes outer c.args.content.now at
-    (λ numbers rest first. not_both c.name.result c.in_err-name.field-0.0 numbers c.in_err-name.was (c.name.ensures.exact numbers rest first).0)))
+    breaks c.from_residual.result _ c.from_residual.ensures.1 c.in_err-name.ensures.place (no_name requests bytes outer c.args.content.now at (λ numbers rest first. not_both c.name.result c.in_err-name.field-0.0 numbers c.in_err-name.was (c.name.ensures.exact numbers rest first).0))
 
 pub returns-in_err-value-clause-part : goal.returns-in_err-value-clause-part
 returns-in_err-value-clause-part c = λ requests bytes outer at.
     let named = moves requests bytes binding_name binding_value outer c.args.content.now c.name.new.self at (c.in_ok-name.field-0, c.name.new.self.left, c.in_ok-name.ensures.found, refl) c.in_ok-name.ensures.end in
-    errs c.from_residual-in_err-value.result (Malformed c.in_err-value.field-0.0.at) _ (Fails requests bytes) c.from_residual-in_err-value.ensures.1
-    (rw c.in_err-value.ensures.place (no_value requests bytes outer c.name.new.self named
-    (λ v rest first. not_ok c.value.result c.in_err-value.field-0.0 (λ x. val_of x ≡ v) c.in_err-value.was (c.value.ensures.exact v rest first).0)))
+    breaks c.from_residual-in_err-value.result _ c.from_residual-in_err-value.ensures.1 c.in_err-value.ensures.place (no_value requests bytes outer c.name.new.self named (λ v rest first. not_ok c.value.result c.in_err-value.field-0.0 (λ x. val_of x ≡ v) c.in_err-value.was (c.value.ensures.exact v rest first).0))
 
 pub returns-clause-part : goal.returns-clause-part
 returns-clause-part c = λ requests bytes outer at.

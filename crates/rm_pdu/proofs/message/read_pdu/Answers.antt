@@ -1,17 +1,15 @@
 use Rattle.std.proofs.Common.{◌≡◌, ℕ, List, [], ◌∷◌, refl, ◌∙◌, subst, inl, inr}
 use Rattle.rm_ber.specs.Grammar.{StandsFirst}
-use Rattle.rm_pdu.specs.declared.message.Fault.TheVariants.{Malformed}
 use Rattle.rm_pdu.specs.Parse.{bindings, binding, pdu_end}
 use Rattle.rm_pdu.specs.Reading.{Fails}
-use Rattle.rm_pdu.proofs.Steps.{errs, opens, closes, not_ok, no_header, not_ended}
+use Rattle.rm_pdu.proofs.Steps.{breaks, errs, opens, closes, not_ok, no_header, not_ended}
 use Rattle.rm_pdu.proofs.message.read_pdu.Goals as goal
 
 pub returns-in_err-list-clause-part : goal.returns-in_err-list-clause-part
 returns-in_err-list-clause-part c = λ requests bytes outer at.
     let numbers = c.in_ok-numbers.ensures.part requests bytes outer at in
-    errs c.from_residual-in_err-list.result (Malformed c.in_err-list.field-0.0.at) _ (Fails requests bytes) c.from_residual-in_err-list.ensures.1
-    (rw c.in_err-list.ensures.place (no_header requests bytes bindings outer c.read_numbers.new.pdu (inr refl) numbers.0
-    (λ content rest first. not_ok c.enter.result c.in_err-list.field-0.0 (λ inner. inner.left ≡ content) c.in_err-list.was (c.enter.ensures.exact content rest first).0)))
+    breaks c.from_residual-in_err-list.result _ c.from_residual-in_err-list.ensures.1 c.in_err-list.ensures.place (no_header requests bytes bindings outer c.read_numbers.new.pdu (inr refl) numbers.0
+    (λ content rest first. not_ok c.enter.result c.in_err-list.field-0.0 (λ inner. inner.left ≡ content) c.in_err-list.was (c.enter.ensures.exact content rest first).0))
 
 pub returns-in_err-count-clause-part : goal.returns-in_err-count-clause-part
 returns-in_err-count-clause-part c = λ requests bytes outer at.
@@ -27,9 +25,8 @@ returns-in_err-finish-clause-part c = λ requests bytes outer at.
     let part = c.in_ok-count.ensures.part requests bytes (c.enter.new.self.left ∷ outer) opened in
     let closed = closes requests bytes binding pdu_end outer c.read_bindings.new.list c.enter.new.self part.0 (inl (c.enter.new.self.left, outer, part.1, refl, refl)) part.1
     (c.in_ok-count.ensures.end ∙ c.in_ok-list.ensures.ends) in
-    errs c.from_residual-in_err-finish.result (Malformed c.in_err-finish.field-0.0.at) _ (Fails requests bytes) c.from_residual-in_err-finish.ensures.1
-    (rw c.in_err-finish.ensures.place (not_ended requests bytes pdu_end outer c.enter.new.self (inr (inl refl)) closed
-    (λ none. let no = c.in_err-finish.ensures.done.1 none in absurd cc)))
+    breaks c.from_residual-in_err-finish.result _ c.from_residual-in_err-finish.ensures.1 c.in_err-finish.ensures.place (not_ended requests bytes pdu_end outer c.enter.new.self (inr (inl refl)) closed
+    (λ none. let no = c.in_err-finish.ensures.done.1 none in absurd cc))
 
 pub returns-clause-part : goal.returns-clause-part
 returns-clause-part c = λ requests bytes outer at.

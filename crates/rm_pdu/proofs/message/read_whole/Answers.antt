@@ -1,19 +1,17 @@
 use Rattle.std.proofs.Common.{◌≡◌, ℕ, List, [], ◌∷◌, refl, ◌∙◌, subst, inl, inr}
 use Rattle.rm_ber.specs.Grammar.{StandsFirst}
-use Rattle.rm_pdu.specs.declared.message.Fault.TheVariants.{Malformed}
 use Rattle.rm_pdu.specs.Message.{Message, kind_tag}
 use Rattle.rm_pdu.specs.Parse.{whole, pdu_end, message_end, datagram_end}
 use Rattle.rm_pdu.specs.Reading.{Fails}
-use Rattle.rm_pdu.proofs.Steps.{errs, begin_at, in_message, closes, not_ok, no_header, not_ended, not_all, kept_number}
+use Rattle.rm_pdu.proofs.Steps.{breaks, errs, begin_at, in_message, closes, not_ok, no_header, not_ended, not_all, kept_number}
 use Rattle.rm_pdu.proofs.message.read_whole.Goals as goal
 
 pub returns-in_err-content : goal.returns-in_err-content
 returns-in_err-content c =
     let bytes = c.args.bytes.now in
     let at = begin_at c.args.requests bytes c.new-datagram.result c.new-datagram.ensures.begins c.new-datagram.ensures.whole in
-    errs c.from_residual.result (Malformed c.in_err-content.field-0.0.at) _ (Fails c.args.requests bytes) c.from_residual.ensures.1
-    (rw c.in_err-content.ensures.place (no_header c.args.requests bytes whole [] c.new-datagram.result (inl refl) at
-    (λ content rest first. not_ok c.enter.result c.in_err-content.field-0.0 (λ inner. inner.left ≡ content) c.in_err-content.was (c.enter.ensures.exact content rest first).0)))
+    breaks c.from_residual.result _ c.from_residual.ensures.1 c.in_err-content.ensures.place (no_header c.args.requests bytes whole [] c.new-datagram.result (inl refl) at
+    (λ content rest first. not_ok c.enter.result c.in_err-content.field-0.0 (λ inner. inner.left ≡ content) c.in_err-content.was (c.enter.ensures.exact content rest first).0))
 
 pub returns-in_err-community : goal.returns-in_err-community
 returns-in_err-community c =
@@ -43,9 +41,8 @@ returns-in_err-finish c =
     let pdu = c.in_ok-read.ensures.part c.args.requests bytes _ (c.in_ok-kind.ensures.part bytes _ (c.in_ok-community.ensures.part c.args.requests bytes _ opened).0).0 in
     let after_pdu = closes c.args.requests bytes pdu_end message_end (c.enter.new.self.left ∷ []) c.read_pdu.new.pdu c.open_pdu.new.content pdu.0
     (c.open_pdu.new.content.left, c.enter.new.self.left ∷ [], pdu.1, refl, refl) pdu.1 (c.in_ok-read.ensures.end ∙ c.in_ok-kind.ensures.inside) in
-    errs c.from_residual-in_err-finish.result (Malformed c.in_err-finish.field-0.0.at) _ (Fails c.args.requests bytes) c.from_residual-in_err-finish.ensures.1
-    (rw c.in_err-finish.ensures.place (not_ended c.args.requests bytes message_end (c.enter.new.self.left ∷ []) c.open_pdu.new.content (inr (inr refl)) after_pdu
-    (λ none. let no = c.in_err-finish.ensures.done.1 none in absurd cc)))
+    breaks c.from_residual-in_err-finish.result _ c.from_residual-in_err-finish.ensures.1 c.in_err-finish.ensures.place (not_ended c.args.requests bytes message_end (c.enter.new.self.left ∷ []) c.open_pdu.new.content (inr (inr refl)) after_pdu
+    (λ none. let no = c.in_err-finish.ensures.done.1 none in absurd cc))
 
 pub returns-in_err-finish-2 : goal.returns-in_err-finish-2
 returns-in_err-finish-2 c =
@@ -57,9 +54,8 @@ returns-in_err-finish-2 c =
     let none : c.open_pdu.new.content.left ≡ [] = c.in_ok-finish.ensures.done.0 refl in
     let after_message = closes c.args.requests bytes message_end datagram_end [] c.open_pdu.new.content c.enter.new.self after_pdu
     (c.enter.new.self.left, [], none, refl, refl) none (c.in_ok-kind.ensures.end ∙ c.in_ok-community.ensures.end ∙ c.in_ok-content.ensures.ends) in
-    errs c.from_residual-in_err-finish-2.result (Malformed c.in_err-finish-2.field-0.0.at) _ (Fails c.args.requests bytes) c.from_residual-in_err-finish-2.ensures.1
-    (rw c.in_err-finish-2.ensures.place (not_all c.args.requests bytes c.enter.new.self after_message
-    (λ empty. let no = c.in_err-finish-2.ensures.done.1 empty in absurd cc)))
+    breaks c.from_residual-in_err-finish-2.result _ c.from_residual-in_err-finish-2.ensures.1 c.in_err-finish-2.ensures.place (not_all c.args.requests bytes c.enter.new.self after_message
+    (λ empty. let no = c.in_err-finish-2.ensures.done.1 empty in absurd cc))
 
 pub returns : goal.returns
 returns c =
