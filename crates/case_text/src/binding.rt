@@ -32,93 +32,116 @@ fn binding(alloc: Global, names: &Names, text: &str) -> Result<Vec<u8>, Trouble>
     if let Some(raw) = text.strip_prefix("raw ") {
         return octets(alloc, raw);
     }
-    let mut content = Vec::new(alloc);
+    let mut content = Content {
+        alloc,
+        names,
+        octets: Vec::new(alloc),
+    };
     match text.split_once('=') {
         Some((name, value)) => {
-            push_name(alloc, names, name.trim(), &mut content)?;
-            push_value(alloc, names, name.trim(), value.trim(), &mut content)?;
+            content.push_name(name.trim())?;
+            content.push_value(name.trim(), value.trim())?;
         }
         None => {
-            push_name(alloc, names, text, &mut content)?;
-            ber::push_element(ber::NULL, &[], &mut content)?;
+            content.push_name(text)?;
+            content.push_empty(ber::NULL)?;
         }
     }
     let mut element = Vec::new(alloc);
-    ber::push_element(ber::SEQUENCE, &content, &mut element)?;
+    ber::push_element(ber::SEQUENCE, &content.octets, &mut element)?;
     Ok(element)
 }
 
-// A name is an identifier, or `name` and the octets of its content.
-fn push_name(alloc: Global, names: &Names, text: &str, all: &mut Vec<u8>) -> Result<(), Trouble> {
-    match text.strip_prefix("name ") {
-        Some(content) => {
-            ber::push_element(ber::OBJECT_IDENTIFIER, &octets(alloc, content)?, all)
+// The content of a binding that is being written, and the names by which its parts are told.
+#[derive(Drop)]
+struct Content<'a> {
+    alloc: Global,
+    names: &'a Names,
+    octets: Vec<u8>,
+}
+
+impl<'a> Content<'a> {
+    // A name is an identifier, or `name` and the octets of its content.
+    fn push_name(&mut self, text: &str) -> Result<(), Trouble> {
+        match text.strip_prefix("name ") {
+            Some(content) => {
+                let content = octets(self.alloc, content)?;
+                ber::push_element(ber::OBJECT_IDENTIFIER, &content, &mut self.octets)
+            }
+            None => self.push_syntax(Syntax::ObjectIdentifier, text),
         }
-        None => ber::push_identifier(alloc, &names.identifier(text)?, all),
+    }
+
+    // A value whose kind is named, or one of the object's own syntax.
+    fn push_value(&mut self, name: &str, text: &str) -> Result<(), Trouble> {
+        if let Some(tag) = empty_kind(text) {
+            return self.push_empty(tag);
+        }
+        let (kind, rest) = first_word(text);
+        if kind == "element" {
+            return Ok(self.octets.extend_from_slice(&octets(self.alloc, rest)?)?);
+        }
+        match syntax_named(kind) {
+            Some(syntax) => self.push_syntax(syntax, rest),
+            None => self.push_own(name, text),
+        }
+    }
+
+    // A value of the object's own syntax, or the name of one of its numbers.
+    fn push_own(&mut self, name: &str, text: &str) -> Result<(), Trouble> {
+        if let Some(number) = self.names.labelled(name, text) {
+            return ber::push_number(ber::INTEGER, number, &mut self.octets);
+        }
+        match self.names.syntax(name) {
+            Some(syntax) => self.push_syntax(syntax, text),
+            None => Err(Trouble::Form("a value without a kind for a name without a syntax")),
+        }
+    }
+
+    fn push_syntax(&mut self, syntax: Syntax, text: &str) -> Result<(), Trouble> {
+        let all = &mut self.octets;
+        match syntax {
+            Syntax::Integer => ber::push_number(ber::INTEGER, signed(text)?, all),
+            Syntax::Counter => ber::push_number(ber::COUNTER, unsigned(text)?, all),
+            Syntax::Gauge => ber::push_number(ber::GAUGE, unsigned(text)?, all),
+            Syntax::Ticks => ber::push_number(ber::TICKS, unsigned(text)?, all),
+            Syntax::OctetString => {
+                ber::push_element(ber::OCTET_STRING, &octets(self.alloc, text)?, all)
+            }
+            Syntax::ObjectIdentifier => {
+                ber::push_identifier(self.alloc, &self.names.identifier(text)?, all)
+            }
+            Syntax::IpAddress => ber::push_element(ber::IP_ADDRESS, &ip(self.alloc, text)?, all),
+        }
+    }
+
+    fn push_empty(&mut self, tag: u8) -> Result<(), Trouble> {
+        ber::push_element(tag, &[], &mut self.octets)
     }
 }
 
-// A value whose kind is named, or one of the object's own syntax.
-fn push_value(
-    alloc: Global,
-    names: &Names,
-    name: &str,
-    text: &str,
-    all: &mut Vec<u8>,
-) -> Result<(), Trouble> {
+// The tag of a value that has no content.
+fn empty_kind(text: &str) -> Option<u8> {
     match text {
-        "null" => return ber::push_element(ber::NULL, &[], all),
-        "noSuchObject" => return ber::push_element(ber::NO_SUCH_OBJECT, &[], all),
-        "noSuchInstance" => return ber::push_element(ber::NO_SUCH_INSTANCE, &[], all),
-        "endOfMibView" => return ber::push_element(ber::END_OF_MIB_VIEW, &[], all),
-        _ => {}
+        "null" => Some(ber::NULL),
+        "noSuchObject" => Some(ber::NO_SUCH_OBJECT),
+        "noSuchInstance" => Some(ber::NO_SUCH_INSTANCE),
+        "endOfMibView" => Some(ber::END_OF_MIB_VIEW),
+        _ => None,
     }
-    let (kind, rest) = first_word(text);
+}
+
+// The syntax of a kind of values.
+fn syntax_named(kind: &str) -> Option<Syntax> {
     match kind {
-        "integer" => push_syntax(alloc, names, Syntax::Integer, rest, all),
-        "octets" => push_syntax(alloc, names, Syntax::OctetString, rest, all),
-        "oid" => push_syntax(alloc, names, Syntax::ObjectIdentifier, rest, all),
-        "address" => push_syntax(alloc, names, Syntax::IpAddress, rest, all),
-        "counter" => push_syntax(alloc, names, Syntax::Counter, rest, all),
-        "gauge" => push_syntax(alloc, names, Syntax::Gauge, rest, all),
-        "ticks" => push_syntax(alloc, names, Syntax::Ticks, rest, all),
-        "element" => Ok(all.extend_from_slice(&octets(alloc, rest)?)?),
-        _ => push_own(alloc, names, name, text, all),
-    }
-}
-
-// A value of the object's own syntax, or the name of one of its numbers.
-fn push_own(
-    alloc: Global,
-    names: &Names,
-    name: &str,
-    text: &str,
-    all: &mut Vec<u8>,
-) -> Result<(), Trouble> {
-    if let Some(number) = names.labelled(name, text) {
-        return ber::push_number(ber::INTEGER, number, all);
-    }
-    match names.syntax(name) {
-        Some(syntax) => push_syntax(alloc, names, syntax, text, all),
-        None => Err(Trouble::Form("a value without a kind for a name without a syntax")),
-    }
-}
-
-fn push_syntax(
-    alloc: Global,
-    names: &Names,
-    syntax: Syntax,
-    text: &str,
-    all: &mut Vec<u8>,
-) -> Result<(), Trouble> {
-    match syntax {
-        Syntax::Integer => ber::push_number(ber::INTEGER, signed(text)?, all),
-        Syntax::Counter => ber::push_number(ber::COUNTER, unsigned(text)?, all),
-        Syntax::Gauge => ber::push_number(ber::GAUGE, unsigned(text)?, all),
-        Syntax::Ticks => ber::push_number(ber::TICKS, unsigned(text)?, all),
-        Syntax::OctetString => { ber::push_element(ber::OCTET_STRING, &octets(alloc, text)?, all) }
-        Syntax::ObjectIdentifier => { ber::push_identifier(alloc, &names.identifier(text)?, all) }
-        Syntax::IpAddress => { ber::push_element(ber::IP_ADDRESS, &ip(alloc, text)?, all) }
+        "integer" => Some(Syntax::Integer),
+        "octets" => Some(Syntax::OctetString),
+        "oid" => Some(Syntax::ObjectIdentifier),
+        "address" => Some(Syntax::IpAddress),
+        "counter" => Some(Syntax::Counter),
+        "gauge" => Some(Syntax::Gauge),
+        "ticks" => Some(Syntax::Ticks),
+        _ => None,
     }
 }
 
