@@ -4,7 +4,7 @@ ghost use Rattle.std.specs.Option.{option_map};
 ghost use Rattle.rm_proto.specs.Datagram.{has_header, header_length, addresses_of, fragment_offset, protocol_of, ports_of};
 
 use crate::field::octets_at;
-use crate::ports::Ports;
+use crate::ports::{Ports, TCP, UDP};
 use byteorder::{BigEndian, ByteOrder};
 
 /// The version of IPv4 (RFC 791).
@@ -18,11 +18,6 @@ const LEAST_HEADER: usize = 20;
 
 /// The bits of the fragment offset, below the three flags.
 const FRAGMENT_OFFSET: u16 = 0x1fff;
-
-/// The protocols whose ports are told (RFC 1700).
-const TCP: u8 = 6;
-
-const UDP: u8 = 17;
 
 /// The addresses of an IPv4 datagram, the octets in network order (RFC 791).
 #[derive(Clone, Copy, Debug, PartialEq, Eq)]

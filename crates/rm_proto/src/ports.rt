@@ -3,6 +3,11 @@ ghost use Rattle.std.specs.Prelude.{◌≡◌};
 
 use byteorder::{BigEndian, ByteOrder};
 
+/// The protocols whose ports are told (RFC 1700).
+pub const TCP: u8 = 6;
+
+pub const UDP: u8 = 17;
+
 /// The octets of both ports.
 const BOTH_PORTS: usize = 4;
 
