@@ -1,5 +1,5 @@
 -- Lines that are written one at a time.
-use Rattle.std.proofs.Common.{◌≡◌, ◌⊎◌, inl, inr, ℕ, ◌+◌, ◌≤◌, min, Bool, true, false, List, [], ◌∷◌, ◌++◌, length, take, take_while, Option, Ok, Err, refl, sym, ap, subst, ◌∙◌, arith, append_assoc}
+use Rattle.std.proofs.Common.{◌≡◌, ◌⊎◌, inl, inr, ℕ, ◌+◌, ◌≤◌, min, Bool, true, false, List, [], ◌∷◌, ◌++◌, length, take, take_while, Option, Result, Ok, Err, refl, sym, ap, subst, ◌∙◌, arith, append_assoc}
 use Rattle.std.proofs.lemmas.List.{append-nil}
 use Rattle.rm_edge.specs.Outside.{Adds, AddsFront, Rose}
 use Rattle.rm_model.specs.Journal.{Frame, Journal}
@@ -14,15 +14,17 @@ use Rattle.rm_probe.specs.Events.{Asks, comings, is_by}
 use Rattle.rm_requests.specs.Lines.{TimedDatagram}
 use Rattle.rm_probe.specs.Notes.{Note, trap_lines, HasNoted}
 use Rattle.rm_probe.specs.Probe.{settings_of, Stands}
-use Rattle.rm_probe.specs.Steps.{HasBegun, Advanced, Advances, Answers, Finishes, IsNextLine, IsOfRecord, Leaves, WritesLine, done}
+use Rattle.rm_probe.specs.Steps.{HasBegun, Advanced, Advances, Answers, Finishes, IsNextLine, IsOfRecord, Leaves, WritesLine, done, written_by}
+use Rattle.rm_probe.specs.Status.{status_after}
+use Rattle.rm_probe.specs.declared.status.Status.TheVariants.{WriteFault}
 use Rattle.rm_probe.specs.Text.{IsAnswer, AreLines}
 use Rattle.rm_probe.specs.declared.probe.Probe.{Probe}
 use Rattle.rm_probe.proofs.NoteLemmas.{HasPut, adds_then, front_of, front_more}
 use Rattle.rm_probe.proofs.PassingLemmas.{more_traps, lines_after}
 
 -- notifications, and then a line that is put
-pub line_behind : (old mid new : Option (List ℕ)) (before between after : ℕ) (failed failed' failed'' : Bool) (notes : List Note) (line : List ℕ) (done : Unit {0})
-    → HasNoted old mid before between failed failed' notes → HasPut {T = Unit {0}} {E = Unit {0}} mid new between after failed' failed'' line (Ok done) → Adds old new (trap_lines notes ++ line)
+pub line_behind : {E : Type 0} (old mid new : Option (List ℕ)) (before between after : ℕ) (failed failed' failed'' : Bool) (notes : List Note) (line : List ℕ) (done : Unit {0})
+    → HasNoted old mid before between failed failed' notes → HasPut {T = Unit {0}} {E = E} mid new between after failed' failed'' line (Ok done) → Adds old new (trap_lines notes ++ line)
 line_behind old mid new before between after failed failed' failed'' notes line done noted put = adds_then old mid new (trap_lines notes) line (noted.whole put.first) put.octets
 
 -- and one that isn't put whole
@@ -35,14 +37,31 @@ front_behind old mid new before between after failed false failed'' notes line f
       rw (ap (λ (t : List ℕ). trap_lines notes ++ t) (sym (append-nil line)), front_of n (trap_lines notes) line []) (adds_then old mid new (trap_lines notes) (take n line) (noted.whole refl) added),
     )
 
--- a put that failed after an earlier one hadn't
-pub put_rose : (faults between faults' : ℕ) (old new : Option (List ℕ)) (failed' : Bool) (notes : List Note) → HasNoted old new faults between false failed' notes → (failed' ≡ true) ⊎ Rose between faults' → between ≤ faults' → Rose faults faults'
-put_rose faults between faults' old new failed' notes noted (inr rose) later = omega (arith, rose, noted.later)
-put_rose faults between faults' old new failed' notes noted (inl failed) later = noted_rose (noted.cause failed)
-  where
-    noted_rose : (false ≡ true) ⊎ Rose faults between → Rose faults faults'
-    noted_rose (inl e) = absurd cc
-    noted_rose (inr rose) = omega (arith, rose, later)
+-- What is written by notifications and a put of a line behind them, and why a put failed: as a result, and as the end of a run.
+module _ {E : Type 0} (old mid new : Option (List ℕ)) (before between after : ℕ) (failed failed' failed'' : Bool) (notes : List Note) (line : List ℕ) where
+  pub put_writes : (IsNext : List ℕ → Type 0) (IsBegun : List Note → Type 0) (stop : Stop) (put : Result (Unit {0}) E)
+      → HasNoted old mid before between failed failed' notes → HasPut mid new between after failed' failed'' line put → IsNext (trap_lines notes ++ line)
+      → WritesLine IsNext IsBegun stop old new (written_by put) × WritesLine IsNext IsBegun stop old new (done (status_after put))
+  put_writes IsNext IsBegun stop (Ok done) noted put is =
+      let adds = line_behind old mid new before between after failed failed' failed'' notes line done noted put in
+      ((trap_lines notes ++ line, is, adds), (trap_lines notes ++ line, is, adds))
+  put_writes IsNext IsBegun stop (Err fault) noted put is =
+      let adds = front_behind old mid new before between after failed failed' failed'' notes line fault noted put in
+      ((trap_lines notes ++ line, is, adds), (trap_lines notes ++ line, is, adds))
+
+  -- where none had failed
+  pub put_rose : (put : Result (Unit {0}) E) → HasNoted old mid before between failed failed' notes → failed ≡ false → HasPut mid new between after failed' failed'' line put
+      → (written_by put ≡ Err WriteFault → Rose before after) × (status_after put ≡ WriteFault → Rose before after)
+  put_rose (Ok done) noted none put = (λ e. absurd cc, λ e. absurd cc)
+  put_rose (Err fault) noted none put = let rose = by_put put.cause in (λ _. rose, λ _. rose)
+    where
+      by_notes : (failed ≡ true) ⊎ Rose before between → Rose before after
+      by_notes (inl e) = absurd (let broken : true ≡ false = sym e ∙ none in cc)
+      by_notes (inr rose) = omega (arith, rose, put.later)
+
+      by_put : (failed' ≡ true) ⊎ Rose between after → Rose before after
+      by_put (inl e) = by_notes (noted.cause e)
+      by_put (inr rose) = omega (arith, rose, noted.later)
 
 -- the next line, after the frames up to the moment of its datagram
 pub next_is : (bytes : List ℕ) (old new : Progress) (settings : Settings) (probe probe' : Probe) (number : ℕ) (request : TimedDatagram) (frames : List Frame) (stop : Stop) (journal : Journal) (passed told : List Note) (line : List ℕ)

@@ -136,6 +136,11 @@ abbrev pub done : Status → Result (Unit {0}) Status
 done Done = Ok tt
 done status = Err status
 
+-- what a put is for the run: one that fails ends it
+abbrev pub written_by : {E : Type 0} → Result (Unit {0}) E → Result (Unit {0}) Status
+written_by (Ok done) = Ok done
+written_by (Err fault) = Err WriteFault
+
 -- What is written for a line: the whole line, or a front of it where a put failed, or a front of the notifications that had
 -- come where a read failed. Other faults are how the records stop.
 abbrev pub WritesLine : {T : Type 0} → (List ℕ → Type 0) → (List Note → Type 0) → Stop → Option (List ℕ) → Option (List ℕ) → Result T Status → Type 0

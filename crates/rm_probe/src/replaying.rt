@@ -10,7 +10,7 @@ ghost use Rattle.rm_requests.specs.Lines.{TimedDatagram, AreRequests};
 ghost use Rattle.rm_requests.specs.Reading.{beginning, reached_of};
 ghost use Rattle.rm_probe.specs.Notes.{Note, Sent};
 ghost use Rattle.rm_probe.specs.Probe.{settings_of, last_given, frames_given, IsFresh, Stands};
-ghost use Rattle.rm_probe.specs.Steps.{Advances, Answers, FindsAnother, Finishes, HasBegun, IsForeign, IsLastLine, IsNextLine, IsNotCapture, IsNotLeft, IsNotRequests, IsOfRecord, Keeps, Leaves, Writes, WritesLine, done, timed};
+ghost use Rattle.rm_probe.specs.Steps.{Advances, Answers, FindsAnother, Finishes, HasBegun, IsForeign, IsLastLine, IsNextLine, IsNotCapture, IsNotLeft, IsNotRequests, IsOfRecord, Keeps, Leaves, Writes, WritesLine, done, timed, written_by};
 ghost use Rattle.rm_probe.specs.Ends.{IsSilent};
 ghost use Rattle.rm_probe.specs.declared.status.Status.TheVariants.{ReadFault, WriteFault, NoMemory};
 
@@ -21,7 +21,7 @@ use crate::output::Output;
 use crate::probe::Probe;
 use crate::status::Status;
 use rm_agent::MOST_REPLY;
-use rm_edge::{Shelf, Sink};
+use rm_edge::{Failed, Shelf, Sink};
 use rm_pcap::{Capture, PcapFault, Step};
 use rm_requests::Requests;
 use std::alloc::Global;
@@ -137,10 +137,7 @@ impl Replaying {
         self.advance(shelf, name, request.moment, out)?;
         let mut line = Line::new();
         answer(alloc, &mut self.probe, request, &mut line, out);
-        match out.put(&line) {
-            Ok(()) => Ok(()),
-            Err(_) => Err(Status::WriteFault),
-        }
+        written(out.put(&line))
     }
 
     /// Writes the last line, after so many datagrams.
@@ -170,10 +167,7 @@ impl Replaying {
             Ok(()) => (),
             Err(fault) => return Status::from(fault),
         }
-        match out.put(&line) {
-            Ok(()) => Status::Done,
-            Err(_) => Status::WriteFault,
-        }
+        Status::of_put(out.put(&line))
     }
 
     /// Writes the lines of the datagrams of a request file, which is read from its first line on, and the last one.
@@ -244,6 +238,16 @@ fn answer<N: Notes>(
     let mut out = [0; MOST_REPLY];
     let answer = probe.datagram(alloc, request.datagram, request.moment, &mut out, notes);
     line::answer_line(request.moment, request.number, answer, &out, line);
+}
+
+// A put that fails ends the run.
+fn written(put: Result<(), Failed>) -> Result<(), Status>
+    ensures { result ≡ written_by put }
+{
+    match put {
+        Ok(()) => Ok(()),
+        Err(_) => Err(Status::WriteFault),
+    }
 }
 
 /// Reads both files again, the capture with its first frame at the moment `lead`, and writes the text of them.

@@ -1,6 +1,7 @@
 // How a run ended.
 ghost use Rattle.std.specs.Prelude.{◌≡◌, Some};
 
+use rm_edge::Failed;
 use rm_pcap::PcapFault;
 use rm_requests::RequestsFault;
 use std::fmt::{self, Display, Formatter, Write};
@@ -30,7 +31,7 @@ pub enum Status {
 
 impl Status {
     ghost use Rattle.rm_probe.specs.Requests.{status_by};
-    ghost use Rattle.rm_probe.specs.Status.{number_of};
+    ghost use Rattle.rm_probe.specs.Status.{number_of, status_after};
 
     /// The exit status of the program that ends so.
     pub fn number(&self) -> u8
@@ -46,6 +47,16 @@ impl Status {
             Status::NoMemory => 7,
             Status::LinkFault => 8,
             Status::TooLong => 9,
+        }
+    }
+
+    /// How a run ends by the put of its last line.
+    pub(crate) fn of_put(put: Result<(), Failed>) -> Status
+        ensures { result ≡ status_after put }
+    {
+        match put {
+            Ok(()) => Status::Done,
+            Err(_) => Status::WriteFault,
         }
     }
 
