@@ -11,6 +11,7 @@ use Rattle.rm_model.specs.declared.verdict.Verdict.{Verdict}
 use Rattle.rm_model.specs.declared.verdict.Verdict.TheVariants.{Fine, Wrong}
 use Rattle.rm_model.specs.Journal.{Journal}
 use Rattle.rm_model.specs.Judgement.{Bindings, IsFirstFault}
+use Rattle.rm_group.specs.Alone.{IsWithin}
 use Rattle.rm_pdu.specs.declared.kind.Kind.{Kind}
 use Rattle.rm_pdu.specs.declared.kind.Kind.TheVariants.{Get, Next, Response, Set, Bulk, Inform, Trap, Report}
 use Rattle.rm_pdu.specs.Parse.{is_request}
@@ -120,6 +121,11 @@ if_not_wrong count fault (Wrong status index) not is = absurd (not status index 
 pub wrong_within : (count : ℕ) (fault : ℕ → Option ErrorStatus) (status : ErrorStatus) (index : ℕ) → IsFirstFault count fault (Wrong status index) → index ≤ count
 wrong_within count fault status index (place, within, is, here, rest) = omega (arith, within, is)
 
+-- a verdict that names one of some bindings names one of more
+within_more : (verdict : Verdict) (count most : ℕ) → IsWithin count verdict → count ≤ most → IsWithin most verdict
+within_more Fine count most within fits = tt
+within_more (Wrong status index) count most within fits = omega (arith, within, fits)
+
 -- whether there is too much to be returned, by whether there are many bindings and whether they fit
 pub much_by : (request : Message) (long err : Bool) → IsTrue long ↔ (128 < length request.bindings) → (long ≡ false → err ≡ nat_lt 1472 (length (message_octets (returning request NoError 128)))) → (long || err) ≡ is_too_much request
 much_by request true err says by = let many : 128 < length request.bindings = says.0 refl in let is : nat_lt 128 (length request.bindings) ≡ true = grind (arith, nat_tests) in rw is refl
@@ -148,17 +154,14 @@ module _ (alone : List ℕ → Val → Option ErrorStatus) (together : Bindings 
       → IsSetReply alone together reserves may_write moment journal request (telling request verdict) after
   told verdict after may judges = rw (fits, may) (verdict, judges, refl)
 
--- whether a community is barred, by what the Set gives
-pub barred_is : (may_write : Bool) (m : Message) (given : Bindings) → given ≡ given_by m.bindings → (not may_write && nat_lt 0 (length given)) ≡ is_barred may_write m
-barred_is may_write m given is =
-    ap (λ (l : Bindings). not may_write && nat_lt 0 (length l)) is ∙ ap (λ n. not may_write && nat_lt 0 n) (length-map m.bindings given_by_one)
+-- what the judgement of what a request gives comes to is that of the request
+pub judges_asked : (alone : List ℕ → Val → Option ErrorStatus) (together : Bindings → ℕ → Option ErrorStatus) (reserves : Bindings → ℕ → Type 0) (moment : ℕ) (journal : Journal) (m : Message) (given : Bindings) (verdict : Verdict) (after : Journal)
+    → given ≡ given_by m.bindings → Judges alone together reserves moment journal given verdict after → Judges alone together reserves moment journal (given_by m.bindings) verdict after
+judges_asked alone together reserves moment journal m given verdict after is judges = subst (λ (bindings : Bindings). Judges alone together reserves moment journal bindings verdict after) is judges
 
--- what the judgement of the Set that a request gives comes to, where its community may write
-pub told_given : (alone : List ℕ → Val → Option ErrorStatus) (together : Bindings → ℕ → Option ErrorStatus) (reserves : Bindings → ℕ → Type 0) (may_write : Bool) (moment : ℕ) (journal : Journal) (m : Message) (given : Bindings)
-    → given ≡ given_by m.bindings → is_too_much m ≡ false → (not may_write && nat_lt 0 (length given)) ≡ false → (verdict : Verdict) (after : Journal) → Judges alone together reserves moment journal given verdict after
-    → IsSetReply alone together reserves may_write moment journal m (telling m verdict) after
-told_given alone together reserves may_write moment journal m given is fits may verdict after judges =
-    told alone together reserves may_write moment journal m fits verdict after (sym (barred_is may_write m given is) ∙ may) (subst (λ (bs : Bindings). Judges alone together reserves moment journal bs verdict after) is judges)
+-- it names one of at most 128 bindings
+pub within_asked : (m : Message) (given : Bindings) (verdict : Verdict) → given ≡ given_by m.bindings → length m.bindings ≤ 128 → IsWithin (length given) verdict → IsWithin 128 verdict
+within_asked m given verdict is few within = within_more verdict (length given) 128 within (omega (arith, few, ap length is, length-map m.bindings given_by_one))
 
 -- a request that doesn't read is a SetRequest
 pub set_kind : (kind : Kind) → is_request kind ≡ true → is_built kind ≡ false → kind ≡ Set

@@ -20,6 +20,13 @@ abbrev pub OfCells : (Settings → Journal → Type 0) → (askable : ℕ → Ty
 OfCells stands askable cells now Holds =
     (settings : Settings) (journal : Journal) → stands settings journal → last_moment journal ≤ now → askable now → Holds (cells settings journal now)
 
+-- Each journal that groups stood for, whose last act isn't above a moment at which they may be asked, leads on to a journal that they
+-- stand for, and something holds of both.
+abbrev pub LeadsOn : (stood stand : Settings → Journal → Type 0) → (askable : Type 0) → (moment : ℕ) → (Settings → Journal → Journal → Type 0) → Type 0
+LeadsOn stood stand askable moment Holds =
+    (settings : Settings) (journal : Journal) → stood settings journal → last_moment journal ≤ moment → askable
+    → (after : Journal) × stand settings after × Holds settings journal after
+
 -- the binding that was found
 abbrev pub binding_found : Found → Binding
 binding_found found = binding_of found.name (val_of found.value)

@@ -1,13 +1,12 @@
 // The replies to SetRequests.
-ghost use Rattle.std.specs.Prelude.{◌≡◌, ◌≤◌, not, ◌&&◌, nat_lt, length, false};
-ghost use Rattle.rm_model.specs.Settings.{Settings};
-ghost use Rattle.rm_model.specs.Journal.{Journal, last_moment};
+ghost use Rattle.std.specs.Prelude.{◌≡◌, ◌≤◌, length, false};
 ghost use Rattle.rm_pdu.specs.Message.{Message};
 ghost use Rattle.rm_model.specs.Judgement.{IsFirstFault, unless};
 ghost use Rattle.rm_val.specs.declared.error.ErrorStatus.TheVariants.{NotWritable};
 ghost use Rattle.rm_group.specs.Alone.{alone_at, AreFineAlone, IsWithin};
-ghost use Rattle.rm_reply.specs.Drafting.{IsAsked, DraftsOne};
-ghost use Rattle.rm_reply.specs.Sets.{alone_among, given_by, is_too_much, Judges, IsSetReply};
+ghost use Rattle.rm_pdu.specs.Draft.{drafted};
+ghost use Rattle.rm_reply.specs.Drafting.{LeadsOn, IsAsked, DraftsOne};
+ghost use Rattle.rm_reply.specs.Sets.{alone_among, given_by, is_too_much, is_barred, telling, Judges, IsSetReply};
 ghost use Rattle.rm_model.specs.Readings.{nothing_read};
 
 use crate::request::{MOST_BINDINGS, Request};
@@ -34,10 +33,8 @@ pub(crate) fn set<G: Commits + Objects>(
     requires asked { (m : Message) × IsAsked request.now m }
     requires later { G.clock groups.old ≤ now }
     requires stocked { G.stocked groups.old }
-    ensures reply { (settings : Settings) (journal : Journal) (m : Message) → G.stands groups.old settings journal
-        → last_moment journal ≤ now → G.askable groups.old now → IsAsked request.now m
-        → (after : Journal) × G.stands groups.new settings after
-        × DraftsOne (λ reply. IsSetReply (alone_among G.objects G.alone) (G.together settings journal now nothing_read) (G.reserves settings journal) may_write now journal m reply after) result }
+    ensures reply { (m : Message) → IsAsked request.now m → LeadsOn (G.stands groups.old) (G.stands groups.new) (G.askable groups.old now) now (λ settings journal after.
+        DraftsOne (λ reply. IsSetReply (alone_among G.objects G.alone) (G.together settings journal now nothing_read) (G.reserves settings journal) may_write now journal m reply after) result) }
     ensures clock { G.clock groups.new ≤ now }
     ensures frames { G.frames groups.new ≡ G.frames groups.old }
     ensures stocked { G.stocked groups.new }
@@ -45,74 +42,59 @@ pub(crate) fn set<G: Commits + Objects>(
     if request.is_too_much() {
         return request.begin(ErrorStatus::TooBig, 0);
     }
-    if request.count() <= FEW_BINDINGS {
-        let given = request.given::<FEW_BINDINGS>();
-        return set_given(groups, alloc, request, &given, may_write, now);
-    }
-    set_many(groups, alloc, request, may_write, now)
-}
-
-// The same where there isn't too much for the response. The list has room for all bindings, in a frame of its own.
-#[inline(never)]
-fn set_many<G: Commits + Objects>(
-    groups: &mut G,
-    alloc: Global,
-    request: &Request<'_>,
-    may_write: bool,
-    now: u32,
-) -> Draft
-    requires asked { (m : Message) × IsAsked request.now m × (length m.bindings ≤ 128) }
-    requires room { (m : Message) → IsAsked request.now m → is_too_much m ≡ false }
-    requires later { G.clock groups.old ≤ now }
-    requires stocked { G.stocked groups.old }
-    ensures reply { (settings : Settings) (journal : Journal) (m : Message) → G.stands groups.old settings journal
-        → last_moment journal ≤ now → G.askable groups.old now → IsAsked request.now m
-        → (after : Journal) × G.stands groups.new settings after
-        × DraftsOne (λ reply. IsSetReply (alone_among G.objects G.alone) (G.together settings journal now nothing_read) (G.reserves settings journal) may_write now journal m reply after) result }
-    ensures clock { G.clock groups.new ≤ now }
-    ensures frames { G.frames groups.new ≡ G.frames groups.old }
-    ensures stocked { G.stocked groups.new }
-{
-    let given = request.given::<MOST_BINDINGS>();
-    set_given(groups, alloc, request, &given, may_write, now)
-}
-
-// The same by what its bindings give, where there isn't too much for the response.
-fn set_given<G: Commits + Objects, A: Assigns>(
-    groups: &mut G,
-    alloc: Global,
-    request: &Request<'_>,
-    set: &A,
-    may_write: bool,
-    now: u32,
-) -> Draft
-    requires asked { (m : Message) × IsAsked request.now m × (length m.bindings ≤ 128) }
-    requires given { (m : Message) → IsAsked request.now m → A.bindings set.now ≡ given_by m.bindings }
-    requires room { (m : Message) → IsAsked request.now m → is_too_much m ≡ false }
-    requires later { G.clock groups.old ≤ now }
-    requires stocked { G.stocked groups.old }
-    ensures reply { (settings : Settings) (journal : Journal) (m : Message) → G.stands groups.old settings journal
-        → last_moment journal ≤ now → G.askable groups.old now → IsAsked request.now m
-        → (after : Journal) × G.stands groups.new settings after
-        × DraftsOne (λ reply. IsSetReply (alone_among G.objects G.alone) (G.together settings journal now nothing_read) (G.reserves settings journal) may_write now journal m reply after) result }
-    ensures clock { G.clock groups.new ≤ now }
-    ensures frames { G.frames groups.new ≡ G.frames groups.old }
-    ensures stocked { G.stocked groups.new }
-{
-    if is_barred(may_write, set) {
+    if is_barred(may_write, request) {
         return request.telling(ErrorStatus::NoAccess, 1);
     }
-    match perform(groups, alloc, set, now) {
+    if request.count() <= FEW_BINDINGS {
+        let given = request.given::<FEW_BINDINGS>();
+        let verdict = perform(groups, alloc, &given, now);
+        return told(request, verdict);
+    }
+    let verdict = perform_many(groups, alloc, request, now);
+    told(request, verdict)
+}
+
+// Whether a request gives a value to a variable, where its community may write or may not.
+fn is_barred(may_write: bool, request: &Request<'_>) -> bool
+    requires { (m : Message) × IsAsked request.now m × (length m.bindings ≤ 128) }
+    ensures { (m : Message) → IsAsked request.now m → result ≡ is_barred may_write m }
+{
+    !may_write && request.count() > 0
+}
+
+// The response that tells a verdict, where there isn't too much for it.
+fn told(request: &Request<'_>, verdict: Verdict) -> Draft
+    requires asked { (m : Message) × IsAsked request.now m × (length m.bindings ≤ 128) }
+    requires within { IsWithin 128 verdict }
+    requires room { (m : Message) → IsAsked request.now m → is_too_much m ≡ false }
+    ensures { (m : Message) → IsAsked request.now m → result ≡ drafted (telling m verdict) }
+{
+    match verdict {
         Verdict::Fine => request.telling(ErrorStatus::NoError, 0),
         Verdict::Wrong { status, index } => request.telling(status, index),
     }
 }
 
-// Whether a Set gives a value to a variable, where its community may write or may not.
-fn is_barred<A: Assigns>(may_write: bool, set: &A) -> bool
-    ensures { result ≡ (not may_write && nat_lt 0 (length (A.bindings set.now))) }
+// Performs what the bindings of a request give. The list has room for all of them, in a frame of its own.
+#[inline(never)]
+fn perform_many<G: Commits + Objects>(
+    groups: &mut G,
+    alloc: Global,
+    request: &Request<'_>,
+    now: u32,
+) -> Verdict
+    requires asked { (m : Message) × IsAsked request.now m × (length m.bindings ≤ 128) }
+    requires later { G.clock groups.old ≤ now }
+    requires stocked { G.stocked groups.old }
+    ensures judged { (m : Message) → IsAsked request.now m → LeadsOn (G.stands groups.old) (G.stands groups.new) (G.askable groups.old now) now (λ settings journal after.
+        Judges (alone_among G.objects G.alone) (G.together settings journal now nothing_read) (G.reserves settings journal) now journal (given_by m.bindings) result after) }
+    ensures within { IsWithin 128 result }
+    ensures clock { G.clock groups.new ≤ now }
+    ensures frames { G.frames groups.new ≡ G.frames groups.old }
+    ensures stocked { G.stocked groups.new }
 {
-    !may_write && set.count() > 0
+    let given = request.given::<MOST_BINDINGS>();
+    perform(groups, alloc, &given, now)
 }
 
 // Judges a Set at a moment in milliseconds, at which the groups may be asked, and does it where nothing is wrong with it and there
@@ -125,9 +107,8 @@ fn perform<G: Commits + Objects, A: Assigns>(
 ) -> Verdict
     requires later { G.clock groups.old ≤ now }
     requires stocked { G.stocked groups.old }
-    ensures judged { (settings : Settings) (journal : Journal) → G.stands groups.old settings journal → last_moment journal ≤ now
-        → G.askable groups.old now → (after : Journal) × G.stands groups.new settings after
-        × Judges (alone_among G.objects G.alone) (G.together settings journal now nothing_read) (G.reserves settings journal) now journal (A.bindings set.now) result after }
+    ensures judged { LeadsOn (G.stands groups.old) (G.stands groups.new) (G.askable groups.old now) now (λ settings journal after.
+        Judges (alone_among G.objects G.alone) (G.together settings journal now nothing_read) (G.reserves settings journal) now journal (A.bindings set.now) result after) }
     ensures within { IsWithin (length (A.bindings set.now)) result }
     ensures clock { G.clock groups.new ≤ now }
     ensures frames { G.frames groups.new ≡ G.frames groups.old }

@@ -17,7 +17,7 @@ returns-in-None-clause-reply g c settings journal m stands later askable asked =
     let (whole, is_asked, asks) = c.requires.asked in
     let kind : c.args.request.now.message.kind ≡ Set = set_kind _ (ap is_request is_asked.told.kind ∙ asks) (sym c.in-None.ensures.built) in
     let same : m.kind ≡ Set = sym asked.told.kind ∙ kind in
-    let (after, stood, (reply, is, drafted_so)) = c.set.ensures.reply settings journal m stands later askable asked in (
+    let (after, stood, (reply, is, drafted_so)) = c.set.ensures.reply m asked settings journal stands later askable in (
       after,
       stood,
       set_moment (alone_among g.G.Objects.objects g.G.Group.alone) together reserves c.args.now journal c.args.may_write m reply after is later,
