@@ -70,9 +70,12 @@ bulk_repeats IsOne names repeated most m draft new first others times puts repea
           (subst (λ (bs : List Binding). size_with m bs ≤ 1472) whole fits);
     }) repeats.is_drafted.is
 
--- the repetitions for these names of a request, as many as it asks for
-pub put_these : (IsOne : List ℕ → Binding → Type 0) (names : List (List ℕ)) (most : ℕ) (m : Message) (list : List Binding) (new : Drafted) (from : ℕ) → names ≡ drop from (names_of m.bindings) → most ≡ counting m.second
-    → PutsLongest (AreRepetitions IsOne most names) m list new → PutsLongest (AreRepetitions IsOne (counting m.second) (drop from (names_of m.bindings))) m list new
-put_these IsOne names most m list new from these times put =
-    subst (λ (ns : List (List ℕ)). PutsLongest (AreRepetitions IsOne (counting m.second) ns) m list new) these
-    (subst (λ (n : ℕ). PutsLongest (AreRepetitions IsOne n names) m list new) times put)
+-- repetitions for the names from a place on
+pub put_these : (IsOne : List ℕ → Binding → Type 0) (names : List (List ℕ)) (most : ℕ) (m : Message) (list : List Binding) (new : Drafted) (from : ℕ) → names ≡ drop from (names_of m.bindings)
+    → PutsLongest (AreRepetitions IsOne most names) m list new → PutsLongest (AreRepetitions IsOne most (drop from (names_of m.bindings))) m list new
+put_these IsOne names most m list new from these put = subst (λ (ns : List (List ℕ)). PutsLongest (AreRepetitions IsOne most ns) m list new) these put
+
+-- as many repetitions as a request asks for
+pub put_so_many : (IsOne : List ℕ → Binding → Type 0) (names : List (List ℕ)) (most : ℕ) (m : Message) (list : List Binding) (new : Drafted) → most ≡ counting m.second
+    → PutsLongest (AreRepetitions IsOne most names) m list new → PutsLongest (AreRepetitions IsOne (counting m.second) names) m list new
+put_so_many IsOne names most m list new times put = subst (λ (n : ℕ). PutsLongest (AreRepetitions IsOne n names) m list new) times put

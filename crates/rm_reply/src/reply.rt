@@ -87,7 +87,24 @@ fn repeat_asked<G: Group + Objects>(
         repeat(groups, &mut few, most, now, draft);
         return;
     }
-    let mut names = request.names::<MOST_BINDINGS>(from, count);
+    repeat_many(groups, request, most, from, now, draft);
+}
+
+// Puts so many repetitions at most for these names. Their list has room for all of them, in a frame of its own.
+#[inline(never)]
+fn repeat_many<G: Group + Objects>(
+    groups: &G,
+    request: &Request<'_>,
+    most: u32,
+    from: usize,
+    now: u32,
+    draft: &mut Draft,
+)
+    requires { (m : Message) × IsAsked request.now m × (length m.bindings ≤ 128) × (from ≤ length m.bindings) }
+    ensures { OfCells (G.stands groups.now) (G.askable groups.now) G.cells now (λ cells. (m : Message) (list : List Binding) → IsAsked request.now m → IsDrafted m list draft.old
+        → PutsLongest (AreRepetitions (IsNextBinding cells) most (drop from (names_of m.bindings))) m list draft.new) }
+{
+    let mut names = request.names::<MOST_BINDINGS>(from, request.count());
     repeat(groups, &mut names, most, now, draft);
 }
 
