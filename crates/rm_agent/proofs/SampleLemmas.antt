@@ -73,7 +73,7 @@ none_asked journal alarm Gone none = refl
 
 -- the agent after the sample that comes next
 pub has_sampled : (before after : Agent) (journal : Journal) (moment alarm : ℕ) (count : Option ℕ) (note : List ℕ) → Stands before journal → IsNextDue (due_of journal) (Some (moment, alarm))
-    → GroupsStand after.groups (counting_by before.settings) (sample_of before.settings journal moment alarm ∷ journal) → after.settings ≡ before.settings → moment ≤ after.last
+    → GroupsStand after.groups.value (counting_by before.settings) (sample_of before.settings journal moment alarm ∷ journal) → after.settings ≡ before.settings → moment ≤ after.last
     → after.notifications ≡ count_notifications (counting_by before.settings) (sample_of before.settings journal moment alarm ∷ journal) % 2 ^ 31
     → IsWritten (notification_of (counting_by before.settings) (sample_of before.settings journal moment alarm) journal) count note → HasSampled before.settings journal moment after count note
 has_sampled before after journal moment alarm count note stands next groups same last notifications written =
@@ -82,7 +82,7 @@ has_sampled before after journal moment alarm count note stands next groups same
       alarm = alarm;
       next = next;
       stands = record {
-        groups = subst (λ (settings : Settings). GroupsStand after.groups (counting_by settings) (act ∷ journal)) (sym same) groups;
+        groups = subst (λ (settings : Settings). GroupsStand after.groups.value (counting_by settings) (act ∷ journal)) (sym same) groups;
         last = last;
         orderly = orderly_samples journal (moment, alarm) next stands.orderly (number_read (counting_by before.settings) journal moment alarm);
         channels = stands.channels;

@@ -30,7 +30,7 @@ frames_given agent = agent.frames
 -- The agent stands for a journal: its groups do, no act is later than the last moment, the journal's samples come in order, no Set made
 -- a channel, since the agent has no such table, and the agent counts the notifications.
 pub record Stands (agent : Agent) (journal : Journal) : Type 0 where
-  pub groups : GroupsStand agent.groups (counting_by agent.settings) journal
+  pub groups : GroupsStand agent.groups.value (counting_by agent.settings) journal
   pub last : last_moment journal ≤ agent.last
   pub orderly : IsOrderly journal
   pub channels : HasNoChannel journal
@@ -38,7 +38,7 @@ pub record Stands (agent : Agent) (journal : Journal) : Type 0 where
 
 -- when the next sample of each alarm is due, in milliseconds
 abbrev pub due_of_agent : Agent → ℕ → Option ℕ
-due_of_agent agent alarm = due_in (alarms_of agent.groups) alarm
+due_of_agent agent alarm = due_in (alarms_of agent.groups.value) alarm
 
 -- the moment of the sample that is taken next, by when those of the alarms are due
 abbrev pub IsNextMoment : (ℕ → Option ℕ) → Option ℕ → Type 0
@@ -46,7 +46,7 @@ IsNextMoment due moment = (next : Option (ℕ × ℕ)) × IsNextDue due next × 
 
 -- no more samples than this are due up to a moment
 abbrev pub samples_left_of : Agent → ℕ → ℕ
-samples_left_of agent latest = left_of agent.groups latest
+samples_left_of agent latest = left_of agent.groups.value latest
 
 -- the sample that an alarm takes at a moment after a journal
 abbrev pub sample_of : Settings → Journal → (moment alarm : ℕ) → Act

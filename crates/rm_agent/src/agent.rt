@@ -23,16 +23,16 @@ const REQUEST_IDS: u32 = 0x8000_0000;
 #[derive(Drop)]
 pub struct Agent {
     settings: Settings,
-    groups: Groups,
+    groups: Box<Groups>,
     // The last moment that it was given, in milliseconds.
     last: u32,
     // How many frames it was given.
     frames: u32,
     // How many notifications there were, modulo 2^31.
     notifications: u32,
-    ghost later: { clock_of groups ≤ last },
-    ghost few: { frames_of groups ≤ frames },
-    ghost stocked: { AreStocked groups },
+    ghost later: { clock_of groups.value ≤ last },
+    ghost few: { frames_of groups.value ≤ frames },
+    ghost stocked: { AreStocked groups.value },
     ghost notifications_fit: { notifications < 2 ^ 31 },
 }
 
@@ -83,7 +83,7 @@ impl Agent {
             moment: frame.moment,
         };
         // Frames fire by channels, and the agent has none.
-        pass_whole(&mut self.groups, &passing, &[]);
+        pass_whole(&mut *self.groups, &passing, &[]);
         self.last = frame.moment;
         self.frames += 1;
     }
@@ -123,7 +123,7 @@ impl Agent {
             message,
             bindings,
         };
-        let draft = respond(&mut self.groups, alloc, &request, may_write, now);
+        let draft = respond(&mut *self.groups, alloc, &request, may_write, now);
         Answer::Reply(draft.finish(out))
     }
 

@@ -1,5 +1,5 @@
 // The groups of objects that the agent answers for. Only here is it said how they stand in one another.
-ghost use Rattle.std.specs.Prelude.{◌≡◌, ℕ, ◌≤◌, ◌<◌, [], ◌∷◌, Some, IfOk};
+ghost use Rattle.std.specs.Prelude.{◌≡◌, ℕ, ◌≤◌, ◌<◌, [], ◌∷◌, Some, IfOk, OnOk};
 ghost use Rattle.rm_model.specs.Settings.{Settings};
 ghost use Rattle.rm_model.specs.Journal.{Act, Journal, samples, moment_of, last_moment};
 ghost use Rattle.rm_acts.specs.Alarms.{due_of, IsNextDue, sampled};
@@ -26,32 +26,54 @@ pub(crate) type Groups = Both<System, Both<Events, Watched<Sources>>>;
 /// The groups whose variables alarms may sample.
 type Sources = Both<Ether, History>;
 
-/// The groups of a probe with one interface before the first act. They take the storage of one row of each table whose rows take storage while they are valid.
-/// NoMemory where there is none.
-pub(crate) fn all_groups(alloc: Global) -> Result<Groups, NoMemory>
-    ensures stands { IfOk result (λ groups. (settings : Settings) → settings.interfaces ≡ 1 → GroupsStand groups (sampling watched_cells settings) []) }
-    ensures clock { IfOk result (λ groups. clock_of groups ≡ 0) }
-    ensures frames { IfOk result (λ groups. frames_of groups ≡ 0) }
-    ensures stocked { IfOk result (λ groups. AreStocked groups) }
+/// The groups of a probe with one interface before the first act, which stand in memory of their own. They take the storage of one
+/// row of each table whose rows take storage while they are valid. NoMemory where there is none.
+pub(crate) fn all_groups(alloc: Global) -> Result<Box<Groups>, NoMemory>
+    ensures stands { IfOk result (λ groups. (settings : Settings) → settings.interfaces ≡ 1 → GroupsStand groups.value (sampling watched_cells settings) []) }
+    ensures clock { IfOk result (λ groups. clock_of groups.value ≡ 0) }
+    ensures frames { IfOk result (λ groups. frames_of groups.value ≡ 0) }
+    ensures stocked { IfOk result (λ groups. AreStocked groups.value) }
+{
+    let Ok(mut groups) = Box::new(alloc, first_groups()) else {
+        return Err(NoMemory);
+    };
+    reserve(alloc, &mut groups)?;
+    Ok(groups)
+}
+
+// The groups before they take storage. They are made in a frame of its own, which is large.
+#[inline(never)]
+fn first_groups() -> Groups
+    ensures stands { (settings : Settings) → settings.interfaces ≡ 1 → GroupsStand result (sampling watched_cells settings) [] }
+    ensures clock { clock_of result ≡ 0 }
+    ensures frames { frames_of result ≡ 0 }
 {
     reads_cells::<Sources>();
-    let mut events = Events::new();
-    events.reserve(alloc)?;
-    let mut history = History::new();
-    history.reserve(alloc)?;
-    Ok(Both {
+    Both {
         first: System,
         second: Both {
-            first: events,
+            first: Events::new(),
             second: Both {
                 first: Both {
                     first: Ether::new(),
-                    second: history,
+                    second: History::new(),
                 },
                 second: Alarms::new(),
             },
         },
-    })
+    }
+}
+
+// Takes the storage of one row of each table whose rows take storage.
+fn reserve(alloc: Global, groups: &mut Groups) -> Result<(), NoMemory>
+    ensures stands { (settings : Settings) → GroupsStand groups.old settings [] → GroupsStand groups.new settings [] }
+    ensures clock { clock_of groups.new ≡ clock_of groups.old }
+    ensures frames { frames_of groups.new ≡ frames_of groups.old }
+    ensures stocked { OnOk result (AreStocked groups.new) }
+{
+    groups.second.first.reserve(alloc)?;
+    groups.second.second.first.second.reserve(alloc)?;
+    Ok(())
 }
 
 /// The events.

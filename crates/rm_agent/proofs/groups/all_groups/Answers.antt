@@ -1,20 +1,8 @@
-use Rattle.std.proofs.Common.{[]}
+use Rattle.std.proofs.Common.{◌∙◌}
 use Rattle.rm_acts.specs.Recurring.{sampling}
 use Rattle.rm_agent.specs.Watched.{watched_cells}
 use Rattle.rm_agent.proofs.groups.all_groups.Goals as goal
 
 pub returns-clause-stands : goal.returns-clause-stands
-returns-clause-stands c given one =
-    let settings = sampling watched_cells given in record {
-      first = tt;
-      second = record {
-        first = c.reserve.ensures.stands settings [] (c.new-events.ensures.stands settings);
-        second = record {
-          first = record { first = c.new.ensures.stands settings one; second = c.reserve-2.ensures.stands settings [] (c.new-history.ensures.stands settings); tied = tt };
-          second = record { stand = c.new-2.ensures.stands settings; based = c.new-2.ensures.based settings };
-          tied = c.reads_cells.ensures given;
-        };
-        tied = tt;
-      };
-      tied = tt;
-    }
+returns-clause-stands c settings one =
+    c.in_ok-reserve.ensures.stands (sampling watched_cells settings) (rw (c.deref_mut.ensures.value ∙ c.in-Ok.ensures.ok) (c.first_groups.ensures.stands settings one))

@@ -25,7 +25,7 @@ returns-clause-reply c journal stands =
     let known_m : is_known settings m.community ≡ true = ap (is_known settings) (sym read.is_told.community) ∙ sym c.is_known.ensures.known ∙ c.if-not-is_known.false in
     let why : reason_for settings (message m) ≡ None = ap (λ (b : Bool). let reason : Option Reason = (if b then None else Some Community) in reason) known_m in
     let short : length m.community ≤ 127 = omega (arith, known, ap length read.is_told.community) in
-    let (after, stood, moment, (reply, by, drafted_so)) = c.respond-draft.ensures.reply (counting_by settings) journal m stands.groups (omega (arith, stands.last, c.requires)) (groups_askable c.args.self.now.groups c.args.now) (record { told = read.is_told; short = short }) in
+    let (after, stood, moment, (reply, by, drafted_so)) = c.respond-draft.ensures.reply (counting_by settings) journal m (rw c.deref_mut.ensures.value stands.groups) (omega (arith, stands.last, c.requires)) (groups_askable c.deref_mut.result.now c.args.now) (record { told = read.is_told; short = short }) in
     let may : c.may_write-may_write.result ≡ may_write settings m.community = c.may_write-may_write.ensures ∙ ap (may_write settings) read.is_told.community in
     let is = subst (λ (b : Bool). IsReplyBy (cells settings journal c.args.now) objects alone (together settings journal c.args.now) (Reserves journal) b c.args.now journal m.kind m reply after) may by in
     let counted = same_count (counting_by settings) (cells settings journal c.args.now) objects alone (together settings journal c.args.now) (Reserves journal) (may_write settings m.community) c.args.now journal m.kind m reply after is in (

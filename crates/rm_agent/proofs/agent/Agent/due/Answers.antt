@@ -11,8 +11,8 @@ returns-in_err-draft-clause-sampled c journal stands =
     let counting = counting_by c.args.self.now.settings in
     let act = sample_of c.args.self.now.settings journal c.args.moment c.due_alarm-alarm.result in
     let next = c.due_alarm-alarm.ensures.journal journal stands in
-    let taken = c.take-taken.ensures.taken counting journal stands.groups (stands.orderly.timely c.due_alarm-alarm.result c.args.moment next.0) next.0 in
-    let none = sym c.in_err-draft.was ∙ c.notification.ensures counting journal (count_notifications counting journal + 1) taken (next_number (count_notifications counting journal) c.args.self.now.notifications stands.notifications) in
+    let taken = c.take-taken.ensures.taken counting journal (rw c.deref_mut.ensures.value stands.groups) (stands.orderly.timely c.due_alarm-alarm.result c.args.moment next.0) next.0 in
+    let none = sym c.in_err-draft.was ∙ c.notification.ensures counting journal (count_notifications counting journal + 1) (rw c.deref.ensures taken) (next_number (count_notifications counting journal) c.args.self.now.notifications stands.notifications) in
     has_sampled c.args.self.now _ journal c.args.moment c.due_alarm-alarm.result _ c.args.note.now stands next taken.stands refl (omega (arith, c.max-self.ensures))
     (counts_none counting act journal (count_notifications counting journal + 1) c.args.self.now.notifications none stands.notifications)
     (subst (λ (count : Option ℕ). IsWritten (notification_of counting act journal) count c.args.note.now) (sym c.from_residual.ensures) (unsent (notification_of counting act journal) c.args.note.now none))
@@ -22,8 +22,8 @@ returns-clause-sampled c journal stands =
     let counting = counting_by c.args.self.now.settings in
     let act = sample_of c.args.self.now.settings journal c.args.moment c.due_alarm-alarm.result in
     let next = c.due_alarm-alarm.ensures.journal journal stands in
-    let taken = c.take-taken.ensures.taken counting journal stands.groups (stands.orderly.timely c.due_alarm-alarm.result c.args.moment next.0) next.0 in
-    let made = sym c.in_ok-draft.was ∙ c.notification.ensures counting journal (count_notifications counting journal + 1) taken (next_number (count_notifications counting journal) c.args.self.now.notifications stands.notifications) in
+    let taken = c.take-taken.ensures.taken counting journal (rw c.deref_mut.ensures.value stands.groups) (stands.orderly.timely c.due_alarm-alarm.result c.args.moment next.0) next.0 in
+    let made = sym c.in_ok-draft.was ∙ c.notification.ensures counting journal (count_notifications counting journal + 1) (rw c.deref.ensures taken) (next_number (count_notifications counting journal) c.args.self.now.notifications stands.notifications) in
     has_sampled c.args.self.now _ journal c.args.moment c.due_alarm-alarm.result _ _ stands next taken.stands refl (omega (arith, c.max-self.ensures))
     (counts_one counting act journal (count_notifications counting journal + 1) c.args.self.now.notifications ((c.args.self.now.notifications + 1) % 2 ^ 31) c.in_ok-draft.draft made stands.notifications refl)
     (finished (notification_of counting act journal) c.in_ok-draft.draft c.finish.result c.args.note.now c.finish.new.out made c.finish.ensures.count c.finish.ensures.written)

@@ -8,5 +8,5 @@ use Rattle.rm_agent.proofs.agent.Agent.due_alarm.Goals as goal
 
 pub returns-clause-journal : goal.returns-clause-journal
 returns-clause-journal c journal stands =
-    let whole = next_is (due_of_agent c.args.self.now) (sample_in c.next_due.result) (c.unwrap.result.moment, c.unwrap.result.number) c.args.moment c.requires c.next_due.ensures.next (ap sample_in c.unwrap.ensures) in
-    subst (λ (next : Option (ℕ × ℕ)). IsNextDue (due_of journal) next) whole (c.next_due.ensures.journal (counting_by c.args.self.now.settings) journal stands.groups)
+    let whole = next_is (due_of_agent c.args.self.now) (sample_in c.next_due.result) (c.unwrap.result.moment, c.unwrap.result.number) c.args.moment c.requires (rw c.deref.ensures at c.next_due.ensures.next) (ap sample_in c.unwrap.ensures) in
+    subst (λ (next : Option (ℕ × ℕ)). IsNextDue (due_of journal) next) whole (c.next_due.ensures.journal (counting_by c.args.self.now.settings) journal (rw c.deref.ensures stands.groups))
