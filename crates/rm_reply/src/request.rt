@@ -65,18 +65,17 @@ impl<'a> Request<'a> {
         )
     }
 
-    /// What the bindings of a SetRequest give.
-    pub(crate) fn given<const MOST: usize>(&self) -> Given<'a, MOST>
-        requires { (m : Whole) × IsAsked self.now m × (length m.bindings ≤ 128) × (length m.bindings ≤ MOST) }
-        ensures { (m : Whole) → IsAsked self.now m → result ≡ given_by m.bindings }
+    /// Puts what the bindings of a SetRequest give into an empty list.
+    pub(crate) fn give<const MOST: usize>(&self, given: &mut Given<'a, MOST>)
+        requires asked { (m : Whole) × IsAsked self.now m × (length m.bindings ≤ 128) × (length m.bindings ≤ MOST) }
+        requires empty { given.old ≡ [] }
+        ensures { (m : Whole) → IsAsked self.now m → given.new ≡ given_by m.bindings }
     {
-        let mut given = Given::new();
         for place in 0..self.count() {
             let name = self.bindings.name(self.octets, place);
             let value = self.bindings.value(self.octets, place);
             given.push(name, value);
         }
-        given
     }
 
     /// The response with the request's own bindings, this status and this index. Room where it would have too many octets.

@@ -9,6 +9,7 @@ ghost use Rattle.rm_reply.specs.Drafting.{LeadsOn, IsAsked, DraftsOne};
 ghost use Rattle.rm_reply.specs.Sets.{alone_among, given_by, is_too_much, is_barred, telling, Judges, IsSetReply};
 ghost use Rattle.rm_model.specs.Readings.{nothing_read};
 
+use crate::given::Given;
 use crate::request::{MOST_BINDINGS, Request};
 use crate::unread::Unread;
 use rm_group::{Assigns, Commits, Group, Objects, lower_verdict, order_does_not_matter};
@@ -46,7 +47,8 @@ pub(crate) fn set<G: Commits + Objects>(
         return request.telling(ErrorStatus::NoAccess, 1);
     }
     if request.count() <= FEW_BINDINGS {
-        let given = request.given::<FEW_BINDINGS>();
+        let mut given = Given::<FEW_BINDINGS>::new();
+        request.give(&mut given);
         let verdict = perform(groups, alloc, &given, now);
         return told(request, verdict);
     }
@@ -93,7 +95,8 @@ fn perform_many<G: Commits + Objects>(
     ensures frames { G.frames groups.new ≡ G.frames groups.old }
     ensures stocked { G.stocked groups.new }
 {
-    let given = request.given::<MOST_BINDINGS>();
+    let mut given = Given::<MOST_BINDINGS>::new();
+    request.give(&mut given);
     perform(groups, alloc, &given, now)
 }
 

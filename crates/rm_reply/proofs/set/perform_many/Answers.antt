@@ -8,11 +8,11 @@ returns-clause-judged g c m asked settings journal stands later askable =
     let (after, stood, judges) = c.perform.ensures.judged settings journal stands later askable in (
       after,
       stood,
-      judges_asked (alone_among g.G.Objects.objects g.G.Group.alone) (g.G.Group.together settings journal c.args.now nothing_read) (g.G.Group.reserves settings journal) c.args.now journal m c.given-given.result c.perform.result after
-          (c.given-given.ensures m asked) judges,
+      judges_asked (alone_among g.G.Objects.objects g.G.Group.alone) (g.G.Group.together settings journal c.args.now nothing_read) (g.G.Group.reserves settings journal) c.args.now journal m c.give.new.given c.perform.result after
+          (c.give.ensures m asked) judges,
     )
 
 pub returns-clause-within : goal.returns-clause-within
 returns-clause-within g c =
     let (m, asked, few) = c.requires.asked in
-    within_asked m c.given-given.result c.perform.result (c.given-given.ensures m asked) few c.perform.ensures.within
+    within_asked m c.give.new.given c.perform.result (c.give.ensures m asked) few c.perform.ensures.within

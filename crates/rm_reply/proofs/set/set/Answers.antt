@@ -21,7 +21,7 @@ returns-then-is_barred-clause-reply g c m asked settings journal stands later as
 pub told-requires-clause-within : goal.told-requires-clause-within
 told-requires-clause-within g c =
     let (m, asked) = c.requires.asked in
-    within_asked m c.given-given.result c.perform-verdict.result (c.given-given.ensures m asked)
+    within_asked m c.give.new.given c.perform-verdict.result (c.give.ensures m asked)
     (few_where m (sym (c.is_too_much.ensures m asked) ∙ c.if-is_too_much.false)) c.perform-verdict.ensures.within
 
 pub returns-then-count-le-FEW_BINDINGS-clause-reply : goal.returns-then-count-le-FEW_BINDINGS-clause-reply
@@ -33,7 +33,7 @@ returns-then-count-le-FEW_BINDINGS-clause-reply g c m asked settings journal sta
     let together = g.G.Group.together settings journal c.args.now nothing_read in
     let reserves = g.G.Group.reserves settings journal in
     let (after, stood, judges) = c.perform-verdict.ensures.judged settings journal stands later askable in
-    let by_request = judges_asked alone together reserves c.args.now journal m c.given-given.result verdict after (c.given-given.ensures m asked) judges in
+    let by_request = judges_asked alone together reserves c.args.now journal m c.give.new.given verdict after (c.give.ensures m asked) judges in
     (after, stood, (telling m verdict, told alone together reserves c.args.may_write c.args.now journal m fits verdict after may by_request, c.told.ensures m asked))
 
 pub returns-clause-reply : goal.returns-clause-reply

@@ -3,7 +3,7 @@ use Rattle.std.proofs.lemmas.List.{length-append}
 use Rattle.rm_val.specs.Val.{val_of}
 use Rattle.rm_reply.specs.Given.{giving}
 use Rattle.rm_reply.proofs.SetLemmas.{given_more}
-use Rattle.rm_reply.proofs.request.Request.given.Goals as goal
+use Rattle.rm_reply.proofs.request.Request.give.Goals as goal
 
 pub loop-place-preserved : goal.loop-place-preserved
 loop-place-preserved g c =
