@@ -1,0 +1,4 @@
+pub mod CommandLemmas
+pub mod PartLemmas
+pub mod SpellLemmas
+pub mod WordLemmas

@@ -1,0 +1,167 @@
+-- What a word is, by its octets.
+use Rattle.std.proofs.Common.{◌≡◌, ℕ, zero, suc, ◌+◌, ◌<◌, ◌≤◌, List, [], ◌∷◌, ◌++◌, length, take, drop, Option, Some, None, Bool, true, false, refl, sym, ap, subst, ◌∙◌, arith, position, get_or, length-append, Decides}
+use Rattle.std.specs.Prelude.{◌==◌, find, if◌then◌else◌, codes}
+use Rattle.std.specs.List.{position_or_len}
+use Rattle.std.specs.Str.{bytes_eq}
+use Rattle.std.proofs.lemmas.Bool.{lt-ltb, eqb-true}
+use Rattle.std.proofs.lemmas.List.{take-append-drop, drop_more}
+use Rattle.std.proofs.lemmas.List.Quantifiers.{position-Some}
+use Rattle.std.proofs.lemmas.Slice.Eq.{bytes_eq-Decides}
+use Rattle.rm_words.specs.Names.{name_of, takes_value, options, option_named}
+use Rattle.rm_words.specs.Grammar.{dashes, is_plain}
+use Rattle.rm_words.specs.Parts.{is_equals, alone_part, joined_part, cut_part, named_part, dashed_part, plain_part}
+use Rattle.rm_words.specs.declared.names.OptionName.{OptionName}
+use Rattle.rm_words.specs.declared.names.OptionName.TheVariants.{Hosts, Pairs, Upper, Lead, KeepShort, Read, Write}
+use Rattle.rm_words.specs.declared.parts.Part.{Part}
+use Rattle.rm_words.specs.declared.parts.Part.TheVariants.{Operand, End, Flag, Name, Joined, Value, Unknown}
+
+-- an option is found by its name
+pub named : (option : OptionName) → option_named (name_of option) ≡ Some option
+unfolding option_named
+named Hosts = refl
+named Pairs = refl
+named Upper = refl
+named Lead = refl
+named KeepShort = refl
+named Read = refl
+named Write = refl
+
+found : (name : List ℕ) (some : List OptionName) (option : OptionName) → find (λ o. bytes_eq (name_of o) name) some ≡ Some option → bytes_eq (name_of option) name ≡ true
+found name [] option is = absurd cc
+found name (o ∷ more) option is = by_same (bytes_eq (name_of o) name) refl (found name more option) is
+  where
+    by_same : (same : Bool) → bytes_eq (name_of o) name ≡ same → (find (λ o. bytes_eq (name_of o) name) more ≡ Some option → bytes_eq (name_of option) name ≡ true)
+        → (if same then Some o else find (λ o. bytes_eq (name_of o) name) more) ≡ Some option → bytes_eq (name_of option) name ≡ true
+    by_same true e later is = let here : o ≡ option = cc in subst (λ (o : OptionName). bytes_eq (name_of o) name ≡ true) here e
+    by_same false e later is = later is
+
+pub name_is : (name : List ℕ) (option : OptionName) → option_named name ≡ Some option → name ≡ name_of option
+unfolding option_named
+name_is name option is = sym ((bytes_eq-Decides (name_of option) name).0 (found name options option is))
+
+-- no name has a mark
+pub no_mark : (option : OptionName) → position is_equals (name_of option) ≡ None
+no_mark Hosts = refl
+no_mark Pairs = refl
+no_mark Upper = refl
+no_mark Lead = refl
+no_mark KeepShort = refl
+no_mark Read = refl
+no_mark Write = refl
+
+-- a name alone
+pub alone : (option : OptionName) → plain_part (dashes ++ name_of option) ≡ alone_part (Some option)
+unfolding plain_part named_part option_named
+alone Hosts = refl
+alone Pairs = refl
+alone Upper = refl
+alone Lead = refl
+alone KeepShort = refl
+alone Read = refl
+alone Write = refl
+
+-- a name with a value
+cut : (option : OptionName) (value : List ℕ) → position_or_len is_equals (name_of option ++ 61 ∷ value) ≡ length (name_of option) → take (length (name_of option)) (name_of option ++ 61 ∷ value) ≡ name_of option
+    → named_part (name_of option ++ 61 ∷ value) ≡ joined_part (length (name_of option) + 3) (Some option)
+unfolding named_part
+cut option value at front =
+    let fits : length (name_of option) < length (name_of option ++ 61 ∷ value) = omega (arith, length-append (name_of option) (61 ∷ value)) in
+    let is : position is_equals (name_of option ++ 61 ∷ value) ≡ Some (length (name_of option)) = rw (at, lt-ltb (length (name_of option)) (length (name_of option ++ 61 ∷ value)) fits) refl in
+    ap (λ (p : Option ℕ). cut_part p (name_of option ++ 61 ∷ value)) is
+    ∙ ap (λ (name : List ℕ). joined_part (length (name_of option) + 3) (option_named name)) front
+    ∙ ap (joined_part (length (name_of option) + 3)) (named option)
+
+pub with_value : (option : OptionName) (value : List ℕ) → plain_part (dashes ++ name_of option ++ codes "=" ++ value) ≡ joined_part (length (name_of option) + 3) (Some option)
+unfolding plain_part
+with_value Hosts value = cut Hosts value refl refl
+with_value Pairs value = cut Pairs value refl refl
+with_value Upper value = cut Upper value refl refl
+with_value Lead value = cut Lead value refl refl
+with_value KeepShort value = cut KeepShort value refl refl
+with_value Read value = cut Read value refl refl
+with_value Write value = cut Write value refl refl
+
+pub value_stands : (option : OptionName) (value : List ℕ) → drop (length (name_of option) + 3) (dashes ++ name_of option ++ codes "=" ++ value) ≡ value
+value_stands Hosts value = refl
+value_stands Pairs value = refl
+value_stands Upper value = refl
+value_stands Lead value = refl
+value_stands KeepShort value = refl
+value_stands Read value = refl
+value_stands Write value = refl
+
+-- what a part tells of the word
+abbrev pub Tells : Part → List ℕ → Type 0
+Tells Operand word = is_plain word ≡ true
+Tells End word = word ≡ dashes
+Tells (Flag option) word = (takes_value option ≡ false) × (word ≡ dashes ++ name_of option)
+Tells (Name option) word = (takes_value option ≡ true) × (word ≡ dashes ++ name_of option)
+Tells (Joined option from) word = (takes_value option ≡ true) × (word ≡ dashes ++ name_of option ++ codes "=" ++ drop from word)
+Tells (Value option) word = ⊥
+Tells Unknown word = Unit {0}
+
+alone_tells : (text : List ℕ) → Tells (alone_part (option_named text)) (45 ∷ 45 ∷ text)
+alone_tells text = by_option (option_named text) refl
+  where
+    by_value : (option : OptionName) (valued : Bool) → takes_value option ≡ valued → text ≡ name_of option → Tells (if valued then Name option else Flag option) (45 ∷ 45 ∷ text)
+    by_value option true e is = (e, ap (λ (t : List ℕ). 45 ∷ 45 ∷ t) is)
+    by_value option false e is = (e, ap (λ (t : List ℕ). 45 ∷ 45 ∷ t) is)
+
+    by_option : (o : Option OptionName) → option_named text ≡ o → Tells (alone_part o) (45 ∷ 45 ∷ text)
+    by_option None is = tt
+    by_option (Some option) is = by_value option (takes_value option) refl (name_is text option is)
+
+joins : (option : OptionName) (value : List ℕ) → 45 ∷ 45 ∷ (name_of option ++ (61 ∷ value)) ≡ dashes ++ name_of option ++ codes "=" ++ value
+joins Hosts value = refl
+joins Pairs value = refl
+joins Upper value = refl
+joins Lead value = refl
+joins KeepShort value = refl
+joins Read value = refl
+joins Write value = refl
+
+joined_tells : (text : List ℕ) (at : ℕ) → position is_equals text ≡ Some at → Tells (joined_part (at + 3) (option_named (take at text))) (45 ∷ 45 ∷ text)
+joined_tells text at stands = by_option (option_named (take at text)) refl
+  where
+    whole : (option : OptionName) → take at text ≡ name_of option → 45 ∷ 45 ∷ text ≡ dashes ++ name_of option ++ codes "=" ++ drop (at + 3) (45 ∷ 45 ∷ text)
+    whole option is =
+        let found = position-Some is_equals text at 0 stands in
+        let mark : get_or text at 0 ≡ 61 = eqb-true _ _ found.1 in
+        let behind : drop at text ≡ 61 ∷ drop (at + 1) text = drop_more text at 0 found.0 ∙ ap (λ (c : ℕ). c ∷ drop (at + 1) text) mark in
+        let same : at + 3 ≡ suc (suc (at + 1)) = omega arith in
+        let value : drop (at + 1) text ≡ drop (at + 3) (45 ∷ 45 ∷ text) = ap (λ (n : ℕ). drop n (45 ∷ 45 ∷ text)) (sym same) in
+        let text_is : text ≡ name_of option ++ (61 ∷ drop (at + 3) (45 ∷ 45 ∷ text)) =
+        sym (take-append-drop at text) ∙ ap (λ (front : List ℕ). front ++ drop at text) is ∙ ap (λ (rest : List ℕ). name_of option ++ rest) (behind ∙ ap (λ (v : List ℕ). 61 ∷ v) value) in
+        ap (λ (t : List ℕ). 45 ∷ 45 ∷ t) text_is ∙ joins option (drop (at + 3) (45 ∷ 45 ∷ text))
+
+    by_value : (option : OptionName) (valued : Bool) → takes_value option ≡ valued → take at text ≡ name_of option → Tells (if valued then Joined option (at + 3) else Unknown) (45 ∷ 45 ∷ text)
+    by_value option true e is = (e, whole option is)
+    by_value option false e is = tt
+
+    by_option : (o : Option OptionName) → option_named (take at text) ≡ o → Tells (joined_part (at + 3) o) (45 ∷ 45 ∷ text)
+    by_option None is = tt
+    by_option (Some option) is = by_value option (takes_value option) refl (name_is (take at text) option is)
+
+named_tells : (text : List ℕ) → Tells (named_part text) (45 ∷ 45 ∷ text)
+unfolding named_part
+named_tells text = by_mark (position is_equals text) refl
+  where
+    by_mark : (mark : Option ℕ) → position is_equals text ≡ mark → Tells (cut_part mark text) (45 ∷ 45 ∷ text)
+    by_mark None is = alone_tells text
+    by_mark (Some at) is = joined_tells text at is
+
+pub plain_tells : (word : List ℕ) → Tells (plain_part word) word
+unfolding plain_part
+plain_tells [] = refl
+plain_tells (c ∷ []) = refl
+plain_tells (c ∷ d ∷ cs) = by_dash (c == 45) refl
+  where
+    dashed : (cs : List ℕ) (second : Bool) → (d == 45) ≡ second → c ≡ 45 → Tells (dashed_part d cs) (c ∷ d ∷ cs)
+    dashed [] true e is = let d_is : d ≡ 45 = eqb-true _ _ e in rw (e, is, d_is) refl
+    dashed [] false e is = rw e tt
+    dashed (x ∷ xs) true e is = let d_is : d ≡ 45 = eqb-true _ _ e in rw (e, is, d_is) (named_tells (x ∷ xs))
+    dashed (x ∷ xs) false e is = rw e tt
+
+    by_dash : (dash : Bool) → (c == 45) ≡ dash → Tells (if dash then dashed_part d cs else Operand) (c ∷ d ∷ cs)
+    by_dash true e = dashed cs (d == 45) refl (eqb-true _ _ e)
+    by_dash false e = rw e refl

@@ -1,0 +1,9 @@
+use Rattle.std.proofs.Common.{◌≡◌, ◌<◌, ◌^◌, drop}
+use Rattle.std.specs.Str.{all_ascii_digits}
+use Rattle.std.specs.Str.Parse.{digits_value, digits_value_after}
+use Rattle.rm_words.proofs.values.number.Given as goal
+
+abbrev pub invariant-loop-digit : goal.invariant-loop-digit
+invariant-loop-digit l =
+    (all_ascii_digits (drop l.digit-index l.text) ≡ all_ascii_digits l.text)
+    × (digits_value_after 10 l.value (drop l.digit-index l.text) ≡ digits_value 10 l.text) × (l.value < 10 ^ l.digit-index)

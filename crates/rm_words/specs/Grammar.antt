@@ -1,0 +1,118 @@
+-- Which words stand for which command.
+use Rattle.std.specs.Prelude.{◌≡◌, ◌≤◌, ◌<◌, ℕ, List, [], ◌∷◌, ◌++◌, length, map, not, ◌&&◌, ◌==◌, nat_le, Bool, true, false, codes, if◌then◌else◌, Option, Some, None}
+use Rattle.std.specs.Str.{bytes_eq, all_ascii_digits}
+use Rattle.std.specs.Str.Parse.{digits_value}
+use Rattle.std.specs.List.{list_all, slice_index}
+use Rattle.std.specs.Char.{is_ascii_graphic}
+use Rattle.rm_words.specs.Names.{word_of, takes, name_of, takes_value}
+use Rattle.rm_words.specs.declared.names.CommandName.{CommandName}
+use Rattle.rm_words.specs.declared.names.CommandName.TheVariants.{Replay}
+use Rattle.rm_words.specs.declared.names.OptionName.{OptionName}
+use Rattle.rm_words.specs.declared.names.OptionName.TheVariants.{Hosts, Pairs, Upper, Lead, KeepShort, Read, Write}
+
+-- what words are behind that of the command: an operand, or an option that is given a value
+pub data Piece : Type 0 where
+  operand : List ℕ → Piece
+  gives : OptionName → List ℕ → Piece
+
+abbrev pub dashes : List ℕ
+dashes = codes "--"
+
+-- a word that doesn't begin with a dash, or is a dash alone
+abbrev pub is_plain : List ℕ → Bool
+is_plain [] = true
+is_plain (c ∷ []) = true
+is_plain (c ∷ d ∷ more) = not (c == 45)
+
+-- The words behind that of the command, as operands and options in any order. An option that has a value is followed by it, in a
+-- word of its own, whatever that begins with, or behind `=`; to one that has none no octets are given. Behind `--` each word is
+-- an operand.
+pub data Spells (command : CommandName) : List (List ℕ) → List Piece → Type 0 where
+  none : Spells command [] []
+  end : (word : List ℕ) (words : List (List ℕ)) → word ≡ dashes → Spells command (word ∷ words) (map operand words)
+  plain : (word : List ℕ) (words : List (List ℕ)) (pieces : List Piece) → is_plain word ≡ true
+      → Spells command words pieces → Spells command (word ∷ words) (operand word ∷ pieces)
+  flag : (option : OptionName) (word : List ℕ) (words : List (List ℕ)) (pieces : List Piece) → takes command option ≡ true → takes_value option ≡ false
+      → word ≡ dashes ++ name_of option → Spells command words pieces → Spells command (word ∷ words) (gives option [] ∷ pieces)
+  separate : (option : OptionName) (word value : List ℕ) (words : List (List ℕ)) (pieces : List Piece) → takes command option ≡ true → takes_value option ≡ true
+      → word ≡ dashes ++ name_of option → Spells command words pieces → Spells command (word ∷ value ∷ words) (gives option value ∷ pieces)
+  joined : (option : OptionName) (word value : List ℕ) (words : List (List ℕ)) (pieces : List Piece) → takes command option ≡ true → takes_value option ≡ true
+      → word ≡ dashes ++ name_of option ++ codes "=" ++ value → Spells command words pieces → Spells command (word ∷ words) (gives option value ∷ pieces)
+
+-- the operands, in order
+abbrev pub operands : List Piece → List (List ℕ)
+operands [] = []
+operands (operand text ∷ pieces) = text ∷ operands pieces
+operands (gives option value ∷ pieces) = operands pieces
+
+-- the values that an option is given, in order
+abbrev pub values_of : OptionName → List Piece → List (List ℕ)
+values_of option [] = []
+values_of option (operand text ∷ pieces) = values_of option pieces
+values_of option (gives given value ∷ pieces) = if bytes_eq (name_of given) (name_of option) then value ∷ values_of option pieces else values_of option pieces
+
+-- the name of a file isn't empty
+abbrev pub is_name : List ℕ → Bool
+is_name [] = false
+is_name (c ∷ cs) = true
+
+-- the number that one to ten decimal digits are, if it is within the range
+unfoldable pub number_within : ℕ → ℕ → List ℕ → Option ℕ
+number_within low high text =
+    if all_ascii_digits text && nat_le 1 (length text) && nat_le (length text) 10 && nat_le low (digits_value 10 text) && nat_le (digits_value 10 text) high
+    then Some (digits_value 10 text) else None
+
+-- a community: 1 to 64 characters from `!` to `~`, of which the first isn't a dash
+unfoldable pub is_community : List ℕ → Bool
+is_community text = nat_le 1 (length text) && nat_le (length text) 64 && not (slice_index text 0 == 45) && list_all is_ascii_graphic text
+
+abbrev pub community_of : List ℕ → Option (List ℕ)
+community_of text = if is_community text then Some text else None
+
+-- an option that has no value
+abbrev pub is_given : List ℕ → Option Bool
+is_given text = Some true
+
+-- What an option comes to by the values that it is given, and none where they are wrong: its default without one, and what is
+-- read of one. It isn't given twice.
+abbrev pub setting : {A : Type 0} → A → (List ℕ → Option A) → List (List ℕ) → Option A
+setting default read [] = Some default
+setting default read (value ∷ []) = read value
+setting default read (value ∷ second ∷ more) = None
+
+-- what a run is set to
+pub record Options : Type 0 where
+  pub hosts : ℕ
+  pub pairs : ℕ
+  pub upper : ℕ
+  pub lead : ℕ
+  pub keep_short : Bool
+  pub read : List ℕ
+  pub write : List ℕ
+
+-- the options of a run, with their defaults and ranges
+pub record AreOptions (pieces : List Piece) (options : Options) : Type 0 where
+  pub hosts : setting 1024 (number_within 2 4096) (values_of Hosts pieces) ≡ Some options.hosts
+  pub pairs : setting 1024 (number_within 2 4096) (values_of Pairs pieces) ≡ Some options.pairs
+  pub upper : setting 1024 (number_within 2 1024) (values_of Upper pieces) ≡ Some options.upper
+  pub lead : setting 1000 (number_within 0 4294967295) (values_of Lead pieces) ≡ Some options.lead
+  pub keep_short : setting false is_given (values_of KeepShort pieces) ≡ Some options.keep_short
+  pub read : setting (codes "public") community_of (values_of Read pieces) ≡ Some options.read
+  pub write : setting (codes "private") community_of (values_of Write pieces) ≡ Some options.write
+
+-- a command with its operands and options
+pub data Command : Type 0 where
+  replay : (capture requests : List ℕ) (options : Options) → Command
+
+-- the operands and options of `replay`: the capture and the request file
+pub record AreOfReplay (pieces : List Piece) (capture requests : List ℕ) (options : Options) : Type 0 where
+  pub operands_are : operands pieces ≡ capture ∷ requests ∷ []
+  pub capture_is : is_name capture ≡ true
+  pub requests_are : is_name requests ≡ true
+  pub options_are : AreOptions pieces options
+
+-- Which words stand for which command, a line for each command: its word, and what stands behind it.
+pub data StandFor : List (List ℕ) → Command → Type 0 where
+  for_replay : (word : List ℕ) (words : List (List ℕ)) (pieces : List Piece) (capture requests : List ℕ) (options : Options)
+      → word ≡ word_of Replay → Spells Replay words pieces → AreOfReplay pieces capture requests options
+      → StandFor (word ∷ words) (replay capture requests options)

@@ -1,0 +1,5 @@
+pub mod Names
+pub mod Grammar
+pub mod Parts
+pub mod Scan
+pub mod Told

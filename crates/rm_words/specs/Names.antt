@@ -1,0 +1,46 @@
+-- The names of commands and of options.
+use Rattle.std.specs.Prelude.{ℕ, List, [], ◌∷◌, find, Bool, true, false, codes, if◌then◌else◌, Option, Some, None}
+use Rattle.std.specs.Str.{bytes_eq}
+use Rattle.rm_words.specs.declared.names.CommandName.{CommandName}
+use Rattle.rm_words.specs.declared.names.CommandName.TheVariants.{Replay}
+use Rattle.rm_words.specs.declared.names.OptionName.{OptionName}
+use Rattle.rm_words.specs.declared.names.OptionName.TheVariants.{Hosts, Pairs, Upper, Lead, KeepShort, Read, Write}
+
+-- the word of a command
+abbrev pub word_of : CommandName → List ℕ
+word_of Replay = codes "replay"
+
+-- the options of a command
+abbrev pub takes : CommandName → OptionName → Bool
+takes Replay option = true
+
+-- the name of an option
+abbrev pub name_of : OptionName → List ℕ
+name_of Hosts = codes "hosts"
+name_of Pairs = codes "pairs"
+name_of Upper = codes "upper"
+name_of Lead = codes "lead"
+name_of KeepShort = codes "keep-short"
+name_of Read = codes "read"
+name_of Write = codes "write"
+
+-- whether an option has a value
+abbrev pub takes_value : OptionName → Bool
+takes_value Hosts = true
+takes_value Pairs = true
+takes_value Upper = true
+takes_value Lead = true
+takes_value KeepShort = false
+takes_value Read = true
+takes_value Write = true
+
+-- the command of a word
+unfoldable pub command_named : List ℕ → Option CommandName
+command_named word = if bytes_eq word (word_of Replay) then Some Replay else None
+
+abbrev pub options : List OptionName
+options = Hosts ∷ Pairs ∷ Upper ∷ Lead ∷ KeepShort ∷ Read ∷ Write ∷ []
+
+-- the option of a name
+unfoldable pub option_named : List ℕ → Option OptionName
+option_named name = find (λ option. bytes_eq (name_of option) name) options

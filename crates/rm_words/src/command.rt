@@ -1,0 +1,97 @@
+// Commands with their operands and options.
+ghost use Rattle.std.specs.Prelude.{◌≡◌, ◌≤◌, length, drop, MatchOption};
+ghost use Rattle.rm_words.specs.Grammar.{AreOptions, Options, StandFor, is_name, operands};
+ghost use Rattle.rm_words.specs.Grammar.{Command as Meant};
+ghost use Rattle.rm_words.specs.Parts.{pieces_from};
+ghost use Rattle.rm_words.specs.Told.{AreTwoNames, IsReadReplay, command_of, options_of};
+ghost use Rattle.rm_words.specs.declared.parts.Expected.TheVariants.{Any};
+
+use crate::names::{CommandName, OptionName};
+use crate::options::RunOptions;
+use crate::scan::{are_whole, community_of, is_given, number_of, operand};
+use rm_edge::Words;
+
+/// A command, with its operands and options.
+#[derive(Drop)]
+pub enum Command<'a> {
+    /// Replays a capture against the datagrams of a request file.
+    Replay {
+        capture: &'a str,
+        requests: &'a str,
+        options: RunOptions,
+    },
+}
+
+/// The command that words stand for. None comes exactly where they stand for none.
+///
+/// The first word is that of the command. Options and operands follow in any order, the operands in that of the command. An
+/// option stands once at most, as `--name value` or `--name=value`, and its name isn't shortened; `--keep-short` has no value.
+/// Behind a word `--` all words are operands. Before it, a word that begins with a dash and has more characters is an option.
+/// An operand isn't empty, a number is one to ten decimal digits within its range, and a community 1 to 64 characters from `!`
+/// to `~` that don't begin with a dash.
+pub fn read_command(words: &Words) -> Option<Command<'_>>
+    ensures { MatchOption result ((command : Meant) → StandFor words.now command → ⊥) (λ found. StandFor words.now (command_of found)) }
+{
+    if words.len() == 0 {
+        return None;
+    }
+    let Some(name) = CommandName::named(words.at(0)) else {
+        return None;
+    };
+    if !are_whole(name, words) {
+        return None;
+    }
+    match name {
+        CommandName::Replay => read_replay(words),
+    }
+}
+
+// The command `replay` of words that are whole.
+fn read_replay(words: &Words) -> Option<Command<'_>>
+    requires { 1 ≤ length words.now }
+    ensures { IsReadReplay (pieces_from Any (drop 1 words.now)) result }
+{
+    let (capture, requests) = two_names(words)?;
+    let options = run_options(words)?;
+    Some(Command::Replay {
+        capture,
+        requests,
+        options,
+    })
+}
+
+// The operands, where they are two names of files.
+fn two_names(words: &Words) -> Option<(&str, &str)>
+    requires { 1 ≤ length words.now }
+    ensures { AreTwoNames (operands (pieces_from Any (drop 1 words.now))) result }
+{
+    let capture = operand(words, 0)?;
+    let requests = operand(words, 1)?;
+    if operand(words, 2).is_some() || !is_name(capture) || !is_name(requests) {
+        return None;
+    }
+    Some((capture, requests))
+}
+
+fn is_name(text: &str) -> bool
+    ensures { result ≡ is_name text.now }
+{
+    !text.is_empty()
+}
+
+// The options of a run.
+fn run_options(words: &Words) -> Option<RunOptions>
+    requires { 1 ≤ length words.now }
+    ensures { MatchOption result ((options : Options) → AreOptions (pieces_from Any (drop 1 words.now)) options → ⊥)
+        (λ found. AreOptions (pieces_from Any (drop 1 words.now)) (options_of found)) }
+{
+    Some(RunOptions {
+        hosts: number_of(words, OptionName::Hosts, 2, 4096, 1024)?,
+        pairs: number_of(words, OptionName::Pairs, 2, 4096, 1024)?,
+        upper: number_of(words, OptionName::Upper, 2, 1024, 1024)?,
+        lead: number_of(words, OptionName::Lead, 0, u32::MAX, 1000)?,
+        keep_short: is_given(words, OptionName::KeepShort)?,
+        read: community_of(words, OptionName::Read, b"public")?,
+        write: community_of(words, OptionName::Write, b"private")?,
+    })
+}

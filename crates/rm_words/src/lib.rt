@@ -1,0 +1,17 @@
+//! The words of a command line, read as a command with its operands and options.
+#![tactic(auto)]
+
+mod command;
+mod laws;
+mod names;
+mod options;
+mod parts;
+mod scan;
+#[cfg(test)]
+mod tests;
+mod values;
+
+pub use command::{Command, read_command};
+pub use laws::one_command;
+pub use options::RunOptions;
+pub use values::Community;

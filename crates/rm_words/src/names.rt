@@ -1,0 +1,94 @@
+// The names of commands and of options.
+ghost use Rattle.std.specs.Prelude.{◌≡◌};
+ghost use Rattle.rm_words.specs.Names.{name_of, command_named, option_named, takes, takes_value};
+
+/// The word that a command begins with.
+#[derive(Clone, Copy, Debug, PartialEq, Eq)]
+pub enum CommandName {
+    Replay,
+}
+
+/// An option of a command.
+#[derive(Clone, Copy, Debug, PartialEq, Eq)]
+pub enum OptionName {
+    /// The most hosts of a table.
+    Hosts,
+    /// The most pairs of hosts of a table.
+    Pairs,
+    /// The most rows of a table of the upper layers.
+    Upper,
+    /// The moment of the first frame, in milliseconds.
+    Lead,
+    /// That a frame of fewer than 60 octets counts as it was captured. It has no value.
+    KeepShort,
+    /// The community that may read.
+    Read,
+    /// The community that may read and write.
+    Write,
+}
+
+/// All options.
+const OPTIONS: [OptionName; 7] = [
+    OptionName::Hosts,
+    OptionName::Pairs,
+    OptionName::Upper,
+    OptionName::Lead,
+    OptionName::KeepShort,
+    OptionName::Read,
+    OptionName::Write,
+];
+
+impl CommandName {
+    /// The command of a word.
+    #[tactic(auto, unfolding(crate::specs::Names::command_named))]
+    pub fn named(word: &str) -> Option<CommandName>
+        ensures { result ≡ command_named word.now }
+    {
+        if word == "replay" {
+            Some(CommandName::Replay)
+        } else {
+            None
+        }
+    }
+
+    /// Whether the command has the option.
+    pub fn takes(self, _option: OptionName) -> bool
+        ensures { result ≡ takes self _option }
+    {
+        match self {
+            CommandName::Replay => true,
+        }
+    }
+}
+
+impl OptionName {
+    /// The name, which stands behind two dashes.
+    pub fn name(self) -> &'static [u8]
+        ensures { result.now ≡ name_of self }
+    {
+        match self {
+            OptionName::Hosts => b"hosts",
+            OptionName::Pairs => b"pairs",
+            OptionName::Upper => b"upper",
+            OptionName::Lead => b"lead",
+            OptionName::KeepShort => b"keep-short",
+            OptionName::Read => b"read",
+            OptionName::Write => b"write",
+        }
+    }
+
+    /// The option of a name.
+    #[tactic(auto, unfolding(crate::specs::Names::option_named))]
+    pub fn named(name: &[u8]) -> Option<OptionName>
+        ensures { result ≡ option_named name.now }
+    {
+        OPTIONS.iter().copied().find(|option| option.name() == name)
+    }
+
+    /// Whether the option has a value.
+    pub fn takes_value(self) -> bool
+        ensures { result ≡ takes_value self }
+    {
+        !matches!(self, OptionName::KeepShort)
+    }
+}

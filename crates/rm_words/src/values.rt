@@ -1,0 +1,73 @@
+// What the value of an option is.
+ghost use Rattle.std.specs.Prelude.{◌≡◌, ◌≤◌, IfSome, IsTrue, MatchOption, Some, None, length};
+ghost use Rattle.std.specs.List.{list_all};
+ghost use Rattle.std.specs.Char.{is_ascii_graphic};
+ghost use Rattle.rm_words.specs.Grammar.{number_within, community_of, is_community};
+
+use arrayvec::ArrayVec;
+
+/// A community, of 1 to 64 octets.
+pub type Community = ArrayVec<u8, 64>;
+
+/// The number that one to ten decimal digits are, if it is within a range.
+#[tactic(auto, unfolding(crate::specs::Grammar::number_within))]
+pub fn number(text: &[u8], low: u32, high: u32) -> Option<u32>
+    ensures is { result ≡ number_within low high text.now }
+    ensures within { IfSome result (λ n. (low ≤ n) × (n ≤ high)) }
+{
+    if text.is_empty() || text.len() > 10 {
+        return None;
+    }
+    let mut value = 0u64;
+    for digit in text {
+        if !digit.is_ascii_digit() {
+            return None;
+        }
+        value = 10 * value + u64::from(*digit - b'0');
+    }
+    match u32::try_from(value) {
+        Ok(value) if low <= value && value <= high => Some(value),
+        _ => None,
+    }
+}
+
+fn is_visible(text: &[u8]) -> bool
+    ensures { result ≡ list_all is_ascii_graphic text.now }
+{
+    text.iter().all(|c| c.is_ascii_graphic())
+}
+
+#[tactic(auto, unfolding(crate::specs::Grammar::is_community))]
+fn is_community(text: &[u8]) -> bool
+    ensures is { result ≡ is_community text.now }
+    ensures some { IsTrue result → 1 ≤ length text.now }
+    ensures short { IsTrue result → length text.now ≤ 64 }
+{
+    if text.is_empty() || text.len() > 64 || text[0] == b'-' {
+        return false;
+    }
+    is_visible(text)
+}
+
+/// A community of these octets.
+pub fn kept(octets: &[u8]) -> Community
+    requires { length octets.now ≤ 64 }
+    ensures { result.items ≡ octets.now }
+{
+    let mut community = ArrayVec::new();
+    // There is room.
+    let _ = community.try_extend_from_slice(octets);
+    community
+}
+
+/// The community that a text is, if it is one.
+pub fn community(text: &[u8]) -> Option<Community>
+    ensures is { MatchOption result (community_of text.now ≡ None) (λ community. community_of text.now ≡ Some community.items) }
+    ensures within { IfSome result (λ community. (1 ≤ length community.items) × (length community.items ≤ 64)) }
+{
+    if is_community(text) {
+        Some(kept(text))
+    } else {
+        None
+    }
+}
