@@ -5,7 +5,7 @@ use case_text::{
     Capture, Datagram, Frame, Names, Statement, Trouble, first_number, first_word, number, octets,
     read_frame,
 };
-use rm_probe::Status;
+use rm_cmd::Status;
 use std::alloc::Global;
 use std::fmt::Write;
 

@@ -6,7 +6,7 @@ use case_text::{Trouble, first_word, number, word_octets};
 use rm_agent::Settings;
 use std::alloc::Global;
 
-/// The settings that a case gives, and the moment of its first frame. What it doesn't give is as `rm_probe::run` has it.
+/// The settings that a case gives, and the moment of its first frame. What it doesn't give is as `rm_cmd::run` has it.
 #[derive(Drop)]
 pub struct Given {
     /// Whether the case gives any.

@@ -1,6 +1,6 @@
 // How a run ends, as text.
 use case_text::{Trouble, first_word};
-use rm_probe::Status;
+use rm_cmd::Status;
 
 /// The status that a text names, with its number behind it where it has one.
 pub fn status(text: &str) -> Result<Status, Trouble> {

@@ -1,8 +1,9 @@
 // What a run does with a case.
 use crate::case::Case;
 use case_text::Trouble;
+use rm_cmd::{Status, run};
 use rm_edge::{ListClock, MemLink, MemShelf, MemSink, Words};
-use rm_probe::{Status, replay, run};
+use rm_probe::replay;
 use std::alloc::Global;
 
 /// The octets of room in the output beyond those that are expected.

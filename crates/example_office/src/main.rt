@@ -3,8 +3,8 @@
 
 ghost use Rattle.std.specs.Prelude.{◌≡◌, [], ◌∷◌, codes, IfOk};
 
+use rm_cmd::{Status, run};
 use rm_edge::{FileShelf, ListClock, MemLink, StdSink, Words};
-use rm_probe::{Status, run};
 use rm_val::NoMemory;
 use std::alloc::Global;
 use std::process::ExitCode;

@@ -22,16 +22,6 @@ use Rattle.rm_probe.specs.declared.status.Status.{Status}
 use Rattle.rm_probe.specs.declared.status.Status.TheVariants.{Done, Usage, BadCapture, BadRequests, ReadFault, WriteFault, NoMemory, LinkFault, TooLong}
 use Rattle.rm_probe.proofs.RecordLemmas.{leaves_all, of_told}
 
--- words give one pair of names
-pub same_names : (names : Option (List ℕ × List ℕ)) (a b x y : List ℕ) → names ≡ Some (a, b) → names ≡ Some (x, y) → (a ≡ x) × (b ≡ y)
-same_names names a b x y first second =
-    let same = ap unwrap_or_empty (sym first ∙ second) in
-    (ap (λ (p : List ℕ × List ℕ). p.0) same, ap (λ (p : List ℕ × List ℕ). p.1) same)
-  where
-    unwrap_or_empty : Option (List ℕ × List ℕ) → List ℕ × List ℕ
-    unwrap_or_empty None = ([], [])
-    unwrap_or_empty (Some names) = names
-
 module _ (lead : ℕ) where
   -- the header of a capture has no fault
   good_header : (bytes : List ℕ) (frames : List Frame) (stop : Stop) (header : Result Form PcapFault) → header_of bytes ≡ header → IsCapture lead bytes frames stop

@@ -1,6 +1,5 @@
--- How a run of words ends: what each status says of the files, of the counts of faults, and of the octets written.
-use Rattle.std.specs.Prelude.{◌≡◌, ◌⊎◌, ◌&&◌, ℕ, List, [], ◌∷◌, Bool, false, not, ◌==◌, if◌then◌else◌, codes, Option, Some, None, Result, Ok, Err, ⊤}
-use Rattle.std.specs.Str.{bytes_eq}
+-- How a run ends: what each status says of the files, of the counts of faults, and of the octets written.
+use Rattle.std.specs.Prelude.{◌≡◌, ◌⊎◌, ℕ, List, Option, Result, Ok, Err, ⊤}
 use Rattle.rm_edge.specs.Outside.{Held, File, OfFile, Adds, AddsFront, Rose}
 use Rattle.rm_model.specs.Journal.{Frame}
 use Rattle.rm_pcap.specs.Records.{Stop}
@@ -13,21 +12,6 @@ use Rattle.rm_probe.specs.Text.{IsText}
 use Rattle.rm_agent.specs.declared.settings.Settings.{Settings}
 use Rattle.rm_probe.specs.declared.status.Status.{Status}
 use Rattle.rm_probe.specs.declared.status.Status.TheVariants.{Done, Usage, BadCapture, BadRequests, ReadFault, WriteFault, NoMemory, LinkFault, TooLong}
-
--- a word that isn't empty and doesn't begin with a dash
-abbrev pub is_operand : List ℕ → Bool
-is_operand [] = false
-is_operand (c ∷ cs) = not (c == 45)
-
--- the names of the capture and of the request file, where the words are `replay` and two operands
-unfoldable pub replay_of : List (List ℕ) → Option (List ℕ × List ℕ)
-replay_of (word ∷ capture ∷ requests ∷ []) =
-    if bytes_eq word (codes "replay") && is_operand capture && is_operand requests then Some (capture, requests) else None
-replay_of words = None
-
--- a fact of the two names, where the words give them
-abbrev pub OfReplay : List (List ℕ) → (List ℕ → List ℕ → Type 0) → Type 0
-OfReplay words P = (capture requests : List ℕ) → replay_of words ≡ Some (capture, requests) → P capture requests
 
 -- both files are of the form, and P holds of all their frames, of how the records stop, and of all datagrams
 abbrev pub OfBoth : ℕ → Held → Held → (List Frame → Stop → List TimedDatagram → Type 0) → Type 0

@@ -1,4 +1,3 @@
-pub mod Defaults
 pub mod Capture
 pub mod Requests
 pub mod Events

@@ -16,7 +16,7 @@ mod status;
 #[cfg(test)]
 mod tests;
 
-pub use entry::{replay, run};
+pub use entry::replay;
 pub use laws::one_text;
 pub use notes::Notes;
 pub use output::Output;

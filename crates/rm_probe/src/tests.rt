@@ -1,7 +1,7 @@
-// Tests through the top call, over files and a sink in memory, of what the cases of the crate `cases` don't try: reads and
+// Tests through `replay`, over files and a sink in memory, of what the cases of the crate `cases` don't try: reads and
 // puts that fail, and what its callers see.
-use crate::{Status, run};
-use rm_edge::{ListClock, MemLink, MemShelf, MemSink, Words};
+use crate::{Status, replay};
+use rm_edge::{MemShelf, MemSink};
 use std::alloc::Global;
 use std::fmt::Write;
 use std::test::Fail;
@@ -62,15 +62,10 @@ fn sink_of(alloc: Global, room: usize) -> Result<MemSink, Fail> {
     Ok(out)
 }
 
-// Replays the files `c` and `r`, with a link and a clock that no command of these tests uses.
+// Replays the files `c` and `r`.
 fn run_replay(alloc: Global, shelf: &mut MemShelf, out: &mut MemSink) -> Result<Status, Fail> {
-    let mut words = Words::new(alloc);
-    for word in ["replay", "c", "r"] {
-        words.add(word)?;
-    }
-    let mut link = MemLink::new(alloc);
-    let mut clock = ListClock::new(alloc);
-    Ok(run(alloc, &words, shelf, out, &mut link, &mut clock))
+    let settings = settings::settings(false, b"public", b"private")?;
+    Ok(replay(alloc, settings, 1000, "c", "r", shelf, out))
 }
 
 #[test]

@@ -1,8 +1,8 @@
 //! The probe: replays a capture and answers the datagrams of a request file.
 #![tactic(auto)]
 
+use rm_cmd::{Status, run};
 use rm_edge::{FileShelf, ListClock, MemLink, StdSink, Words};
-use rm_probe::{Status, run};
 use std::env;
 use std::io::ErrorKind;
 use std::process::ExitCode;

@@ -11,7 +11,7 @@ use rm_pcap::Frame;
 use std::alloc::Global;
 use std::test::Fail;
 
-fn settings(keep_short: bool, read: &[u8], write: &[u8]) -> Result<Settings, Fail>
+pub fn settings(keep_short: bool, read: &[u8], write: &[u8]) -> Result<Settings, Fail>
     requires read { 1 ≤ length read.now }
     requires write { 1 ≤ length write.now }
 {

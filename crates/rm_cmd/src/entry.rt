@@ -1,0 +1,115 @@
+// Runs the words of a command line.
+ghost use Rattle.std.specs.Prelude.{◌≡◌, ◌≢◌, ◌+◌, ◌↔◌, MatchOption};
+ghost use Rattle.rm_words.specs.Grammar.{Command as Meant, StandFor, replay};
+ghost use Rattle.rm_words.specs.Told.{options_of};
+ghost use Rattle.rm_probe.specs.Ends.{IsComplete, IsExact, IsSilent};
+ghost use Rattle.rm_probe.specs.declared.status.Status.TheVariants.{Usage};
+ghost use Rattle.rm_cmd.specs.Commands.{AreSet, EndsWith, OfReplay};
+
+use rm_agent::Settings;
+use rm_edge::{Clock, Link, Shelf, Sink, Words};
+use rm_probe::Status;
+use rm_words::{Command, RunOptions, one_command, read_command};
+use std::alloc::Global;
+
+/// Runs the words of a command line.
+///
+/// The one command is `replay CAPTURE REQUESTS` with its options. It writes one line for each datagram of the request file and
+/// one for each notification, and a last line. Words that stand for no command are `Usage`.
+///
+/// The capture is judged first, a record at a time, and then the request file, a line at a time. Only then is anything
+/// written, and both are read again meanwhile. After `WriteFault` and `ReadFault` a front of the text may have been
+/// written. Over a shelf that tells what it holds, nothing was written after the others but `Done`. Over one that
+/// doesn't, the files may be other ones when they are read again, and `BadCapture`, `BadRequests` and `TooLong` may come
+/// after lines were written.
+pub fn run<F: Shelf, K: Sink, L: Link, T: Clock>(
+    alloc: Global,
+    words: &Words,
+    shelf: &mut F,
+    out: &mut K,
+    link: &mut L,
+    clock: &mut T,
+) -> Status
+    ensures usage { (result ≡ Usage) ↔ ((command : Meant) → StandFor words.now command → ⊥) }
+
+    // The whole truth of each status, `Done` among them: the octets added are exactly a text of both files.
+    ensures ends { OfReplay words.now (λ capture requests options.
+        EndsWith options (F.held shelf.old capture) (F.held shelf.old requests)
+        (F.faults shelf.old capture + F.faults shelf.old requests) (F.faults shelf.new capture + F.faults shelf.new requests)
+        (K.faults out.old) (K.faults out.new) (K.content out.old) (K.content out.new) result) }
+    ensures exact { OfReplay words.now (λ capture requests options. IsExact options.lead (F.held shelf.old capture) (F.held shelf.old requests) result) }
+    ensures complete { OfReplay words.now (λ capture requests options.
+        IsComplete options.lead (F.held shelf.old capture) (F.held shelf.old requests)
+        (F.faults shelf.old capture + F.faults shelf.old requests) (F.faults shelf.new capture + F.faults shelf.new requests)
+        (K.faults out.old) (K.faults out.new) result) }
+    ensures silent { IsSilent result → K.content out.new ≡ K.content out.old }
+
+    // The link and the clock keep what they hold.
+    ensures bound { L.bound link.new ≡ L.bound link.old }
+    ensures received { L.received link.new ≡ L.received link.old }
+    ensures sent { L.sent link.new ≡ L.sent link.old }
+    ensures told { T.told clock.new ≡ T.told clock.old }
+{
+    one_command();
+    match replay_words(words) {
+        None => Status::Usage,
+        Some((capture, requests, options)) => {
+            run_replay(alloc, capture, requests, options, shelf, out)
+        }
+    }
+}
+
+// The operands and options of `replay`, where the words stand for it.
+fn replay_words(words: &Words) -> Option<(&str, &str, RunOptions)>
+    ensures { MatchOption result ((command : Meant) → StandFor words.now command → ⊥)
+        (λ asked. StandFor words.now (replay asked.0.now asked.1.now (options_of asked.2))) }
+{
+    match read_command(words) {
+        None => None,
+        Some(
+            Command::Replay {
+                capture,
+                requests,
+                options,
+            },
+        ) => Some((capture, requests, options)),
+    }
+}
+
+// Runs `replay` with its operands and options.
+fn run_replay<F: Shelf, K: Sink>(
+    alloc: Global,
+    capture: &str,
+    requests: &str,
+    options: RunOptions,
+    shelf: &mut F,
+    out: &mut K,
+) -> Status
+    ensures ends { EndsWith (options_of options) (F.held shelf.old capture.now) (F.held shelf.old requests.now)
+        (F.faults shelf.old capture.now + F.faults shelf.old requests.now) (F.faults shelf.new capture.now + F.faults shelf.new requests.now)
+        (K.faults out.old) (K.faults out.new) (K.content out.old) (K.content out.new) result }
+    ensures exact { IsExact options.lead (F.held shelf.old capture.now) (F.held shelf.old requests.now) result }
+    ensures complete { IsComplete options.lead (F.held shelf.old capture.now) (F.held shelf.old requests.now)
+        (F.faults shelf.old capture.now + F.faults shelf.old requests.now) (F.faults shelf.new capture.now + F.faults shelf.new requests.now)
+        (K.faults out.old) (K.faults out.new) result }
+    ensures silent { IsSilent result → K.content out.new ≡ K.content out.old }
+    ensures command { result ≢ Usage }
+{
+    let lead = options.lead;
+    let settings = settings_of(options);
+    rm_probe::replay(alloc, settings, lead, capture, requests, shelf, out)
+}
+
+// What the probe is set to by the options of a run.
+fn settings_of(options: RunOptions) -> Settings
+    ensures { AreSet result (options_of options) }
+{
+    Settings {
+        hosts: options.hosts,
+        pairs: options.pairs,
+        upper: options.upper,
+        keep_short: options.keep_short,
+        read: options.read,
+        write: options.write,
+    }
+}
