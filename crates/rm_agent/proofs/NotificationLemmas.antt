@@ -12,7 +12,7 @@ use Rattle.rm_model.specs.declared.row.State.{State}
 use Rattle.rm_model.specs.declared.row.State.TheVariants.{Absent, UnderCreation, Valid}
 use Rattle.rm_acts.specs.declared.sampled.Sampled.{Sampled}
 use Rattle.rm_acts.specs.declared.sampled.Sampled.TheVariants.{Quiet, Rising, Falling, Gone}
-use Rattle.rm_status.specs.Values.{octets_in}
+use Rattle.rm_columns.specs.Values.{octets_in}
 use Rattle.rm_status.proofs.RowsAfterLemmas.{state_sampled}
 use Rattle.rm_alarm.specs.declared.row.AlarmRow.{AlarmRow}
 use Rattle.rm_alarm.specs.Rows.{variable_kept}

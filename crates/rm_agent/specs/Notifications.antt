@@ -8,7 +8,7 @@ use Rattle.rm_acts.specs.Alarms.{alarm_entry, sampled}
 use Rattle.rm_model.specs.ControlRows.{cell_name}
 use Rattle.rm_acts.specs.declared.sampled.Sampled.{Sampled}
 use Rattle.rm_acts.specs.declared.sampled.Sampled.TheVariants.{Quiet, Rising, Falling, Gone}
-use Rattle.rm_status.specs.Values.{octets_in}
+use Rattle.rm_columns.specs.Values.{octets_in}
 use Rattle.rm_alarm.specs.AlarmTable.{alarm_shown}
 use Rattle.rm_event.specs.declared.event_type.EventType.{EventType}
 use Rattle.rm_event.specs.declared.event_type.EventType.TheVariants as type

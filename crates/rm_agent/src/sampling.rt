@@ -18,8 +18,8 @@ ghost use Rattle.rm_agent.specs.Told.{IsTaken, firings_by};
 use crate::groups::{Groups, alarms, events, sample, take_each};
 use rm_acts::Firing;
 use rm_alarm::{Alarms, Sampled};
+use rm_columns::natural_in;
 use rm_event::Fired;
-use rm_status::natural_in;
 use rm_val::Value;
 
 /// What a sample came to, the event that it asked for, which is 0 for none, and what became of that event.

@@ -5,7 +5,7 @@ ghost use Rattle.rm_alarm.specs.Rows.{variable_kept};
 
 use rm_alarm::AlarmRow;
 use rm_alarm::column::RISING_THRESHOLD;
-use rm_status::Numbered;
+use rm_columns::Numbered;
 use rm_val::Oid;
 
 /// What a trap tells of its alarm.

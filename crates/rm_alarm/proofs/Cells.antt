@@ -12,7 +12,7 @@ use Rattle.rm_model.specs.declared.row.State.{State}
 use Rattle.rm_model.specs.declared.row.State.TheVariants.{Absent, UnderCreation, Valid}
 use Rattle.rm_status.specs.declared.row.Row.{Row}
 use Rattle.rm_status.specs.Rows.{row_in, AreControlRows}
-use Rattle.rm_status.specs.RowForm.{with_index}
+use Rattle.rm_status.specs.RowsShown.{with_index}
 use Rattle.rm_status.specs.RowsAfter.{AreRowsAfter}
 use Rattle.rm_status.proofs.KeptCellsLaws.{same_control_cells}
 use Rattle.rm_status.proofs.RowsAfterLemmas.{since_idle}

@@ -9,7 +9,7 @@ use Rattle.rm_model.specs.ControlRows.{cell_name}
 use Rattle.rm_model.specs.Judgement.{Bindings, first_pass}
 use Rattle.rm_model.specs.ControlTable.{up_from}
 use Rattle.rm_acts.specs.Alarms.{alarm_entry, alarm_table, number_of}
-use Rattle.rm_status.specs.Kinds.{of_within}
+use Rattle.rm_columns.specs.KindLaws.{of_within}
 use Rattle.rm_status.proofs.Bound.{given_fine}
 
 one_or_more : (n : ℤ) → int_le (pos 1) n ≡ true → int_le n (pos 2147483647) ≡ true → 1 ≤ nat_abs (number_of (int n))

@@ -7,7 +7,7 @@ use Rattle.rm_model.specs.Cells.{Table}
 use Rattle.rm_model.specs.ControlRows.{no_rows}
 use Rattle.rm_model.specs.ControlCells.{control_cells}
 use Rattle.rm_acts.specs.Alarms.{alarm_table, alarm_value}
-use Rattle.rm_status.specs.RowForm.{with_index}
+use Rattle.rm_status.specs.RowsShown.{with_index}
 use Rattle.rm_status.specs.Rows.{row_number}
 
 -- the numbers of the columns

@@ -5,10 +5,10 @@ use Rattle.rm_model.specs.ControlTable.{owner_column}
 use Rattle.rm_model.specs.Alike.{HasSameColumns}
 use Rattle.rm_model.specs.Judgement.{column_kind, value_fault}
 use Rattle.rm_acts.specs.Alarms.{alarm_table, interval_column, variable_column, sample_type_column, startup_column, rising_column, falling_column, rising_event_column, falling_event_column}
-use Rattle.rm_status.specs.Kinds.{texts, numbers, needed_numbers, needed_names}
-use Rattle.rm_status.specs.RowForm.{RowForm}
-use Rattle.rm_status.proofs.ColumnLaws.{no_columns, one_more}
-use Rattle.rm_status.proofs.RowForms.{row_form}
+use Rattle.rm_columns.specs.Kinds.{texts, numbers, needed_numbers, needed_names}
+use Rattle.rm_columns.specs.RowForm.{RowForm}
+use Rattle.rm_columns.proofs.ColumnLaws.{no_columns, one_more}
+use Rattle.rm_columns.proofs.RowForms.{row_form}
 use Rattle.rm_alarm.specs.declared.row.AlarmRow.{AlarmRow}
 use Rattle.rm_alarm.specs.AlarmTable.{alarm_columns}
 use Rattle.rm_alarm.specs.SampleType.{sample_types}

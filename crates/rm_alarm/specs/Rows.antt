@@ -3,7 +3,7 @@ use Rattle.std.specs.Prelude.{ℕ, pos, List, [], ◌∷◌, Bool, nat_eq, unwra
 use Rattle.std.specs.Option.{option_map, option_or}
 use Rattle.rm_val.specs.Val.{Val}
 use Rattle.rm_acts.specs.Alarms.{name_of, alarm_entry}
-use Rattle.rm_status.specs.Kinds.{texts, numbers, needed_numbers, needed_names}
+use Rattle.rm_columns.specs.Kinds.{texts, numbers, needed_numbers, needed_names}
 use Rattle.rm_model.specs.Journal.{value_given}
 use Rattle.rm_model.specs.ControlRows.{cell_name}
 use Rattle.rm_model.specs.Judgement.{Bindings}

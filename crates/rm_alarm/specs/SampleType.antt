@@ -1,8 +1,8 @@
 -- What the value of a sample is (RFC 1757, alarmSampleType).
 use Rattle.std.specs.Prelude.{ℕ, ℤ, pos, Bool, true, false, nat_eq, if◌then◌else◌, refl}
-use Rattle.rm_status.specs.Values.{natural_in}
-use Rattle.rm_status.specs.Field.{FieldOf}
-use Rattle.rm_status.specs.Kinds.{variants}
+use Rattle.rm_columns.specs.Values.{natural_in}
+use Rattle.rm_columns.specs.Field.{FieldOf}
+use Rattle.rm_columns.specs.Kinds.{variants}
 use Rattle.rm_alarm.specs.declared.sample_type.SampleType.{SampleType}
 use Rattle.rm_alarm.specs.declared.sample_type.SampleType.TheVariants.{Absolute, Delta}
 

@@ -5,7 +5,7 @@ use Rattle.rm_val.specs.Val.{Val, int}
 use Rattle.rm_model.specs.Cells.{Table}
 use Rattle.rm_acts.specs.Alarms.{saturated}
 use Rattle.rm_status.specs.declared.row.Row.{Row}
-use Rattle.rm_status.specs.RowForm.{rows_shown}
+use Rattle.rm_status.specs.RowsShown.{rows_shown}
 use Rattle.rm_status.specs.Rows.{row_in, row_number}
 use Rattle.rm_alarm.specs.declared.course.Course.{Course}
 use Rattle.rm_alarm.specs.declared.row.AlarmRow.{AlarmRow}

@@ -1,8 +1,8 @@
 -- Which thresholds a first sample may cross (RFC 1757, alarmStartupAlarm).
 use Rattle.std.specs.Prelude.{ℕ, ℤ, pos, nat_eq, if◌then◌else◌, refl}
-use Rattle.rm_status.specs.Values.{natural_in}
-use Rattle.rm_status.specs.Field.{FieldOf}
-use Rattle.rm_status.specs.Kinds.{variants}
+use Rattle.rm_columns.specs.Values.{natural_in}
+use Rattle.rm_columns.specs.Field.{FieldOf}
+use Rattle.rm_columns.specs.Kinds.{variants}
 use Rattle.rm_alarm.specs.declared.startup_alarm.StartupAlarm.{StartupAlarm}
 use Rattle.rm_alarm.specs.declared.startup_alarm.StartupAlarm.TheVariants.{Rising, Falling, RisingOrFalling}
 

@@ -10,8 +10,8 @@ use crate::change::{Forgetting, ReadingBase, Settling};
 use crate::column::STATUS;
 use crate::due::earliest;
 use crate::row::AlarmRow;
+use rm_columns::ControlRow;
 use rm_group::{Assigns, Look};
-use rm_status::ControlRow;
 
 impl Alarms {
     /// Remembers for a Set, with which nothing is wrong, what the variables of the alarms read that it may make valid, at its

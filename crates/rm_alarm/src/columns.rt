@@ -10,13 +10,13 @@ use crate::sample_type::SampleType;
 use crate::startup_alarm::StartupAlarm;
 use crate::thresholds::Thresholds;
 use arrayvec::ArrayVec;
-use rm_group::TableObjects;
-use rm_model::Setting::{Empty, NoName, Number};
-use rm_model::{ColumnKind, StatusKind, column, numbers};
-use rm_status::{
+use rm_columns::{
     ControlRow, ControlSheet, Numbered, index_of_one, is_one_number, name_in, number_in,
     one_number, put_text, same_text,
 };
+use rm_group::TableObjects;
+use rm_model::Setting::{Empty, NoName, Number};
+use rm_model::{ColumnKind, StatusKind, column, numbers};
 use rm_val::{Oid, Value};
 
 /// The objects of alarmTable.

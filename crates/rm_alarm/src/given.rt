@@ -4,8 +4,8 @@ ghost use Rattle.std.specs.Option.{option_map};
 ghost use Rattle.rm_acts.specs.Alarms.{name_of};
 ghost use Rattle.rm_model.specs.Journal.{value_given};
 
+use rm_columns::name_in;
 use rm_group::Assigns;
-use rm_status::name_in;
 use rm_val::Oid;
 
 /// The name that a Set gives to a variable by its first binding of it, if it gives it a value: the empty one where that is

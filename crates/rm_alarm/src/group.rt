@@ -15,9 +15,9 @@ use crate::judging::judge_variables;
 use crate::laws::frames_pass;
 use crate::row::AlarmRow;
 use rm_acts::Firing;
+use rm_columns::ControlRow;
 use rm_group::{Assigns, Denied, Group, Look, Passing, Steps, TableObjects, Tables, lower_verdict};
 use rm_model::Verdict;
-use rm_status::ControlRow;
 use rm_val::{Oid, Value};
 use std::alloc::Global;
 

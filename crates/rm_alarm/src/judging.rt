@@ -11,9 +11,10 @@ ghost use Rattle.rm_alarm.specs.Rows.{set_to};
 use crate::change::variable_with;
 use crate::column::STATUS;
 use crate::row::AlarmRow;
+use rm_columns::ControlRow;
 use rm_group::{Assigns, Look};
 use rm_model::{Place, State, Verdict};
-use rm_status::{ControlRow, Controls, place_under};
+use rm_status::{Controls, place_under};
 use rm_val::{ErrorStatus, Value};
 
 /// Names the first binding that makes an alarm valid of whose variable there is no reading at a moment, in milliseconds.

@@ -1,7 +1,7 @@
 // What the value of a sample is.
 ghost use Rattle.rm_alarm.specs.SampleType.{variant, variant_number};
 
-use rm_status::Numbered;
+use rm_columns::Numbered;
 
 /// What the value of a sample is (RFC 1757, alarmSampleType).
 #[derive(Clone, Copy, Debug, PartialEq, Eq)]

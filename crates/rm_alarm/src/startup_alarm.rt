@@ -1,7 +1,7 @@
 // Which thresholds a first sample may cross.
 ghost use Rattle.rm_alarm.specs.StartupAlarm.{variant, variant_number};
 
-use rm_status::Numbered;
+use rm_columns::Numbered;
 
 /// Which thresholds a first sample may cross (RFC 1757, alarmStartupAlarm).
 #[derive(Clone, Copy, Debug, PartialEq, Eq)]

@@ -9,7 +9,7 @@ use Rattle.rm_model.specs.Journal.{Journal}
 use Rattle.rm_model.specs.Cells.{cells_of, IsNext}
 use Rattle.rm_status.specs.declared.row.Row.{Row}
 use Rattle.rm_status.specs.Rows.{row_in, AreControlRows}
-use Rattle.rm_status.specs.RowForm.{with_index}
+use Rattle.rm_status.specs.RowsShown.{with_index}
 use Rattle.rm_status.specs.RowsAfter.{AreRowsAfter}
 use Rattle.rm_status.proofs.Judged.{same_next}
 use Rattle.rm_status.proofs.KeptCellsLaws.{same_control_cells}

@@ -13,7 +13,7 @@ use Rattle.rm_model.specs.declared.row.State.{State}
 use Rattle.rm_model.specs.declared.row.State.TheVariants.{Absent, Valid}
 use Rattle.rm_ether.specs.declared.counter.Counter.{Counter}
 use Rattle.rm_model.specs.FrameFacts.{frame_facts}
-use Rattle.rm_status.specs.RowForm.{with_index}
+use Rattle.rm_status.specs.RowsShown.{with_index}
 use Rattle.rm_ether.specs.Counted.{counted}
 use Rattle.rm_ether.specs.Columns.{ether_columns, counter_numbered}
 

@@ -4,7 +4,7 @@ use Rattle.std.specs.Option.{option_map_or}
 use Rattle.rm_val.specs.Val.{Val, counter}
 use Rattle.rm_model.specs.Cells.{Table}
 use Rattle.rm_status.specs.declared.row.Row.{Row}
-use Rattle.rm_status.specs.RowForm.{rows_shown}
+use Rattle.rm_status.specs.RowsShown.{rows_shown}
 use Rattle.rm_status.specs.Rows.{row_in, row_number}
 use Rattle.rm_ether.specs.declared.row.StatisticsRow.{StatisticsRow}
 use Rattle.rm_ether.specs.Columns.{counter_numbered}

@@ -5,10 +5,10 @@ use Rattle.rm_model.specs.ControlTable.{source_column, owner_column}
 use Rattle.rm_model.specs.ControlRows.{is_valid}
 use Rattle.rm_model.specs.declared.row.State.{State}
 use Rattle.rm_proto.specs.declared.known.Facts.{Facts}
-use Rattle.rm_status.specs.Kinds.{sources, texts}
-use Rattle.rm_status.specs.RowForm.{RowForm}
-use Rattle.rm_status.proofs.ColumnLaws.{no_columns, one_more}
-use Rattle.rm_status.proofs.RowForms.{row_form}
+use Rattle.rm_columns.specs.Kinds.{sources, texts}
+use Rattle.rm_columns.specs.RowForm.{RowForm}
+use Rattle.rm_columns.proofs.ColumnLaws.{no_columns, one_more}
+use Rattle.rm_columns.proofs.RowForms.{row_form}
 use Rattle.rm_ether.specs.declared.row.StatisticsRow.{StatisticsRow}
 use Rattle.rm_ether.specs.Columns.{ether_columns}
 use Rattle.rm_ether.specs.EtherStats.{ether_stats}

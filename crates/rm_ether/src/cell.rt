@@ -3,7 +3,8 @@ ghost use Rattle.rm_ether.specs.Shown.{kept_other};
 
 use crate::counter::Counter;
 use crate::row::StatisticsRow;
-use rm_status::{OtherColumns, Row, counter_32};
+use rm_columns::counter_32;
+use rm_status::{OtherColumns, Row};
 use rm_val::Value;
 
 /// The counters.

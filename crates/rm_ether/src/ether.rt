@@ -5,13 +5,14 @@ use crate::cell::Counters;
 use crate::change::{Counting, Resting};
 use crate::row::{ETHER_OBJECTS, STATUS, StatisticsRow};
 use rm_acts::Firing;
+use rm_columns::ControlRow;
 use rm_group::{
     Assigns, Commits, Denied, Group, Look, MOST_FRAMES, NeverDue, Passing, Readable, Steps,
     TableObjects, Tables, Unsampled,
 };
 use rm_model::{State, StatusKind, Verdict};
 use rm_proto::Facts;
-use rm_status::{ControlRow, Controls};
+use rm_status::Controls;
 use rm_val::{Oid, Value};
 use std::alloc::Global;
 

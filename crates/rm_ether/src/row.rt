@@ -3,13 +3,13 @@ ghost use Rattle.std.specs.Prelude.{◌≡◌};
 
 use crate::statistics::Statistics;
 use arrayvec::ArrayVec;
-use rm_group::TableObjects;
-use rm_model::Setting::{Empty, Interface};
-use rm_model::{ColumnKind, StatusKind, column};
-use rm_status::{
+use rm_columns::{
     ControlRow, ControlSheet, index_of_one, interface_in, interface_name, is_one_number,
     one_number, put_text, same_text,
 };
+use rm_group::TableObjects;
+use rm_model::Setting::{Empty, Interface};
+use rm_model::{ColumnKind, StatusKind, column};
 use rm_val::{Oid, Value};
 
 /// How many octets an owner has at most.

@@ -11,7 +11,7 @@ use Rattle.rm_model.specs.ControlRows.{no_rows, is_valid}
 use Rattle.rm_model.specs.declared.instance.Instance.{Instance}
 use Rattle.rm_status.specs.declared.row.Row.{Row}
 use Rattle.rm_status.specs.Rows.{row_in, state_in, AreControlRows}
-use Rattle.rm_status.specs.RowForm.{with_index}
+use Rattle.rm_status.specs.RowsShown.{with_index}
 use Rattle.rm_status.specs.RowsAfter.{AreRowsAfter}
 use Rattle.rm_status.proofs.KeptCellsLaws.{same_control_cells}
 use Rattle.rm_event.specs.declared.log.Log.{Log}

@@ -3,10 +3,10 @@ use Rattle.std.specs.Prelude.{ℕ, [], nat_eq, if◌then◌else◌, Option, Some
 use Rattle.rm_val.specs.Val.{Val}
 use Rattle.rm_model.specs.ControlTable.{text_column, owner_column}
 use Rattle.rm_acts.specs.Events.{type_column}
-use Rattle.rm_status.specs.Kinds.{texts}
-use Rattle.rm_status.specs.RowForm.{RowForm}
-use Rattle.rm_status.proofs.ColumnLaws.{no_columns, one_more}
-use Rattle.rm_status.proofs.RowForms.{row_form}
+use Rattle.rm_columns.specs.Kinds.{texts}
+use Rattle.rm_columns.specs.RowForm.{RowForm}
+use Rattle.rm_columns.proofs.ColumnLaws.{no_columns, one_more}
+use Rattle.rm_columns.proofs.RowForms.{row_form}
 use Rattle.rm_event.specs.Columns.{event_columns}
 use Rattle.rm_event.specs.declared.event_row.EventRow.{EventRow}
 use Rattle.rm_event.specs.declared.event_type.EventType.TheVariants as kind

@@ -1,7 +1,7 @@
 -- What an event does where it fires (RFC 1757, eventType).
 use Rattle.std.specs.Prelude.{ℕ, Bool, true, false, nat_eq, if◌then◌else◌}
 use Rattle.rm_val.specs.Val.{Val}
-use Rattle.rm_status.specs.Values.{natural_in}
+use Rattle.rm_columns.specs.Values.{natural_in}
 use Rattle.rm_event.specs.declared.event_type.EventType.{EventType}
 use Rattle.rm_event.specs.declared.event_type.EventType.TheVariants.{None, Log, SnmpTrap, LogAndTrap}
 use Rattle.rm_event.specs.declared.fired.Fired.{Fired}

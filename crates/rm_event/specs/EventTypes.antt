@@ -1,7 +1,7 @@
 -- The type of an event as a column.
 use Rattle.std.specs.Prelude.{pos, refl}
-use Rattle.rm_status.specs.Field.{FieldOf}
-use Rattle.rm_status.specs.Kinds.{variants}
+use Rattle.rm_columns.specs.Field.{FieldOf}
+use Rattle.rm_columns.specs.Kinds.{variants}
 use Rattle.rm_event.specs.declared.event_type.EventType.{EventType}
 use Rattle.rm_event.specs.EventType.{number_of, type_in}
 

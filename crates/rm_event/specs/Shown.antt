@@ -4,7 +4,7 @@ use Rattle.std.specs.Prelude.{ℕ, pos, List, [], ◌∷◌, ◌≡◌, Bool, fa
 use Rattle.std.specs.Option.{option_or, option_map_or}
 use Rattle.rm_val.specs.Val.{Val, int, octets, ticks, null}
 use Rattle.rm_model.specs.Cells.{Cells, Table, cells_of}
-use Rattle.rm_status.specs.RowForm.{rows_shown}
+use Rattle.rm_status.specs.RowsShown.{rows_shown}
 use Rattle.rm_status.specs.declared.row.Row.{Row}
 use Rattle.rm_status.specs.Rows.{columns_in, row_number}
 use Rattle.rm_nested.specs.InnerTable.{inner_table}

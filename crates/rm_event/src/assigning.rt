@@ -12,8 +12,8 @@ ghost use Rattle.rm_event.specs.Standing.{Stands};
 use crate::event_row::{EVENT_STATUS, EventRow};
 use crate::events::Events;
 use crate::log::NoEntries;
+use rm_columns::ControlRow;
 use rm_group::{Assigns, Denied};
-use rm_status::ControlRow;
 use std::alloc::Global;
 
 impl Events {

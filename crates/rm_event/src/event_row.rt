@@ -4,13 +4,13 @@ ghost use Rattle.rm_event.specs.EventRows.{blank_row, event_rows};
 
 use crate::event_type::EventType;
 use arrayvec::ArrayVec;
-use rm_group::TableObjects;
-use rm_model::Setting::{Empty, Number};
-use rm_model::{ColumnKind, StatusKind, column, numbers};
-use rm_status::{
+use rm_columns::{
     ControlRow, ControlSheet, Numbered, index_of_one, is_one_number, one_number, put_text,
     same_text,
 };
+use rm_group::TableObjects;
+use rm_model::Setting::{Empty, Number};
+use rm_model::{ColumnKind, StatusKind, column, numbers};
 use rm_val::{Oid, Value};
 
 /// How many octets a text has at most.

@@ -3,7 +3,7 @@ ghost use Rattle.std.specs.Prelude.{◌≡◌};
 ghost use Rattle.rm_event.specs.EventType.{numbered, number_of, is_logged, fired_as};
 
 use crate::fired::Fired;
-use rm_status::Numbered;
+use rm_columns::Numbered;
 
 /// What an event does where it fires (RFC 1757, eventType).
 #[derive(Clone, Copy, Debug, PartialEq, Eq)]

@@ -4,12 +4,12 @@ use crate::entries::{Entries, LOG_OBJECTS};
 use crate::event_cell::Sent;
 use crate::event_row::{EVENT_OBJECTS, EVENT_STATUS, EventRow};
 use crate::events::Events;
+use rm_columns::ControlRow;
 use rm_group::{
     Assigns, Commits, Denied, Group, Look, TableObjects, Tables, judge_read_only, lower_verdict,
 };
 use rm_model::Verdict;
 use rm_nested::{InnerCells, cell_of_both, next_of_both};
-use rm_status::ControlRow;
 use rm_val::{Oid, Value};
 use std::alloc::Global;
 

@@ -26,7 +26,7 @@ use Rattle.rm_history.specs.declared.plan.Plan.{Plan}
 use Rattle.rm_history.specs.declared.run.Run.{Run}
 use Rattle.rm_history.specs.Buckets.{end_of, bucket_sum}
 use Rattle.rm_history.specs.HistoryControl.{history_control, control_state, control_set, granted, plan_of, counted_frames}
-use Rattle.rm_status.specs.Values.{natural_in}
+use Rattle.rm_columns.specs.Values.{natural_in}
 use Rattle.rm_history.specs.ControlColumns.{set_to, new_row, with_column, control_rows}
 use Rattle.rm_history.specs.Run.{Keeps}
 use Rattle.rm_pool.specs.declared.slot.Slot.{Slot}

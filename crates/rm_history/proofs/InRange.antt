@@ -12,7 +12,7 @@ use Rattle.rm_model.specs.declared.place.Place.TheVariants.{Outside, Entry, Colu
 use Rattle.rm_status.specs.declared.row.Row.{Row}
 use Rattle.rm_status.specs.Rows.{row_in, columns_seen}
 use Rattle.rm_status.specs.Commit.{put_at, put_all, row_after}
-use Rattle.rm_status.specs.Values.{natural_in}
+use Rattle.rm_columns.specs.Values.{natural_in}
 use Rattle.rm_status.proofs.RowsAfterLemmas.{is_after}
 use Rattle.rm_status.proofs.Puts.{AllFine}
 use Rattle.rm_history.specs.declared.control_columns.ControlColumns.{ControlColumns}

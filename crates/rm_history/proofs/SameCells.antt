@@ -13,8 +13,8 @@ use Rattle.rm_model.specs.ControlRows.{no_rows, is_absent, is_valid, set_value}
 use Rattle.rm_model.specs.declared.instance.Instance.{Instance}
 use Rattle.rm_status.specs.declared.row.Row.{Row}
 use Rattle.rm_status.specs.Rows.{row_in, state_seen, columns_seen, AreControlRows}
-use Rattle.rm_status.specs.Values.{natural_in}
-use Rattle.rm_status.specs.RowForm.{with_index}
+use Rattle.rm_columns.specs.Values.{natural_in}
+use Rattle.rm_status.specs.RowsShown.{with_index}
 use Rattle.rm_status.specs.RowsAfter.{AreRowsAfter}
 use Rattle.rm_status.proofs.Judged.{same_next}
 use Rattle.rm_status.proofs.KeptCellsLaws.{same_control_cells}

@@ -4,10 +4,10 @@ use Rattle.rm_val.specs.Val.{Val}
 use Rattle.rm_model.specs.ControlTable.{source_column, owner_column}
 use Rattle.rm_status.specs.declared.row.Row.{Row}
 use Rattle.rm_status.specs.Rows.{row_in}
-use Rattle.rm_status.specs.Kinds.{sources, naturals, texts}
-use Rattle.rm_status.specs.RowForm.{RowForm}
-use Rattle.rm_status.proofs.ColumnLaws.{no_columns, one_more}
-use Rattle.rm_status.proofs.RowForms.{row_form}
+use Rattle.rm_columns.specs.Kinds.{sources, naturals, texts}
+use Rattle.rm_columns.specs.RowForm.{RowForm}
+use Rattle.rm_columns.proofs.ColumnLaws.{no_columns, one_more}
+use Rattle.rm_columns.proofs.RowForms.{row_form}
 use Rattle.rm_history.specs.declared.control_columns.ControlColumns.{ControlColumns}
 use Rattle.rm_history.specs.Columns.{control_columns}
 use Rattle.rm_history.specs.HistoryControl.{history_control, requested_column, interval_column}

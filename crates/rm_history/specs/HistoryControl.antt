@@ -9,8 +9,8 @@ use Rattle.rm_model.specs.ControlCells.{control_cells}
 use Rattle.rm_model.specs.ControlRows.{no_rows, is_valid, state_of, value_of, since, activated}
 use Rattle.rm_model.specs.declared.row.State.{State}
 use Rattle.rm_history.specs.Columns.{control_columns}
-use Rattle.rm_status.specs.RowForm.{with_index}
-use Rattle.rm_status.specs.Values.{natural_in}
+use Rattle.rm_status.specs.RowsShown.{with_index}
+use Rattle.rm_columns.specs.Values.{natural_in}
 use Rattle.rm_history.specs.declared.plan.Plan.{Plan}
 
 -- the identifier of historyControlEntry

@@ -8,7 +8,7 @@ use Rattle.rm_model.specs.ControlRows.{is_valid}
 use Rattle.rm_model.specs.declared.row.State.{State}
 use Rattle.rm_status.specs.declared.row.Row.{Row}
 use Rattle.rm_status.specs.Rows.{row_in, row_number}
-use Rattle.rm_status.specs.RowForm.{rows_shown}
+use Rattle.rm_status.specs.RowsShown.{rows_shown}
 use Rattle.rm_ether.specs.declared.counter.Counter.TheVariants.{Octets, Pkts}
 use Rattle.rm_history.specs.declared.control_columns.ControlColumns.{ControlColumns}
 use Rattle.rm_history.specs.declared.run.Run.{Run}

@@ -7,8 +7,8 @@ ghost use Rattle.rm_history.specs.Group.{Stands, IsPrepared, IsReleased, IsStock
 use crate::beginning::Beginning;
 use crate::control_columns::{ControlColumns, STATUS};
 use crate::history::History;
+use rm_columns::ControlRow;
 use rm_group::Assigns;
-use rm_status::ControlRow;
 
 impl History {
     /// Does a Set, for which the group was made ready, at a moment in milliseconds. A row that becomes valid begins its history

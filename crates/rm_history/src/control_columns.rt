@@ -3,13 +3,13 @@ ghost use Rattle.std.specs.Prelude.{◌≡◌};
 ghost use Rattle.rm_history.specs.ControlColumns.{blank_columns, control_rows};
 
 use arrayvec::ArrayVec;
-use rm_group::TableObjects;
-use rm_model::Setting::{Empty, Interface, Number};
-use rm_model::{ColumnKind, StatusKind, column, numbers};
-use rm_status::{
+use rm_columns::{
     ControlRow, ControlSheet, index_of_one, interface_in, interface_name, is_one_number,
     one_number, put_text, same_text, short_in,
 };
+use rm_group::TableObjects;
+use rm_model::Setting::{Empty, Interface, Number};
+use rm_model::{ColumnKind, StatusKind, column, numbers};
 use rm_val::{Oid, Value};
 
 /// The status column of historyControl.

@@ -7,13 +7,13 @@ use crate::control_columns::{CONTROL_OBJECTS, ControlColumns, STATUS};
 use crate::history::History;
 use crate::samples::{SAMPLE_OBJECTS, Samples};
 use rm_acts::Firing;
+use rm_columns::ControlRow;
 use rm_group::{
     Assigns, Commits, Denied, Group, Look, NeverDue, Passing, Readable, Steps, TableObjects,
     Tables, Unsampled, judge_read_only, lower_verdict,
 };
 use rm_model::Verdict;
 use rm_nested::{InnerCells, cell_of_both, next_of_both};
-use rm_status::ControlRow;
 use rm_val::{Oid, Value};
 use std::alloc::Global;
 

@@ -12,8 +12,8 @@ ghost use Rattle.rm_history.specs.Group.{Stands, AreFine, IsStocked, IsPrepared,
 
 use crate::control_columns::{ControlColumns, STATUS};
 use crate::history::History;
+use rm_columns::ControlRow;
 use rm_group::{Assigns, Denied};
-use rm_status::ControlRow;
 use rm_val::NoMemory;
 use std::alloc::Global;
 

@@ -14,12 +14,12 @@ ghost use Rattle.rm_history.specs.EtherHistory.{sample_entry};
 
 use crate::plan::Plan;
 use crate::run::Run;
+use rm_columns::counter_32;
 use rm_ether::{Counter, Statistics};
 use rm_group::TableObjects;
 use rm_model::Instance;
 use rm_nested::{InnerCells, InnerRows, first_number, one_number_above};
 use rm_pool::Pool;
-use rm_status::counter_32;
 use rm_val::{Oid, Value};
 
 /// The objects of etherHistory (RFC 1757, section 5): etherHistoryIndex, etherHistorySampleIndex, etherHistoryIntervalStart, the

@@ -5,14 +5,16 @@ ghost use Rattle.rm_val.specs.Val.{Val, val_of};
 ghost use Rattle.rm_val.specs.Spellable.{IsSpellable, HasSpelling};
 ghost use Rattle.rm_model.specs.Cells.{cells_of, cell_at, IsNext};
 ghost use Rattle.rm_group.specs.Search.{are_rising};
-ghost use Rattle.rm_status.specs.RowForm.{AreSpelled, can_name, rows_shown};
+ghost use Rattle.rm_columns.specs.RowForm.{can_name};
+ghost use Rattle.rm_status.specs.RowsShown.{AreSpelled, rows_shown};
 ghost use Rattle.rm_nested.specs.InnerTable.{inner_table};
 
 use crate::inner_rows::InnerRows;
 use crate::nested::Nested;
+use rm_columns::ControlRow;
 use rm_group::{choose_nearer, instance_of, next_name};
 use rm_model::Instance;
-use rm_status::{ControlRow, Controls, OtherColumns};
+use rm_status::{Controls, OtherColumns};
 use rm_val::{Oid, Value};
 
 /// Inner rows, with what the columns of their table show.

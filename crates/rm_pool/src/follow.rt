@@ -11,8 +11,9 @@ use crate::begin::Begin;
 use crate::part::Part;
 use crate::pool::Pool;
 use crate::slot::Slot;
+use rm_columns::Columns;
 use rm_model::State;
-use rm_status::{Columns, Controls};
+use rm_status::Controls;
 
 impl<P: Part> Pool<P> {
     /// Makes the parts spare whose rows aren't valid, and begins one for each valid row that has none. There is storage for all

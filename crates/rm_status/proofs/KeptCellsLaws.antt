@@ -17,7 +17,8 @@ use Rattle.rm_status.specs.declared.row.Row.{Row}
 use Rattle.rm_status.specs.Rows.{row_in, number_in, state_seen, columns_seen, AreControlRows, rows_before}
 use Rattle.rm_status.specs.Indexes.{has_number, is_index_in}
 use Rattle.rm_status.specs.RowsAfter.{AreRowsAfter}
-use Rattle.rm_status.specs.KeptCells.{shows, kept_value, kept_cells}
+use Rattle.rm_columns.specs.Field.{shows}
+use Rattle.rm_status.specs.KeptCells.{kept_value, kept_cells}
 use Rattle.rm_status.proofs.RowsBefore.{state_before, set_before_at}
 use Rattle.rm_status.proofs.RowsAfterLemmas.{is_row_after}
 

@@ -1,4 +1,3 @@
-mod Sources
 pub mod PlaceLemmas
 pub mod Asks
 pub mod Places
@@ -8,7 +7,6 @@ pub mod RowCalls
 pub mod Loops
 pub mod Held
 pub mod RowsBefore
-pub mod NumberLemmas
 pub mod Puts
 pub mod Settles
 pub mod Commits
@@ -16,9 +14,7 @@ pub mod Crowds
 pub mod Seconds
 pub mod Rooms
 pub mod After
-pub mod ColumnLaws
 pub mod IndexLemmas
-pub mod Named
 pub mod RowsAfterLemmas
 pub mod Bound
 pub mod Valid
@@ -27,4 +23,3 @@ pub mod KeptCellsLaws
 pub mod RowFacts
 pub mod RowsThen
 pub mod Judged
-pub mod RowForms

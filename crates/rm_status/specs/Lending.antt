@@ -7,7 +7,7 @@ use Rattle.arrayvec.specs.contracts.array_vec.ArrayVec as vector
 use Rattle.rm_status.specs.Rows.{with_columns, with_columns_at}
 use Rattle.rm_status.specs.contracts.row.Row as row
 use Rattle.rm_status.specs.contracts.controls.Controls.{the_row}
-use Rattle.rm_status.specs.declared.columns.Columns as Columns
+use Rattle.rm_columns.specs.declared.columns.Columns as Columns
 use Rattle.std.specs.declared.default.Default as Default
 
 -- the row of that index ends with the columns last written through r

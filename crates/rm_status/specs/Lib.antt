@@ -1,15 +1,10 @@
 pub mod Rows
 pub mod Commit
 pub mod Lending
-pub mod Taken
 pub mod MadeUp
 pub mod Change
-pub mod Values
 pub mod Indexes
 pub mod RowsAfter
 pub mod Bare
-pub mod Field
-pub mod Kinds
-pub mod SheetLaws
 pub mod KeptCells
-pub mod RowForm
+pub mod RowsShown

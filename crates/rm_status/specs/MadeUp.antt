@@ -9,7 +9,7 @@ use Rattle.rm_model.specs.declared.row.StatusKind.TheVariants.{RowStatus}
 use Rattle.rm_model.specs.ControlTable.{Range, number, RowRules, ControlTable, up_from, plain_column, always_column, needed_column, entry_table}
 use Rattle.rm_model.specs.Alike.{HasSameColumns}
 use Rattle.rm_model.specs.Judgement.{column_kind, value_fault}
-use Rattle.rm_status.specs.Taken.{number_in, number_taken}
+use Rattle.rm_columns.specs.Taken.{number_in, number_taken}
 
 abbrev up_to : ℕ → List Range
 up_to most = up_from 1 most

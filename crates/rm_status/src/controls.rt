@@ -19,9 +19,9 @@ ghost use Rattle.rm_status.specs.declared.row.Row.{Row};
 ghost use Rattle.rm_status.specs.Rows.{AreControlRows, IsIndexAfter, row_in, place_in, state_in, columns_in, columns_seen};
 ghost use Rattle.rm_status.specs.Lending.{lends_columns, lends_columns_at};
 
-use crate::columns::Columns;
 use crate::row::Row;
 use arrayvec::ArrayVec;
+use rm_columns::Columns;
 use rm_model::{State, StatusKind};
 use rm_val::Oid;
 use std::marker::Model;

@@ -9,12 +9,11 @@ ghost use Rattle.rm_model.specs.ControlRows.{set_ask};
 ghost use Rattle.rm_model.specs.Judgement.{IsFirstFault, place_of, writable_kind, value_fault, alone_fault, first_pass, is_again, row_fault, unless};
 ghost use Rattle.rm_status.specs.Commit.{put_at, put_all};
 
-use crate::columns::Columns;
 use crate::place::{is_cell, place_under};
-use crate::sheet::{check, may_always};
 use crate::steps::{
     column_fault, fixed_fault, is_made, status_or_staying_fault, status_value_fault, value_ask,
 };
+use rm_columns::{Columns, check, may_always};
 use rm_group::{Assigns, wrong_at};
 use rm_model::{Ask, Place, State, StatusKind, Verdict};
 use rm_val::{ErrorStatus, Oid, Value};

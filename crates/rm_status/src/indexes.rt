@@ -2,8 +2,8 @@
 ghost use Rattle.rm_status.specs.Indexes.{has_number, is_index_in};
 ghost use Rattle.std.proofs.Common.{ap};
 
-use crate::columns::Columns;
 use crate::controls::Controls;
+use rm_columns::Columns;
 use rm_group::RowIndexes;
 use rm_val::Oid;
 

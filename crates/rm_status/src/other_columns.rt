@@ -6,8 +6,8 @@ ghost use Rattle.rm_model.specs.ControlTable.{row_index};
 ghost use Rattle.rm_status.specs.declared.row.Row.{Row};
 ghost use Rattle.rm_status.specs.Rows.{row_in};
 
-use crate::control_row::ControlRow;
 use crate::row::Row;
+use rm_columns::ControlRow;
 use rm_val::Value;
 
 /// What the columns of a control table show that can't be set, the index left out.

@@ -7,7 +7,7 @@ ghost use Rattle.rm_model.specs.ControlRows.{cell_name};
 ghost use Rattle.rm_model.specs.Judgement.{place_behind};
 ghost use Rattle.rm_status.specs.Commit.{is_cell};
 
-use crate::columns::Columns;
+use rm_columns::Columns;
 use rm_model::Place;
 use rm_val::Oid;
 

@@ -3,10 +3,9 @@ ghost use Rattle.std.specs.Prelude.{◌≡◌};
 ghost use Rattle.rm_val.specs.Val.{val_of};
 ghost use Rattle.rm_val.specs.Spellable.{HasSpelling};
 ghost use Rattle.rm_model.specs.ControlCells.{status_number, control_value};
-ghost use Rattle.rm_status.specs.KeptCells.{shows};
+ghost use Rattle.rm_columns.specs.Field.{shows};
 
-use crate::columns::Columns;
-use crate::sheet::shown;
+use rm_columns::{Columns, shown};
 use rm_model::{State, StatusKind};
 use rm_val::Value;
 

@@ -7,9 +7,9 @@ ghost use Rattle.rm_ether.specs.Group.{frames_given, last_given};
 
 use crate::Ether;
 use arrayvec::ArrayVec;
+use rm_columns::interface_name;
 use rm_group::{Assigns, Commits, Group, Look};
 use rm_model::{Reading, Verdict};
-use rm_status::interface_name;
 use rm_val::{ErrorStatus, Oid, Value};
 use std::alloc::Global;
 

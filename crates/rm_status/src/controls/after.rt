@@ -6,10 +6,10 @@ ghost use Rattle.rm_model.specs.Reserves.{state_after};
 ghost use Rattle.rm_status.specs.Rows.{rows_before, state_in};
 ghost use Rattle.rm_status.specs.Bare.{bare_rows};
 
-use crate::columns::Columns;
 use crate::controls::{Controls, MAX_ROWS};
 use crate::row::Row;
 use arrayvec::ArrayVec;
+use rm_columns::Columns;
 use rm_group::Assigns;
 use rm_model::Verdict;
 use rm_val::Oid;

@@ -7,12 +7,12 @@ ghost use Rattle.rm_model.specs.Cells.{cells_of, cell_at, IsNext};
 ghost use Rattle.rm_model.specs.ControlRows.{index_value};
 ghost use Rattle.rm_model.specs.Judgement.{is_row_number};
 ghost use Rattle.rm_status.specs.Rows.{row_in};
-ghost use Rattle.rm_status.specs.RowForm.{AreSpelled, with_index, rows_shown};
+ghost use Rattle.rm_status.specs.RowsShown.{AreSpelled, with_index, rows_shown};
 
-use crate::control_row::ControlRow;
 use crate::controls::Controls;
 use crate::other_columns::OtherColumns;
 use crate::row::Row;
+use rm_columns::ControlRow;
 use rm_group::{instance_of, next_name};
 use rm_model::Instance;
 use rm_val::{Oid, Value};

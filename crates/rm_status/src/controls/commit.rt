@@ -8,13 +8,13 @@ ghost use Rattle.rm_model.specs.Judgement.{IsFirstFault, first_pass, second_pass
 ghost use Rattle.rm_status.specs.Rows.{row_in, rows_before, with_state_at};
 ghost use Rattle.rm_status.specs.Commit.{is_cell, row_after, made_row, made_now, write_row, settle_row};
 
-use crate::columns::Columns;
 use crate::controls::{Controls, MAX_ROWS};
 use crate::given::{put_all, set_ask};
 use crate::place::place_under;
 use crate::row::Row;
 use crate::steps::{is_made, next_state};
 use arrayvec::ArrayVec;
+use rm_columns::Columns;
 use rm_group::Assigns;
 use rm_model::{Place, State, StatusKind, Verdict};
 use rm_val::Oid;

@@ -5,10 +5,10 @@ ghost use Rattle.rm_status.specs.Rows.{row_in};
 ghost use Rattle.rm_status.specs.Change.{changed_row};
 
 use crate::change::Change;
-use crate::columns::Columns;
 use crate::controls::{Controls, MAX_ROWS};
 use crate::row::Row;
 use arrayvec::ArrayVec;
+use rm_columns::Columns;
 
 impl<C: Columns> Controls<C> {
     /// Changes the columns of each row. The states stay, and no row comes or goes.

@@ -8,12 +8,11 @@ ghost use Rattle.rm_model.specs.Judgement.{IsFirstFault, first_pass, second_pass
 ghost use Rattle.rm_status.specs.Rows.{AreControlRows, rows_before, state_in};
 ghost use Rattle.rm_status.specs.Commit.{made_by, count_made};
 
-use crate::columns::Columns;
 use crate::controls::{Controls, MAX_ROWS};
 use crate::given::{self, is_again, put_all, row_fault, set_ask};
 use crate::place::place_under;
-use crate::sheet::is_ready;
 use crate::steps::is_made;
+use rm_columns::{Columns, is_ready};
 use rm_group::{Assigns, wrong_at};
 use rm_model::{Place, Verdict};
 use rm_val::{ErrorStatus, Oid};

@@ -5,12 +5,12 @@ ghost use Rattle.rm_model.specs.ControlRows.{is_valid};
 ghost use Rattle.rm_model.specs.Reserves.{activates, makes_valid, count_valid, count_valid_after};
 ghost use Rattle.rm_status.specs.Rows.{rows_before};
 
-use crate::columns::Columns;
 use crate::controls::Controls;
 use crate::given::set_ask;
 use crate::place::place_under;
 use crate::row::Row;
 use crate::steps::next_state;
+use rm_columns::Columns;
 use rm_group::Assigns;
 use rm_model::{Place, State};
 use rm_val::Oid;

@@ -3,7 +3,8 @@ ghost use Rattle.rm_val.specs.Val.{counter};
 ghost use Rattle.rm_status.specs.Rows.{row_number};
 
 use crate::tests::made_up::{MadeUp, STATUS};
-use crate::{ControlRow, Controls, OtherColumns, Row};
+use crate::{Controls, OtherColumns, Row};
+use rm_columns::ControlRow;
 use rm_group::is_listed;
 use rm_model::{State, StatusKind};
 use rm_val::{Oid, Value};

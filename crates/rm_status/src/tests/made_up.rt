@@ -4,8 +4,8 @@ ghost use Rattle.std.specs.Prelude.{◌≡◌, [], ◌∷◌, map, None, refl};
 ghost use Rattle.rm_val.specs.Val.{int};
 ghost use Rattle.rm_status.specs.MadeUp.{plain, ruled, second_at_first, set_to, with_value, blank_alike, ruled_alike, set_with};
 
-use crate::{ControlRow, ControlSheet, index_of_one, is_one_number, one_number};
 use arrayvec::ArrayVec;
+use rm_columns::{ControlRow, ControlSheet, index_of_one, is_one_number, one_number};
 use rm_group::{Assigns, TableObjects};
 use rm_model::Setting::Number;
 use rm_model::{StatusKind, column, numbers};

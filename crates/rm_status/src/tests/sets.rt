@@ -1,9 +1,10 @@
 // Sets against every cell of the steps of EntryStatus: valid 1, createRequest 2, underCreation 3, invalid 4.
 ghost use Rattle.std.specs.Prelude.{◌≡◌, [], ◌∷◌};
 
+use crate::Controls;
 use crate::tests::made_up::{Given, MadeUp, STATUS, Set, entry};
-use crate::{Columns, Controls};
 use arrayvec::ArrayVec;
+use rm_columns::Columns;
 use rm_model::{State, StatusKind, Verdict};
 use rm_val::ErrorStatus;
 use std::process::Abort;

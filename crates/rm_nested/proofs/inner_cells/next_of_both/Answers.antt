@@ -1,5 +1,5 @@
 use Rattle.rm_model.specs.Cells.{cells_of}
-use Rattle.rm_status.specs.RowForm.{rows_shown}
+use Rattle.rm_status.specs.RowsShown.{rows_shown}
 use Rattle.rm_nested.specs.InnerTable.{inner_table}
 use Rattle.rm_nested.proofs.inner_cells.next_of_both.Goals as goal
 

@@ -2,8 +2,8 @@ use Rattle.std.proofs.Common.{◌≡◌, ap, sym, ◌∙◌, Some}
 use Rattle.std.specs.Option.{option_copied}
 use Rattle.rm_model.specs.ControlCells.{control_value}
 use Rattle.rm_status.specs.Rows.{row_in}
-use Rattle.rm_status.specs.KeptCells.{shows}
-use Rattle.rm_status.specs.RowForm.{with_index}
+use Rattle.rm_columns.specs.Field.{shows}
+use Rattle.rm_status.specs.RowsShown.{with_index}
 use Rattle.rm_status.proofs.KeptCellsLaws.{kept_at}
 use Rattle.rm_status.proofs.controls.Controls.cell_at.Goals as goal
 

@@ -1,0 +1,5 @@
+mod Sources
+pub mod NumberLemmas
+pub mod ColumnLaws
+pub mod Named
+pub mod RowForms
