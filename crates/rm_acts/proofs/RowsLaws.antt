@@ -11,19 +11,20 @@ use Rattle.rm_model.specs.declared.row.State.{State}
 use Rattle.rm_model.specs.declared.row.State.TheVariants.{Absent, UnderCreation, Valid}
 use Rattle.rm_model.proofs.Members.{none_in, here, there, each}
 use Rattle.rm_model.specs.Indexes.{indexes_of}
+use Rattle.rm_model.specs.Indexing.{one_of}
 use Rattle.rm_model.proofs.Rows.{row_listed}
-use Rattle.rm_acts.specs.Rows.{row_state, has_valid, one_number, with_number, with_numbers, named_rows, valid_rows}
+use Rattle.rm_acts.specs.Rows.{row_state, has_valid, with_number, with_numbers, named_rows, valid_rows}
 
 behind_one : (o : Option ℕ) (xs : List ℕ) (row : ℕ) → Contains xs row → Contains (cons_option o xs) row
 behind_one None xs row within = within
 behind_one (Some other) xs row within = there other xs row within
 
-in_numbers : (xs : List (List ℕ)) (row : ℕ) → Contains xs (row ∷ []) → Contains (filter_map one_number xs) row
+in_numbers : (xs : List (List ℕ)) (row : ℕ) → Contains xs (row ∷ []) → Contains (filter_map one_of xs) row
 in_numbers [] row within = absurd (none_in (row ∷ []) within)
 in_numbers (x ∷ xs) row within =
-    each (λ z. z ≡ row ∷ [] → Contains (cons_option (one_number x) (filter_map one_number xs)) row) x xs
-    (λ same. rw same (here row (filter_map one_number xs)))
-    (λ z more same. behind_one (one_number x) (filter_map one_number xs) row (in_numbers xs row (subst (Contains xs) same more)))
+    each (λ z. z ≡ row ∷ [] → Contains (cons_option (one_of x) (filter_map one_of xs)) row) x xs
+    (λ same. rw same (here row (filter_map one_of xs)))
+    (λ z more same. behind_one (one_of x) (filter_map one_of xs) row (in_numbers xs row (subst (Contains xs) same more)))
     (row ∷ []) within refl
 
 -- a number is in a list with it, and so is each that was in it
@@ -74,7 +75,7 @@ module _ (table : ControlTable) (journal : Journal) (row : ℕ) where
   pub listed : has_valid table journal row ≡ true → Contains (valid_rows table journal) row
   listed valid =
       in_filter (has_valid table journal) (named_rows table journal) row valid
-      (in_all (filter_map one_number (indexes_of table [] journal)) [] row
+      (in_all (filter_map one_of (indexes_of table [] journal)) [] row
       (in_numbers (indexes_of table [] journal) row
       (row_listed table no_rows [] (λ index is. absurd (cc)) journal (row ∷ []) (is_there (row_state table journal row) valid))))
 

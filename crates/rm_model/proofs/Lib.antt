@@ -9,4 +9,3 @@ pub mod UpTo
 pub mod Rows
 pub mod Alike
 pub mod Accepted
-mod IndexingExamples

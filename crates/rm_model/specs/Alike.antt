@@ -1,5 +1,5 @@
 -- Rows that are alike to a Set, however their columns are kept.
-use Rattle.std.specs.Prelude.{◌≡◌, ℕ, [], ◌∷◌, true, false, Option, is_some, unwrap_or}
+use Rattle.std.specs.Prelude.{◌≡◌, ℕ, true, false, Option, is_some, unwrap_or}
 use Rattle.std.specs.List.{AllByRecursion}
 use Rattle.rm_val.specs.Val.{Val}
 use Rattle.rm_model.specs.ControlTable.{Column, ControlTable, row_index, default_of}

@@ -1,7 +1,5 @@
 -- The indexes of the rows of a control table, and the numbers by which code holds its rows.
-use Rattle.std.proofs.Common.{◌≡◌, ℕ, ◌+◌, ◌-◌, ◌*◌, ◌/◌, ◌%◌, ◌^◌, ◌<◌, ◌≤◌, List, [], ◌∷◌, Bool, true, ◌&&◌, ◌||◌, nat_eq, nat_le, nat_lt, length, get_or, Option, Some, None, refl, arith}
-use Rattle.std.specs.Prelude.{if◌then◌else◌}
-use Rattle.std.specs.Str.{bytes_eq}
+use Rattle.std.proofs.Common.{◌≡◌, ℕ, ◌^◌, ◌<◌, ◌≤◌, List, [], ◌∷◌, Bool, true, ◌&&◌, nat_le, nat_lt, length, get_or, Option, Some, None, refl, arith}
 use Rattle.std.proofs.lemmas.Bool.Decides.{nat_tests}
 use Rattle.rm_model.specs.Names.{Below}
 
@@ -60,32 +58,3 @@ by_one_number = record {
   fits = λ n is. omega arith;
   shows = λ n is. let it = one_within n is in omega arith;
 }
-
--- The directory: an identifier of four octets for each layer and the parameters, an octet for each, both with their count. The numbers
--- rise as the names do: 1 is ether2 itself, then come the types of Ethernet, the protocols over ip, the ports over tcp, and those over udp.
-abbrev pub directory_index : ℕ → List ℕ
-directory_index n =
-    if nat_lt n 65536 then 4 ∷ 0 ∷ 0 ∷ 0 ∷ 1 ∷ 1 ∷ 0 ∷ []
-    else if nat_lt n 131072 then 8 ∷ 0 ∷ 0 ∷ 0 ∷ 1 ∷ 0 ∷ 0 ∷ (n - 65536) / 256 ∷ n % 256 ∷ 2 ∷ 0 ∷ 0 ∷ []
-    else if nat_lt n 196608 then 12 ∷ 0 ∷ 0 ∷ 0 ∷ 1 ∷ 0 ∷ 0 ∷ 8 ∷ 0 ∷ 0 ∷ 0 ∷ 0 ∷ (n - 131072) ∷ 3 ∷ 0 ∷ 0 ∷ 0 ∷ []
-    else if nat_lt n 262144 then 16 ∷ 0 ∷ 0 ∷ 0 ∷ 1 ∷ 0 ∷ 0 ∷ 8 ∷ 0 ∷ 0 ∷ 0 ∷ 0 ∷ 6 ∷ 0 ∷ 0 ∷ (n - 196608) / 256 ∷ n % 256 ∷ 4 ∷ 0 ∷ 0 ∷ 0 ∷ 0 ∷ []
-    else 16 ∷ 0 ∷ 0 ∷ 0 ∷ 1 ∷ 0 ∷ 0 ∷ 8 ∷ 0 ∷ 0 ∷ 0 ∷ 0 ∷ 17 ∷ 0 ∷ 0 ∷ (n - 262144) / 256 ∷ n % 256 ∷ 4 ∷ 0 ∷ 0 ∷ 0 ∷ 0 ∷ []
-
--- the only number that can have an index, by its length
-abbrev pub directory_guess : List ℕ → ℕ
-directory_guess index =
-    if nat_eq (length index) 7 then 1
-    else if nat_eq (length index) 12 then 65536 + get_or index 7 0 * 256 + get_or index 8 0
-    else if nat_eq (length index) 17 then 131072 + get_or index 12 0
-    else (if nat_eq (get_or index 12 0) 6 then 196608 else 262144) + get_or index 15 0 * 256 + get_or index 16 0
-
-abbrev pub may_be_row : ℕ → Bool
-may_be_row n =
-    nat_eq n 1 || (nat_le 67072 n && nat_lt n 131072) || (nat_le 131072 n && nat_lt n 131328)
-    || (nat_lt 196608 n && nat_lt n 262144) || (nat_lt 262144 n && nat_lt n 327680)
-
-abbrev pub number_if : List ℕ → ℕ → Option ℕ
-number_if index n = if may_be_row n && bytes_eq (directory_index n) index then Some n else None
-
-abbrev pub directory : Indexing
-directory = record { index_of = directory_index; number_of = λ index. number_if index (directory_guess index); is_row = may_be_row; longest = 22 }

@@ -1,5 +1,5 @@
 -- When there may be no memory for a Set, on a control table whose rows take storage while they are valid.
-use Rattle.std.specs.Prelude.{◌≡◌, ℕ, ◌+◌, ◌<◌, ◌^◌, List, [], ◌∷◌, length, Bool, false, ◌&&◌, not, nat_eq, IsTrue}
+use Rattle.std.specs.Prelude.{◌≡◌, ℕ, ◌+◌, ◌<◌, ◌^◌, List, length, Bool, false, ◌&&◌, not, nat_eq, IsTrue}
 use Rattle.rm_model.specs.ControlTable.{ControlTable, row_index}
 use Rattle.rm_model.specs.ControlRows.{Beginning, set_ask, next_state, is_valid}
 use Rattle.rm_model.specs.Judgement.{Bindings, name_at, place_of, count_below}
