@@ -2,6 +2,7 @@ pub mod Search
 pub mod System
 pub mod Look
 pub mod Alone
+pub mod Assignments
 pub mod Passing
 pub mod Due
 pub mod ColumnLemmas

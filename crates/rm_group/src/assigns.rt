@@ -17,14 +17,14 @@ pub trait Assigns {
         ensures fits { result ≤ 128 };
 
     /// The name in the binding at a place, from 0.
-    fn name(&self, place: usize) -> Oid
+    fn name(&self, place: usize) -> &Oid
         requires { place < length (bindings self.now) }
-        ensures value { result ≡ name_at (bindings self.now) place }
-        ensures spelling { IsSpellable result };
+        ensures value { result.now ≡ name_at (bindings self.now) place }
+        ensures spelling { IsSpellable result.now };
 
     /// The value in the binding at a place, from 0.
-    fn value(&self, place: usize) -> Value<'_>
+    fn value(&self, place: usize) -> &Value<'_>
         requires { place < length (bindings self.now) }
-        ensures value { val_of result ≡ value_at (bindings self.now) place }
-        ensures spelling { HasSpelling (val_of result) };
+        ensures value { val_of result.now ≡ value_at (bindings self.now) place }
+        ensures spelling { HasSpelling (val_of result.now) };
 }

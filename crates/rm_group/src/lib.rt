@@ -3,6 +3,7 @@
 #![tactic(auto)]
 
 mod acts;
+mod assignments;
 mod assigns;
 mod beside;
 mod both;
@@ -29,6 +30,7 @@ mod tests;
 mod wrong;
 
 pub use acts::{Steps, Unsampled, pass_whole, sample_begins, take_whole};
+pub use assignments::Assignments;
 pub use assigns::Assigns;
 pub use beside::Beside;
 pub use both::Both;

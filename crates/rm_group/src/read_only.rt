@@ -16,7 +16,7 @@ pub fn judge_read_only<A: Assigns>(set: &A, entry: &Oid, columns: &[u32]) -> Ver
     ensures { let bindings = A.bindings set.now in IsFirstFault (length bindings) (alone_at (read_only (is_of_column entry.now columns.now)) bindings) result }
 {
     for place in 0..set.count() {
-        if is_of_column(&set.name(place), entry, columns) {
+        if is_of_column(set.name(place), entry, columns) {
             return wrong_at(place, ErrorStatus::NotWritable);
         }
     }

@@ -7,12 +7,12 @@ mod shared;
 mod slot;
 mod sparse;
 
-use crate::tests::given::{Two, Unread};
+use crate::tests::given::{Unread, set_of};
 use crate::tests::seen::Seen;
 use crate::tests::shared::{First, Set, Stamp};
 use crate::tests::slot::Slot;
 use crate::tests::sparse::Sparse;
-use crate::{Both, Commits, Group, Objects, System, next_name};
+use crate::{Assignments, Both, Commits, Group, Objects, System, next_name};
 use rm_model::Verdict;
 use rm_val::{ErrorStatus, Oid, Value};
 use std::alloc::Global;
@@ -164,7 +164,7 @@ enum Outcome {
 }
 
 // Judges a Set at the moment 1000, and makes ready for it.
-fn prepare<G: Group>(alloc: Global, groups: &mut G, set: &Two) -> Outcome
+fn prepare<G: Group>(alloc: Global, groups: &mut G, set: &Assignments<'static, 2>) -> Outcome
     requires later { G.clock groups.old ≤ 1000 }
     requires stocked { G.stocked groups.old }
 {
@@ -193,7 +193,7 @@ fn a_judgement_names_the_lower_binding(rt: HostRuntime) -> Result<(), Fail> {
             first: System,
             second: SLOT,
         };
-        let set = Two { first, second };
+        let set = set_of(first, second);
         let outcome = prepare(rt.alloc(), &mut groups, &set);
         assert_eq!(rt;
             outcome,
@@ -211,10 +211,7 @@ fn the_first_group_judges_what_both_name(rt: HostRuntime) -> Result<(), Fail> {
         first: SLOT,
         second: System,
     };
-    let set = Two {
-        first: 4,
-        second: 3,
-    };
+    let set = set_of(4, 3);
     assert_eq!(rt;
         prepare(rt.alloc(), &mut groups, &set),
         Outcome::Refused(ErrorStatus::WrongValue, 2)
@@ -224,10 +221,7 @@ fn the_first_group_judges_what_both_name(rt: HostRuntime) -> Result<(), Fail> {
 
 #[test]
 fn a_denied_group_holds_nothing(rt: HostRuntime) -> Result<(), Fail> {
-    let set = Two {
-        first: 4,
-        second: 6,
-    };
+    let set = set_of(4, 6);
     for (first, second, outcome) in [
         (true, false, Outcome::Denied(2)),
         (false, true, Outcome::Denied(2)),
@@ -262,10 +256,7 @@ fn a_set_is_completed_beside_the_first_group(rt: HostRuntime) -> Result<(), Fail
             from: First,
         },
     };
-    let set = Two {
-        first: 4,
-        second: 6,
-    };
+    let set = set_of(4, 6);
     assert_eq!(rt; prepare(rt.alloc(), &mut groups, &set), Outcome::Ready);
     groups.commit(&set, 2000);
     assert_eq!(rt; (groups.first.last, groups.second.last), (2000, 2000));

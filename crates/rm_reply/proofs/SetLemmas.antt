@@ -18,7 +18,7 @@ use Rattle.rm_pdu.specs.Parse.{is_request}
 use Rattle.rm_pdu.specs.Message.{Binding, Message, message_octets}
 use Rattle.rm_pdu.specs.Draft.{and_binding}
 use Rattle.rm_reply.specs.Replies.{response_to, is_built}
-use Rattle.rm_reply.specs.Given.{giving}
+use Rattle.rm_group.specs.Assignments.{giving}
 use Rattle.rm_reply.specs.Sets.{given_by_one, given_by, returning, is_too_much, is_barred, telling, Judges, IsSetReply}
 use Rattle.rm_reply.proofs.NameLemmas.{there, take_more}
 use Rattle.rm_reply.proofs.BulkLemmas.{Lengthens}

@@ -1,6 +1,5 @@
 pub mod Answered
 pub mod Replies
-pub mod Given
 pub mod Sets
 pub mod Drafting
 pub mod Responses

@@ -11,7 +11,7 @@ use Rattle.rm_model.specs.Judgement.{Bindings, IsFirstFault, unless}
 use Rattle.rm_model.specs.Accepted.{assignments_of}
 use Rattle.rm_group.specs.Alone.{alone_at, AreFineAlone}
 use Rattle.rm_pdu.specs.Message.{Binding, Message, message_octets}
-use Rattle.rm_reply.specs.Given.{giving}
+use Rattle.rm_group.specs.Assignments.{giving}
 use Rattle.rm_reply.specs.Replies.{response_to, too_big}
 
 -- what a binding of a request gives to its variable

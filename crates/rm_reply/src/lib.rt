@@ -4,7 +4,6 @@
 
 mod asked;
 mod found;
-mod given;
 mod laws;
 mod names;
 mod repetition;

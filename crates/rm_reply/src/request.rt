@@ -2,9 +2,9 @@
 ghost use Rattle.std.specs.Prelude.{◌≡◌, ◌≤◌, ◌<◌, ◌+◌, ◌↔◌, IsTrue, [], length, All, slice_range, MatchResult, false, nat_lt};
 ghost use Rattle.rm_reply.specs.Replies.{counting};
 
-use crate::given::Given;
 use crate::names::Names;
 use rm_ber::Room;
+use rm_group::Assignments;
 use rm_pdu::{Bindings, Draft, Kind, Message, bindings_lengthen, index_128_is_longest};
 use rm_val::ErrorStatus;
 
@@ -66,7 +66,7 @@ impl<'a> Request<'a> {
     }
 
     /// Puts what the bindings of a SetRequest give into an empty list.
-    pub(crate) fn give<const MOST: usize>(&self, given: &mut Given<'a, MOST>)
+    pub(crate) fn give<const MOST: usize>(&self, given: &mut Assignments<'a, MOST>)
         requires asked { (m : Whole) × IsAsked self.now m × (length m.bindings ≤ 128) × (length m.bindings ≤ MOST) }
         requires empty { given.old ≡ [] }
         ensures { (m : Whole) → IsAsked self.now m → given.new ≡ given_by m.bindings }

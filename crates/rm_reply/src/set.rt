@@ -9,10 +9,11 @@ ghost use Rattle.rm_reply.specs.Drafting.{LeadsOn, IsAsked, DraftsOne};
 ghost use Rattle.rm_reply.specs.Sets.{alone_among, given_by, is_too_much, is_barred, telling, Judges, IsSetReply};
 ghost use Rattle.rm_model.specs.Readings.{nothing_read};
 
-use crate::given::Given;
 use crate::request::{MOST_BINDINGS, Request};
 use crate::unread::Unread;
-use rm_group::{Assigns, Commits, Group, Objects, lower_verdict, order_does_not_matter};
+use rm_group::{
+    Assignments, Assigns, Commits, Group, Objects, lower_verdict, order_does_not_matter,
+};
 use rm_model::Verdict;
 use rm_pdu::Draft;
 use rm_val::ErrorStatus;
@@ -47,7 +48,7 @@ pub(crate) fn set<G: Commits + Objects>(
         return request.telling(ErrorStatus::NoAccess, 1);
     }
     if request.count() <= FEW_BINDINGS {
-        let mut given = Given::<FEW_BINDINGS>::new();
+        let mut given = Assignments::<FEW_BINDINGS>::new();
         request.give(&mut given);
         let verdict = perform(groups, alloc, &given, now);
         return told(request, verdict);
@@ -95,7 +96,7 @@ fn perform_many<G: Commits + Objects>(
     ensures frames { G.frames groups.new ≡ G.frames groups.old }
     ensures stocked { G.stocked groups.new }
 {
-    let mut given = Given::<MOST_BINDINGS>::new();
+    let mut given = Assignments::<MOST_BINDINGS>::new();
     request.give(&mut given);
     perform(groups, alloc, &given, now)
 }
@@ -149,7 +150,7 @@ fn judge_objects<G: Objects, A: Assigns>(set: &A) -> Verdict
     ensures { let bindings = A.bindings set.now in IsFirstFault (length bindings) (alone_at (λ name value. unless (G.objects name) NotWritable) bindings) result }
 {
     for place in 0..set.count() {
-        if !G::has_object(&set.name(place)) {
+        if !G::has_object(set.name(place)) {
             return Verdict::Wrong {
                 status: ErrorStatus::NotWritable,
                 index: place as u32 + 1,

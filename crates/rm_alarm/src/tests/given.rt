@@ -1,11 +1,10 @@
 // Sets of alarmTable, and what becomes of them.
-ghost use Rattle.std.specs.Prelude.{◌≡◌, ◌≤◌, [], ◌∷◌, map, None, unwrap_or};
-ghost use Rattle.std.specs.Option.{option_map, option_or};
-ghost use Rattle.rm_val.specs.Val.{int, octets, name, null};
+ghost use Rattle.std.specs.Prelude.{◌≡◌, ◌≤◌, [], ◌∷◌, None};
+ghost use Rattle.rm_val.specs.Val.{val_of};
+ghost use Rattle.rm_val.specs.Spellable.{HasSpelling};
 
 use crate::Watched;
-use arrayvec::ArrayVec;
-use rm_group::{Assigns, Commits, Group, Look, Readable};
+use rm_group::{Assignments, Commits, Group, Look, Readable};
 use rm_model::{Reading, Verdict};
 use rm_val::{ErrorStatus, Oid, Value};
 use std::alloc::Global;
@@ -61,49 +60,30 @@ pub fn nothing(column: u32, row: u32) -> Given {
     }
 }
 
-/// A Set of at most eight columns.
-#[derive(Drop)]
-pub struct Set {
-    given: ArrayVec<Given, 8>,
+// The Set of these columns, of which there are at most eight.
+fn set_of(columns: &[Given]) -> Assignments<'static, 8> {
+    let mut set = Assignments::new();
+    for given in columns {
+        if !set.is_full() {
+            set.push(name_of(given.column, given.row), value_of(*given));
+        }
+    }
+    set
 }
 
-impl Set {
-    pub fn of(columns: &[Given]) -> Set {
-        let mut given = ArrayVec::new();
-        let _ = given.try_extend_from_slice(columns);
-        Set { given }
+// What a column is given.
+fn value_of(given: Given) -> Value<'static>
+    ensures { HasSpelling (val_of result) }
+{
+    if let Some(number) = given.number {
+        return Value::Int(number);
     }
-}
-
-impl Assigns for Set {
-    ghost bindings = { λ s. map (λ given. record {
-      name = 1 ∷ 3 ∷ 6 ∷ 1 ∷ 2 ∷ 1 ∷ 16 ∷ 3 ∷ 1 ∷ 1 ∷ given.column ∷ given.row ∷ [];
-      value =
-          unwrap_or (option_or (option_map int given.number) (option_or (option_map (λ text. octets text.now) given.text)
-          (option_map (λ n. name (1 ∷ 3 ∷ 6 ∷ 1 ∷ 2 ∷ 1 ∷ 1 ∷ n ∷ 0 ∷ [])) given.scalar))) null;
-    }) s.given.items };
-
-    fn count(&self) -> usize {
-        self.given.len()
+    if let Some(text) = given.text {
+        return Value::Octets(text);
     }
-
-    fn name(&self, place: usize) -> Oid {
-        let given = self.given.as_slice()[place];
-        name_of(given.column, given.row)
-    }
-
-    fn value(&self, place: usize) -> Value<'_> {
-        let given = self.given.as_slice()[place];
-        if let Some(number) = given.number {
-            return Value::Int(number);
-        }
-        if let Some(text) = given.text {
-            return Value::Octets(text);
-        }
-        match given.scalar {
-            Some(scalar) => Value::Name(scalar_name(scalar)),
-            None => Value::Null,
-        }
+    match given.scalar {
+        Some(scalar) => Value::Name(scalar_name(scalar)),
+        None => Value::Null,
     }
 }
 
@@ -144,7 +124,7 @@ pub fn answer<G: Readable + Commits>(
     ensures clock { G.clock group.new.first ≤ now }
     ensures stocked { G.stocked group.new.first }
 {
-    let set = Set::of(columns);
+    let set = set_of(columns);
     if let Verdict::Wrong { status, index } = group.judge_alone(&set) {
         return Some((status, index));
     }

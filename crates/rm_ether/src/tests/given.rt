@@ -1,14 +1,12 @@
 // Sets of etherStats, and what becomes of them.
-ghost use Rattle.std.specs.Prelude.{◌≡◌, ◌≤◌, [], ◌∷◌, map, None, unwrap_or};
-ghost use Rattle.std.specs.Option.{option_map, option_or};
-ghost use Rattle.rm_val.specs.Val.{int, octets, name, null};
-ghost use Rattle.rm_model.specs.Interfaces.{interface_name};
+ghost use Rattle.std.specs.Prelude.{◌≡◌, ◌≤◌, [], ◌∷◌, None};
+ghost use Rattle.rm_val.specs.Val.{val_of};
+ghost use Rattle.rm_val.specs.Spellable.{HasSpelling};
 ghost use Rattle.rm_ether.specs.Group.{frames_given, last_given};
 
 use crate::Ether;
-use arrayvec::ArrayVec;
 use rm_columns::interface_name;
-use rm_group::{Assigns, Commits, Group, Look};
+use rm_group::{Assignments, Commits, Group, Look};
 use rm_model::{Reading, Verdict};
 use rm_val::{ErrorStatus, Oid, Value};
 use std::alloc::Global;
@@ -63,47 +61,30 @@ pub fn nothing(column: u32, row: u32) -> Given {
     }
 }
 
-/// A Set of at most three columns.
-#[derive(Drop)]
-pub struct Set {
-    given: ArrayVec<Given, 3>,
+// The Set of these columns, of which there are at most three.
+fn set_of(columns: &[Given]) -> Assignments<'static, 3> {
+    let mut set = Assignments::new();
+    for given in columns {
+        if !set.is_full() {
+            set.push(name_of(given.column, given.row), value_of(*given));
+        }
+    }
+    set
 }
 
-impl Set {
-    pub fn of(columns: &[Given]) -> Set {
-        let mut given = ArrayVec::new();
-        let _ = given.try_extend_from_slice(columns);
-        Set { given }
+// What a column is given.
+fn value_of(given: Given) -> Value<'static>
+    ensures { HasSpelling (val_of result) }
+{
+    if let Some(number) = given.number {
+        return Value::Int(number);
     }
-}
-
-impl Assigns for Set {
-    ghost bindings = { λ s. map (λ given. record {
-      name = 1 ∷ 3 ∷ 6 ∷ 1 ∷ 2 ∷ 1 ∷ 16 ∷ 1 ∷ 1 ∷ 1 ∷ given.column ∷ given.row ∷ [];
-      value = unwrap_or (option_or (option_map int given.number) (option_or (option_map (λ text. octets text.now) given.text) (option_map (λ n. name (interface_name n)) given.interface))) null;
-    }) s.given.items };
-
-    fn count(&self) -> usize {
-        self.given.len()
+    if let Some(text) = given.text {
+        return Value::Octets(text);
     }
-
-    fn name(&self, place: usize) -> Oid {
-        let given = self.given.as_slice()[place];
-        name_of(given.column, given.row)
-    }
-
-    fn value(&self, place: usize) -> Value<'_> {
-        let given = self.given.as_slice()[place];
-        if let Some(number) = given.number {
-            return Value::Int(number);
-        }
-        if let Some(text) = given.text {
-            return Value::Octets(text);
-        }
-        match given.interface {
-            Some(interface) => Value::Name(interface_name(interface)),
-            None => Value::Null,
-        }
+    match given.interface {
+        Some(interface) => Value::Name(interface_name(interface)),
+        None => Value::Null,
     }
 }
 
@@ -136,7 +117,7 @@ pub fn answer(
     ensures last { last_given ether.new ≤ now }
     ensures frames { frames_given ether.new ≡ frames_given ether.old }
 {
-    let set = Set::of(columns);
+    let set = set_of(columns);
     if let Verdict::Wrong { status, index } = ether.judge_alone(&set) {
         return Some((status, index));
     }

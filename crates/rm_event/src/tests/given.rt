@@ -1,12 +1,11 @@
 // Sets of eventTable, and what becomes of them.
-ghost use Rattle.std.specs.Prelude.{◌≡◌, [], ◌∷◌, map, None, unwrap_or};
-ghost use Rattle.std.specs.Option.{option_map, option_or};
-ghost use Rattle.rm_val.specs.Val.{int, octets, null};
+ghost use Rattle.std.specs.Prelude.{◌≡◌, [], ◌∷◌, None};
+ghost use Rattle.rm_val.specs.Val.{val_of};
+ghost use Rattle.rm_val.specs.Spellable.{HasSpelling};
 ghost use Rattle.rm_event.specs.Group.{IsStocked};
 
 use crate::Events;
-use arrayvec::ArrayVec;
-use rm_group::{Assigns, Commits, Group, Look};
+use rm_group::{Assignments, Commits, Group, Look};
 use rm_model::{Reading, Verdict};
 use rm_val::{ErrorStatus, Oid, Value};
 use std::alloc::Global;
@@ -47,44 +46,27 @@ pub fn nothing(column: u32, row: u32) -> Given {
     }
 }
 
-/// A Set of at most four columns.
-#[derive(Drop)]
-pub struct Set {
-    given: ArrayVec<Given, 4>,
+// The Set of these columns, of which there are at most four.
+fn set_of(columns: &[Given]) -> Assignments<'static, 4> {
+    let mut set = Assignments::new();
+    for given in columns {
+        if !set.is_full() {
+            set.push(name_of(given.column, given.row), value_of(*given));
+        }
+    }
+    set
 }
 
-impl Set {
-    pub fn of(columns: &[Given]) -> Set {
-        let mut given = ArrayVec::new();
-        let _ = given.try_extend_from_slice(columns);
-        Set { given }
+// What a column is given.
+fn value_of(given: Given) -> Value<'static>
+    ensures { HasSpelling (val_of result) }
+{
+    if let Some(number) = given.number {
+        return Value::Int(number);
     }
-}
-
-impl Assigns for Set {
-    ghost bindings = { λ s. map (λ given. record {
-      name = 1 ∷ 3 ∷ 6 ∷ 1 ∷ 2 ∷ 1 ∷ 16 ∷ 9 ∷ 1 ∷ 1 ∷ given.column ∷ given.row ∷ [];
-      value = unwrap_or (option_or (option_map int given.number) (option_map (λ text. octets text.now) given.text)) null;
-    }) s.given.items };
-
-    fn count(&self) -> usize {
-        self.given.len()
-    }
-
-    fn name(&self, place: usize) -> Oid {
-        let given = self.given.as_slice()[place];
-        name_of(given.column, given.row)
-    }
-
-    fn value(&self, place: usize) -> Value<'_> {
-        let given = self.given.as_slice()[place];
-        if let Some(number) = given.number {
-            return Value::Int(number);
-        }
-        match given.text {
-            Some(text) => Value::Octets(text),
-            None => Value::Null,
-        }
+    match given.text {
+        Some(text) => Value::Octets(text),
+        None => Value::Null,
     }
 }
 
@@ -116,7 +98,7 @@ pub fn answer(
     requires { IsStocked events.old }
     ensures { IsStocked events.new }
 {
-    let set = Set::of(columns);
+    let set = set_of(columns);
     if let Verdict::Wrong { status, index } = events.judge_alone(&set) {
         return Some((status, index));
     }

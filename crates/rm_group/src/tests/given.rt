@@ -1,38 +1,26 @@
 // A Set of two scalars, which reads no variable.
-ghost use Rattle.std.specs.Prelude.{[], ◌∷◌, None};
-ghost use Rattle.rm_val.specs.Val.{null};
+ghost use Rattle.std.specs.Prelude.{◌≡◌, [], ◌∷◌, None};
 
-use crate::{Assigns, Look};
+use crate::{Assignments, Look};
 use rm_model::Reading;
 use rm_val::{Oid, Value};
 
 /// A Set of the scalars with these numbers under the identifier of the system group. Each is given Null.
-#[derive(Clone, Copy)]
-pub struct Two {
-    pub first: u32,
-    pub second: u32,
-}
-
-impl Assigns for Two {
-    ghost bindings = { λ s.
-        record { name = 1 ∷ 3 ∷ 6 ∷ 1 ∷ 2 ∷ 1 ∷ 1 ∷ s.first ∷ 0 ∷ []; value = null }
-        ∷ record { name = 1 ∷ 3 ∷ 6 ∷ 1 ∷ 2 ∷ 1 ∷ 1 ∷ s.second ∷ 0 ∷ []; value = null }
-        ∷ [] };
-
-    fn count(&self) -> usize {
-        2
-    }
-
-    fn name(&self, place: usize) -> Oid {
-        match place {
-            0 => Oid::from_slice(&[1, 3, 6, 1, 2, 1, 1, self.first, 0]).unwrap(),
-            _ => Oid::from_slice(&[1, 3, 6, 1, 2, 1, 1, self.second, 0]).unwrap(),
+pub fn set_of(first: u32, second: u32) -> Assignments<'static, 2> {
+    let mut set = Assignments::new();
+    for number in [first, second] {
+        if !set.is_full() {
+            set.push(scalar(number), Value::Null);
         }
     }
+    set
+}
 
-    fn value(&self, _place: usize) -> Value<'_> {
-        Value::Null
-    }
+// The name of the scalar with a number.
+fn scalar(number: u32) -> Oid
+    ensures { result ≡ 1 ∷ 3 ∷ 6 ∷ 1 ∷ 2 ∷ 1 ∷ 1 ∷ number ∷ 0 ∷ [] }
+{
+    Oid::from_slice(&[1, 3, 6, 1, 2, 1, 1, number, 0]).unwrap()
 }
 
 /// No variable has a reading.

@@ -57,7 +57,7 @@ impl Group for Slot {
 
     fn judge_alone<A: Assigns>(&self, set: &A) -> Verdict {
         for place in 0..set.count() {
-            if is_faulty(&set.name(place)) {
+            if is_faulty(set.name(place)) {
                 return Verdict::Wrong {
                     status: ErrorStatus::WrongValue,
                     index: place as u32 + 1,

@@ -1,11 +1,9 @@
 // Sets of historyControl, and what becomes of them.
-ghost use Rattle.std.specs.Prelude.{◌≡◌, ◌≤◌, [], ◌∷◌, map, None};
-ghost use Rattle.rm_val.specs.Val.{int};
+ghost use Rattle.std.specs.Prelude.{◌≡◌, ◌≤◌, [], ◌∷◌, None};
 ghost use Rattle.rm_history.specs.Group.{IsStocked, frames_given, last_given};
 
 use crate::History;
-use arrayvec::ArrayVec;
-use rm_group::{Assigns, Commits, Group, Look};
+use rm_group::{Assignments, Commits, Group, Look};
 use rm_model::{Reading, Verdict};
 use rm_val::{ErrorStatus, Oid, Value};
 use std::alloc::Global;
@@ -26,38 +24,15 @@ pub fn number(column: u32, row: u32, number: i32) -> Given {
     }
 }
 
-/// A Set of at most six columns.
-#[derive(Drop)]
-pub struct Set {
-    given: ArrayVec<Given, 6>,
-}
-
-impl Set {
-    pub fn of(columns: &[Given]) -> Set {
-        let mut given = ArrayVec::new();
-        let _ = given.try_extend_from_slice(columns);
-        Set { given }
+// The Set of these columns, of which there are at most six.
+fn set_of(columns: &[Given]) -> Assignments<'static, 6> {
+    let mut set = Assignments::new();
+    for given in columns {
+        if !set.is_full() {
+            set.push(name_of(given.column, given.row), Value::Int(given.number));
+        }
     }
-}
-
-impl Assigns for Set {
-    ghost bindings = { λ s. map (λ given. record {
-      name = 1 ∷ 3 ∷ 6 ∷ 1 ∷ 2 ∷ 1 ∷ 16 ∷ 2 ∷ 1 ∷ 1 ∷ given.column ∷ given.row ∷ [];
-      value = int given.number;
-    }) s.given.items };
-
-    fn count(&self) -> usize {
-        self.given.len()
-    }
-
-    fn name(&self, place: usize) -> Oid {
-        let given = self.given.as_slice()[place];
-        name_of(given.column, given.row)
-    }
-
-    fn value(&self, place: usize) -> Value<'_> {
-        Value::Int(self.given.as_slice()[place].number)
-    }
+    set
 }
 
 // The name of a column of a row.
@@ -91,7 +66,7 @@ pub fn answer(
     ensures frames { frames_given history.new ≡ frames_given history.old }
     ensures stocked { IsStocked history.new }
 {
-    let set = Set::of(columns);
+    let set = set_of(columns);
     if let Verdict::Wrong { status, index } = history.judge_alone(&set) {
         return Some((status, index));
     }

@@ -1,12 +1,10 @@
 // The rows of a made-up control table, and Sets of it. Its entry is 1.3.6.1.4.1.9.5, its status column 7. Column 2 is 1 to 9 and
 // needed, column 3 is 1 to 3600, column 4 is 1 to 100 and may always be set.
-ghost use Rattle.std.specs.Prelude.{◌≡◌, [], ◌∷◌, map, None, refl};
-ghost use Rattle.rm_val.specs.Val.{int};
+ghost use Rattle.std.specs.Prelude.{◌≡◌, [], ◌∷◌, None, refl};
 ghost use Rattle.rm_status.specs.MadeUp.{plain, ruled, second_at_first, set_to, with_value, blank_alike, ruled_alike, set_with};
 
-use arrayvec::ArrayVec;
 use rm_columns::{ControlRow, ControlSheet, index_of_one, is_one_number, one_number};
-use rm_group::{Assigns, TableObjects};
+use rm_group::{Assignments, TableObjects};
 use rm_model::Setting::Number;
 use rm_model::{StatusKind, column, numbers};
 use rm_val::{Oid, Value};
@@ -209,35 +207,13 @@ impl ControlRow for Ruled {
     }
 }
 
-/// A column of a row, and the number that it is given.
-#[derive(Clone, Copy, Debug, Default)]
-pub struct Given {
-    pub column: u32,
-    pub row: u32,
-    pub number: i32,
-}
-
 /// A Set of at most four columns.
-#[derive(Drop)]
-pub struct Set {
-    pub given: ArrayVec<Given, 4>,
-}
+pub type Set = Assignments<'static, 4>;
 
-impl Assigns for Set {
-    ghost bindings = { λ s. map (λ given. record { name = 1 ∷ 3 ∷ 6 ∷ 1 ∷ 4 ∷ 1 ∷ 9 ∷ 5 ∷ given.column ∷ given.row ∷ []; value = int given.number }) s.given.items };
-
-    fn count(&self) -> usize {
-        self.given.len()
-    }
-
-    fn name(&self, place: usize) -> Oid {
-        let given = self.given.as_slice()[place];
-        name_of(given.column, given.row)
-    }
-
-    fn value(&self, place: usize) -> Value<'_> {
-        let given = self.given.as_slice()[place];
-        Value::Int(given.number)
+/// Appends a column of a row to a Set, and the number that it is given, where there is room.
+pub fn give(set: &mut Set, column: u32, row: u32, number: i32) {
+    if !set.is_full() {
+        set.push(name_of(column, row), Value::Int(number));
     }
 }
 
@@ -248,8 +224,8 @@ pub fn entry() -> Oid
     Oid::from_slice(&[1, 3, 6, 1, 4, 1, 9, 5]).unwrap()
 }
 
-// The name of a column of a row.
-fn name_of(column: u32, row: u32) -> Oid
+/// The name of a column of a row.
+pub fn name_of(column: u32, row: u32) -> Oid
     ensures { result ≡ 1 ∷ 3 ∷ 6 ∷ 1 ∷ 4 ∷ 1 ∷ 9 ∷ 5 ∷ column ∷ row ∷ [] }
 {
     Oid::from_slice(&[1, 3, 6, 1, 4, 1, 9, 5, column, row]).unwrap()

@@ -2,8 +2,7 @@
 ghost use Rattle.std.specs.Prelude.{◌≡◌, [], ◌∷◌};
 
 use crate::Controls;
-use crate::tests::made_up::{Given, MadeUp, STATUS, Set, entry};
-use arrayvec::ArrayVec;
+use crate::tests::made_up::{MadeUp, STATUS, Set, entry, give};
 use rm_columns::Columns;
 use rm_model::{State, StatusKind, Verdict};
 use rm_val::ErrorStatus;
@@ -191,30 +190,18 @@ const REFUSED_ALONE: [(&[(u32, u32, i32)], ErrorStatus, u32); 13] = [
 
 // The Set of these columns of row 5.
 fn set_of_row_5(columns: &[(u32, i32)]) -> Set {
-    let mut set = Set {
-        given: ArrayVec::new(),
-    };
+    let mut set = Set::new();
     for &(column, number) in columns {
-        let _ = set.given.try_push(Given {
-            column,
-            row: 5,
-            number,
-        });
+        give(&mut set, column, 5, number);
     }
     set
 }
 
 /// The Set of these columns and rows.
 pub fn set_of(columns: &[(u32, u32, i32)]) -> Set {
-    let mut set = Set {
-        given: ArrayVec::new(),
-    };
+    let mut set = Set::new();
     for &(column, row, number) in columns {
-        let _ = set.given.try_push(Given {
-            column,
-            row,
-            number,
-        });
+        give(&mut set, column, row, number);
     }
     set
 }

@@ -1,7 +1,7 @@
 use Rattle.std.proofs.Common.{◌∷◌, [], ◌∙◌, length, ap, arith}
 use Rattle.std.proofs.lemmas.List.{length-append}
 use Rattle.rm_val.specs.Val.{val_of}
-use Rattle.rm_reply.specs.Given.{giving}
+use Rattle.rm_group.specs.Assignments.{giving}
 use Rattle.rm_reply.proofs.SetLemmas.{given_more}
 use Rattle.rm_reply.proofs.request.Request.give.Goals as goal
 

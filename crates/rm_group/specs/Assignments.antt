@@ -1,10 +1,10 @@
--- What the bindings of a SetRequest that are kept show.
+-- What a list of the bindings of a Set shows.
 use Rattle.std.specs.Prelude.{ℕ, List, map, All}
 use Rattle.rm_val.specs.Val.{Val, val_of}
 use Rattle.rm_val.specs.Spellable.{IsSpellable, HasSpelling}
 use Rattle.rm_model.specs.Journal.{Assignment}
 use Rattle.rm_model.specs.Judgement.{Bindings}
-use Rattle.rm_reply.specs.declared.given.Assigned.{Assigned}
+use Rattle.rm_group.specs.declared.assignments.Assigned.{Assigned}
 
 -- a variable, and the value that it is given
 abbrev pub giving : List ℕ → Val → Assignment
