@@ -1,5 +1,5 @@
 // How a Set is judged on the rows of a control table.
-ghost use Rattle.std.specs.Prelude.{◌≡◌, ◌<◌, ◌≤◌, [], ◌∷◌, length};
+ghost use Rattle.std.specs.Prelude.{◌≡◌, ◌<◌, ◌≤◌, [], ◌∷◌, ◌&&◌, nat_eq, length};
 ghost use Rattle.std.specs.Option.{option_or};
 ghost use Rattle.rm_model.specs.Journal.{value_given};
 ghost use Rattle.rm_model.specs.ControlTable.{row_index, is_ready};
@@ -85,11 +85,11 @@ impl<C: Columns> Controls<C> {
     {
         let name = set.name(place);
         match place_under::<C>(&name, entry) {
-            Place::Cell(column, row) => {
+            Place::Cell(column, row) if column == status => {
                 let kind = self.kind;
                 let asked = set_ask::<C, A>(kind, set, entry, status, row);
                 let again = is_again(set, place);
-                if column == status && !again && is_made(self.state(row), asked) {
+                if !again && is_made(self.state(row), asked) {
                     1
                 } else {
                     0
@@ -121,7 +121,7 @@ impl<C: Columns> Controls<C> {
                 let kind = self.kind;
                 let state = self.state(row);
                 let asked = set_ask::<C, A>(kind, set, entry, status, row);
-                let ready = self.is_ready_with(set, entry, status, row);
+                let ready = self.is_ready_for(set, entry, status, column, row);
                 let again = is_again(set, place);
                 row_fault::<C>(
                     kind, status, row, state, asked, ready, crowded, again, column,
@@ -129,6 +129,23 @@ impl<C: Columns> Controls<C> {
             }
             _ => None,
         }
+    }
+
+    // Whether a binding is of a row's status, which alone asks whether the row is ready, and the row would be.
+    fn is_ready_for<A: Assigns>(
+        &self,
+        set: &A,
+        entry: &Oid,
+        status: u32,
+        column: u32,
+        row: u32,
+    ) -> bool
+        requires entry { entry.now ≡ C.table.entry }
+        requires status { status ≡ C.table.status }
+        requires fine { IsFirstFault (length (A.bindings set.now)) (first_pass C.table (A.bindings set.now)) Verdict.Fine }
+        ensures { result ≡ (nat_eq column C.table.status && is_ready_with C.table (rows_before C.table C.set_to self.now) (A.bindings set.now) (row_index C.table row)) }
+    {
+        column == status && self.is_ready_with(set, entry, status, row)
     }
 
     // Whether a row would be ready with the columns that a Set gives to it, a blank one where there is no such row.

@@ -13,4 +13,4 @@ returns-in-Cell g c =
     let at : Cell c.in-Cell.column c.in-Cell.row ≡ place_of C.table (name_at bs c.args.place) = rw (← c.requires.entry, ← c.name-name.ensures.value) c.in-Cell.ensures in
     c.row_fault.ensures
     ∙ second_is C.table (rows_before C.table C.set_to c.args.self.now) bs c.args.place c.in-Cell.column c.in-Cell.row (Cell c.in-Cell.column c.in-Cell.row) at refl
-    _ _ _ _ _ (c.state-state.ensures ∙ sym (state_before C.table C.set_to c.args.self.now c.in-Cell.row)) c.set_ask-asked.ensures c.is_ready_with-ready.ensures c.requires.crowded c.is_again-again.ensures
+    _ _ _ _ _ (c.state-state.ensures ∙ sym (state_before C.table C.set_to c.args.self.now c.in-Cell.row)) c.set_ask-asked.ensures c.is_ready_for-ready.ensures c.requires.crowded c.is_again-again.ensures
