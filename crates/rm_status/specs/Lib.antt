@@ -8,3 +8,4 @@ pub mod RowsAfter
 pub mod Bare
 pub mod KeptCells
 pub mod RowsShown
+pub mod Pairs
