@@ -1,15 +1,90 @@
--- A fact of the command that words stand for.
-use Rattle.std.proofs.Common.{◌≡◌, ℕ, List, subst}
-use Rattle.rm_words.specs.Grammar.{Options, Command, replay, StandFor}
-use Rattle.rm_cmd.specs.Commands.{OfReplay}
+-- A fact of the command that words stand for, and of its operands.
+use Rattle.std.proofs.Common.{◌≡◌, ◌⊎◌, inl, inr, ℕ, ◌-◌, ◌%◌, List, [], ◌∷◌, length, Bool, true, false, Ok, Option, Some, None, refl, subst, eqb-true}
+use Rattle.std.specs.Prelude.{◌&&◌, ◌||◌, ◌==◌, nat_le, if◌then◌else◌, is_some}
+use Rattle.std.specs.List.{list_all}
+use Rattle.std.specs.Char.{is_ascii_hexdigit}
+use Rattle.std.proofs.lemmas.List.Sums.{AllPass-from_list_all}
+use Rattle.hex.specs.Hex.{decode_of, is_hex_digit}
+use Rattle.hex.proofs.HexLemmas.{decode_of-digits}
+use Rattle.rm_words.specs.Grammar.{Options, Command, replay, decode, StandFor, for_decode, is_hex}
+use Rattle.rm_edge.specs.Outside.{Rose}
+use Rattle.rm_probe.specs.declared.status.Status.{Status}
+use Rattle.rm_probe.specs.declared.status.Status.TheVariants.{Done, Usage, BadCapture, BadRequests, ReadFault, WriteFault, NoMemory, LinkFault, TooLong}
+use Rattle.rm_cmd.specs.Commands.{OfReplay, OfDecode, Decodes}
 
--- a fact of the operands and options of a command
-abbrev pub of_command : (List ℕ → List ℕ → Options → Type 0) → Command → Type 0
-of_command P (replay capture requests options) = P capture requests options
+-- a fact of the operands and options of `replay`, and one of the operand of `decode`
+abbrev pub of_command : (List ℕ → List ℕ → Options → Type 0) → (List ℕ → Type 0) → Command → Type 0
+of_command P Q (replay capture requests options) = P capture requests options
+of_command P Q (decode hex) = Q hex
 
 -- what holds of one command that the words stand for holds of each
 pub carries : ((words : List (List ℕ)) (one other : Command) → StandFor words one → StandFor words other → one ≡ other)
-    → (words : List (List ℕ)) (capture requests : List ℕ) (options : Options) (P : List ℕ → List ℕ → Options → Type 0)
-    → StandFor words (replay capture requests options) → P capture requests options → OfReplay words P
-carries one words capture requests options P stands here capture' requests' options' is =
-    subst (λ (command : Command). of_command P command) (one words (replay capture requests options) (replay capture' requests' options') stands is) here
+    → (words : List (List ℕ)) (command : Command) (P : List ℕ → List ℕ → Options → Type 0) (Q : List ℕ → Type 0)
+    → StandFor words command → of_command P Q command → (other : Command) → StandFor words other → of_command P Q other
+carries one words command P Q stands here other is = subst (of_command P Q) (one words command other stands is) here
+
+-- of words that stand for `replay`, and for `decode`
+module _ (one : (words : List (List ℕ)) (one other : Command) → StandFor words one → StandFor words other → one ≡ other) (words : List (List ℕ)) where
+  pub of_replay : (capture requests : List ℕ) (options : Options) (P : List ℕ → List ℕ → Options → Type 0)
+      → StandFor words (replay capture requests options) → P capture requests options → OfReplay words P
+  of_replay capture requests options P stands here capture' requests' options' is =
+      carries one words (replay capture requests options) P (λ hex. Unit {0}) stands here (replay capture' requests' options') is
+
+  pub no_decode : (capture requests : List ℕ) (options : Options) (P : List ℕ → Type 0) → StandFor words (replay capture requests options) → OfDecode words P
+  no_decode capture requests options P stands hex is =
+      carries one words (replay capture requests options) (λ c r o. Unit {0}) (λ digits. (octets : List ℕ) × (decode_of digits ≡ Ok octets) × P octets) stands tt (decode hex) is
+
+  pub of_decode : (hex : List ℕ) (P : List ℕ → Type 0) → StandFor words (decode hex) → (octets : List ℕ) × (decode_of hex ≡ Ok octets) × P octets → OfDecode words P
+  of_decode hex P stands here hex' is =
+      carries one words (decode hex) (λ c r o. Unit {0}) (λ digits. (octets : List ℕ) × (decode_of digits ≡ Ok octets) × P octets) stands here (decode hex') is
+
+  pub no_replay : (hex : List ℕ) (P : List ℕ → List ℕ → Options → Type 0) → StandFor words (decode hex) → OfReplay words P
+  no_replay hex P stands capture requests options is = carries one words (decode hex) P (λ digits. Unit {0}) stands tt (replay capture requests options) is
+
+-- `decode` without a failed put is done, or found no memory
+pub done_or_none : (octets : List ℕ) (writes writes' : ℕ) (old new : Option (List ℕ)) (result : Status) → Decodes octets writes writes' old new result
+    → (Rose writes writes' → ⊥) → (result ≡ Done) ⊎ (result ≡ NoMemory)
+done_or_none octets writes writes' old new Done is none = inl refl
+done_or_none octets writes writes' old new NoMemory is none = inr refl
+done_or_none octets writes writes' old new WriteFault is none = absurd (none is.0)
+done_or_none octets writes writes' old new Usage is none = absurd is
+done_or_none octets writes writes' old new (BadCapture at) is none = absurd is
+done_or_none octets writes writes' old new (BadRequests line) is none = absurd is
+done_or_none octets writes writes' old new ReadFault is none = absurd is
+done_or_none octets writes writes' old new LinkFault is none = absurd is
+done_or_none octets writes writes' old new TooLong is none = absurd is
+
+-- the operand of `decode` is octets in hexadecimal digits
+pub digits_of : (words : List (List ℕ)) (hex : List ℕ) → StandFor words (decode hex) → is_hex hex ≡ true
+digits_of words hex (for_decode word others pieces same is spells are) = are.hex_is
+
+same_digit : (capital small figure : Bool) (x y z : ℕ) → (figure || capital || small) ≡ true
+    → is_some (if capital then Some x else if small then Some y else if figure then Some z else None) ≡ true
+same_digit true small figure x y z e = refl
+same_digit false true figure x y z e = refl
+same_digit false false true x y z e = refl
+same_digit false false false x y z e = absurd cc
+
+both_true : (a b : Bool) → (a && b) ≡ true → (a ≡ true) × (b ≡ true)
+both_true true true e = (refl, refl)
+both_true true false e = absurd cc
+both_true false b e = absurd cc
+
+all_digits : (text : List ℕ) → list_all is_ascii_hexdigit text ≡ true → list_all is_hex_digit text ≡ true
+all_digits [] e = refl
+all_digits (c ∷ more) e =
+    let both = both_true (is_ascii_hexdigit c) (list_all is_ascii_hexdigit more) e in
+    both_are (is_hex_digit c) (list_all is_hex_digit more)
+    (same_digit (nat_le 65 c && nat_le c 70) (nat_le 97 c && nat_le c 102) (nat_le 48 c && nat_le c 57) (c - 55) (c - 87) (c - 48) both.0)
+    (all_digits more both.1)
+  where
+    both_are : (a b : Bool) → a ≡ true → b ≡ true → (a && b) ≡ true
+    both_are a b e f = cc
+
+-- such digits are octets
+pub octets_of : (text : List ℕ) → is_hex text ≡ true → (octets : List ℕ) × (decode_of text ≡ Ok octets)
+unfolding is_hex
+octets_of text e =
+    let all = both_true _ (list_all is_ascii_hexdigit text) e in
+    let even = both_true _ (length text % 2 == 0) all.0 in
+    decode_of-digits text (eqb-true (length text % 2) 0 even.1) (AllPass-from_list_all is_hex_digit text (all_digits text all.1))

@@ -1,14 +1,22 @@
 -- What commands ask for.
-use Rattle.std.specs.Prelude.{◌≡◌, ℕ, List, Option}
-use Rattle.rm_edge.specs.Outside.{Held}
+use Rattle.std.specs.Prelude.{◌≡◌, ℕ, List, Option, Ok, false}
+use Rattle.hex.specs.Hex.{decode_of}
+use Rattle.rm_edge.specs.Outside.{Held, Adds, AddsFront, Rose}
+use Rattle.rm_pdu.specs.Parse.{Parse, IsParse}
+use Rattle.rm_decode.specs.Text.{text_of}
 use Rattle.rm_agent.specs.declared.settings.Settings.{Settings}
 use Rattle.rm_probe.specs.Ends.{Ends}
 use Rattle.rm_probe.specs.declared.status.Status.{Status}
-use Rattle.rm_words.specs.Grammar.{Options, replay, StandFor}
+use Rattle.rm_probe.specs.declared.status.Status.TheVariants.{Done, WriteFault, NoMemory}
+use Rattle.rm_words.specs.Grammar.{Options, replay, decode, StandFor}
 
 -- the words stand for `replay`, and this is a fact of its operands and options
 abbrev pub OfReplay : List (List ℕ) → (List ℕ → List ℕ → Options → Type 0) → Type 0
 OfReplay words P = (capture requests : List ℕ) (options : Options) → StandFor words (replay capture requests options) → P capture requests options
+
+-- the words stand for `decode`, and this is a fact of the octets that its digits are
+abbrev pub OfDecode : List (List ℕ) → (List ℕ → Type 0) → Type 0
+OfDecode words P = (hex : List ℕ) → StandFor words (decode hex) → (octets : List ℕ) × (decode_of hex ≡ Ok octets) × P octets
 
 -- the probe is set to what the options say
 pub record AreSet (settings : Settings) (options : Options) : Type 0 where
@@ -25,3 +33,11 @@ pub record EndsWith (options : Options) (capture requests : Held) (reads reads' 
   pub settings : Settings
   pub set : AreSet settings options
   pub ends : Ends settings options.lead capture requests reads reads' writes writes' old new result
+
+-- How `decode` ends: with the text of what the octets are, or with a front of it where a put failed. The counts are those of failed
+-- puts.
+abbrev pub Decodes : List ℕ → ℕ → ℕ → Option (List ℕ) → Option (List ℕ) → Status → Type 0
+Decodes octets writes writes' old new Done = (v : Parse) × IsParse false octets v × Adds old new (text_of v)
+Decodes octets writes writes' old new WriteFault = Rose writes writes' × ((v : Parse) × IsParse false octets v × AddsFront old new (text_of v))
+Decodes octets writes writes' old new NoMemory = new ≡ old
+Decodes octets writes writes' old new other = ⊥

@@ -1,12 +1,15 @@
 // Runs the words of a command line.
-ghost use Rattle.std.specs.Prelude.{◌≡◌, ◌≢◌, ◌+◌, ◌↔◌, MatchOption};
-ghost use Rattle.rm_words.specs.Grammar.{Command as Meant, StandFor, replay};
+ghost use Rattle.std.specs.Prelude.{◌≡◌, ◌≢◌, ◌+◌, ◌↔◌, ◌⊎◌, ℕ, List, Ok, true};
+ghost use Rattle.hex.specs.Hex.{decode_of};
+ghost use Rattle.rm_edge.specs.Outside.{Rose};
+ghost use Rattle.rm_words.specs.Grammar.{Command as Meant, StandFor, is_hex};
 ghost use Rattle.rm_words.specs.Told.{options_of};
 ghost use Rattle.rm_probe.specs.Ends.{IsComplete, IsExact, IsSilent};
-ghost use Rattle.rm_probe.specs.declared.status.Status.TheVariants.{Usage};
-ghost use Rattle.rm_cmd.specs.Commands.{AreSet, EndsWith, OfReplay};
+ghost use Rattle.rm_probe.specs.declared.status.Status.TheVariants.{Done, NoMemory, Usage};
+ghost use Rattle.rm_cmd.specs.Commands.{AreSet, Decodes, EndsWith, OfDecode, OfReplay};
 
 use rm_agent::Settings;
+use rm_decode::Unwritten;
 use rm_edge::{Clock, Link, Shelf, Sink, Words};
 use rm_probe::Status;
 use rm_words::{Command, RunOptions, one_command, read_command};
@@ -14,10 +17,11 @@ use std::alloc::Global;
 
 /// Runs the words of a command line.
 ///
-/// The one command is `replay CAPTURE REQUESTS` with its options. It writes one line for each datagram of the request file and
-/// one for each notification, and a last line. Words that stand for no command are `Usage`.
+/// `replay CAPTURE REQUESTS` with its options writes one line for each datagram of the request file and one for each notification,
+/// and a last line. `decode HEX` writes what the octets are that the digits stand for, read as a message. Words that stand for no
+/// command are `Usage`.
 ///
-/// The capture is judged first, a record at a time, and then the request file, a line at a time. Only then is anything
+/// Of `replay` the capture is judged first, a record at a time, and then the request file, a line at a time. Only then is anything
 /// written, and both are read again meanwhile. After `WriteFault` and `ReadFault` a front of the text may have been
 /// written. Over a shelf that tells what it holds, nothing was written after the others but `Done`. Over one that
 /// doesn't, the files may be other ones when they are read again, and `BadCapture`, `BadRequests` and `TooLong` may come
@@ -42,6 +46,11 @@ pub fn run<F: Shelf, K: Sink, L: Link, T: Clock>(
         IsComplete options.lead (F.held shelf.old capture) (F.held shelf.old requests)
         (F.faults shelf.old capture + F.faults shelf.old requests) (F.faults shelf.new capture + F.faults shelf.new requests)
         (K.faults out.old) (K.faults out.new) result) }
+
+    // Of `decode` too: the octets added are exactly the text of those that its digits are.
+    ensures decodes { OfDecode words.now (λ octets. Decodes octets (K.faults out.old) (K.faults out.new) (K.content out.old) (K.content out.new) result) }
+    ensures decodes_whole { OfDecode words.now (λ octets. (Rose (K.faults out.old) (K.faults out.new) → ⊥) → (result ≡ Done) ⊎ (result ≡ NoMemory)) }
+
     ensures silent { IsSilent result → K.content out.new ≡ K.content out.old }
 
     // The link and the clock keep what they hold.
@@ -51,28 +60,16 @@ pub fn run<F: Shelf, K: Sink, L: Link, T: Clock>(
     ensures told { T.told clock.new ≡ T.told clock.old }
 {
     one_command();
-    match replay_words(words) {
-        None => Status::Usage,
-        Some((capture, requests, options)) => {
-            run_replay(alloc, capture, requests, options, shelf, out)
-        }
-    }
-}
-
-// The operands and options of `replay`, where the words stand for it.
-fn replay_words(words: &Words) -> Option<(&str, &str, RunOptions)>
-    ensures { MatchOption result ((command : Meant) → StandFor words.now command → ⊥)
-        (λ asked. StandFor words.now (replay asked.0.now asked.1.now (options_of asked.2))) }
-{
     match read_command(words) {
-        None => None,
+        None => Status::Usage,
         Some(
             Command::Replay {
                 capture,
                 requests,
                 options,
             },
-        ) => Some((capture, requests, options)),
+        ) => run_replay(alloc, capture, requests, options, shelf, out),
+        Some(Command::Decode { hex: digits }) => run_decode(alloc, digits, out),
     }
 }
 
@@ -98,6 +95,24 @@ fn run_replay<F: Shelf, K: Sink>(
     let lead = options.lead;
     let settings = settings_of(options);
     rm_probe::replay(alloc, settings, lead, capture, requests, shelf, out)
+}
+
+// Runs `decode` with its operand.
+fn run_decode<K: Sink>(alloc: Global, digits: &str, out: &mut K) -> Status
+    requires digits { is_hex digits.now ≡ true }
+    ensures decodes { (octets : List ℕ) × (decode_of digits.now ≡ Ok octets)
+        × Decodes octets (K.faults out.old) (K.faults out.new) (K.content out.old) (K.content out.new) result }
+    ensures silent { IsSilent result → K.content out.new ≡ K.content out.old }
+    ensures command { result ≢ Usage }
+{
+    let Ok(octets) = hex::decode(alloc, digits) else {
+        return Status::NoMemory;
+    };
+    match rm_decode::decode(alloc, &octets, out) {
+        Ok(()) => Status::Done,
+        Err(Unwritten::Failed) => Status::WriteFault,
+        Err(Unwritten::NoMemory) => Status::NoMemory,
+    }
 }
 
 // What the probe is set to by the options of a run.

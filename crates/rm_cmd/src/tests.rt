@@ -21,6 +21,7 @@ fn words_are_run(rt: HostRuntime) -> Result<(), Fail> {
             "500 1 drop malformed 0\nend 0 1\n",
         ),
         ("replay c", Status::Usage, ""),
+        ("decode 3024", Status::Done, "drop malformed 0\n"),
     ] {
         let mut words = Words::new(alloc);
         for word in text.split_whitespace() {

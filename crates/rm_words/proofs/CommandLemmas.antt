@@ -1,17 +1,16 @@
 -- The command that words stand for.
-use Rattle.std.proofs.Common.{◌≡◌, ℕ, zero, suc, List, [], ◌∷◌, drop, Option, Some, None, Bool, true, false, MatchOption, refl, sym, ap, subst, ◌∙◌}
+use Rattle.std.proofs.Common.{◌≡◌, ℕ, List, [], ◌∷◌, drop, Option, Some, None, Bool, true, false, MatchOption, refl, sym, ap, subst, ◌∙◌}
 use Rattle.std.specs.Prelude.{slice_get, if◌then◌else◌}
 use Rattle.std.specs.Option.{is_some}
 use Rattle.std.specs.Str.{bytes_eq}
 use Rattle.std.proofs.lemmas.Slice.Eq.{bytes_eq-Decides}
 use Rattle.rm_words.specs.Names.{word_of, command_named}
-use Rattle.rm_words.specs.Grammar.{Piece, Spells, operands, values_of, setting, number_within, community_of, is_given, Options, AreOptions, AreOfReplay, Command, replay, StandFor, for_replay}
+use Rattle.rm_words.specs.Grammar.{Piece, Spells, Options, AreOptions, AreOfReplay, Command, replay, decode, StandFor, for_replay, for_decode}
 use Rattle.rm_words.specs.Parts.{are_whole, pieces_from}
-use Rattle.rm_words.specs.Told.{IsReadReplay, command_of, options_of}
+use Rattle.rm_words.specs.Told.{AreOf, IsRead, command_of}
 use Rattle.rm_words.specs.declared.names.CommandName.{CommandName}
-use Rattle.rm_words.specs.declared.names.CommandName.TheVariants.{Replay}
+use Rattle.rm_words.specs.declared.names.CommandName.TheVariants.{Replay, Decode}
 use Rattle.rm_words.specs.declared.command.Command as code
-use Rattle.rm_words.specs.declared.command.Command.TheVariants as variant
 use Rattle.rm_words.specs.declared.parts.Expected.TheVariants.{Any}
 use Rattle.rm_words.proofs.SpellLemmas.{spelled_read, whole_spelled}
 
@@ -22,34 +21,51 @@ two_operands (x ∷ []) first second a b c = absurd cc
 two_operands (x ∷ y ∷ []) first second a b c = cc
 two_operands (x ∷ y ∷ z ∷ more) first second a b c = absurd cc
 
+in_some : {A : Type 0} (x y : A) → ◌≡◌ {A = Option A} (Some x) (Some y) → x ≡ y
+in_some x y e = cc
+
+-- one operand of two
+pub one_operand : (texts : List (List ℕ)) (first : List ℕ) → slice_get texts 0 ≡ Some first → slice_get texts 1 ≡ None → texts ≡ first ∷ []
+one_operand [] first a b = absurd cc
+one_operand (x ∷ []) first a b = cc
+one_operand (x ∷ y ∷ more) first a b = absurd cc
+
 -- what stands behind words that stand for a command
-record IsOfReplay (all : List (List ℕ)) (command : Command) : Type 0 where
+record IsOf (all : List (List ℕ)) (command : Command) : Type 0 where
+  pub name : CommandName
   pub word : List ℕ
   pub words : List (List ℕ)
   pub pieces : List Piece
-  pub capture : List ℕ
-  pub requests : List ℕ
-  pub options : Options
   pub all_are : all ≡ word ∷ words
-  pub command_is : command ≡ replay capture requests options
-  pub word_is : word ≡ word_of Replay
-  pub spells : Spells Replay words pieces
-  pub are : AreOfReplay pieces capture requests options
+  pub word_is : word ≡ word_of name
+  pub spells : Spells name words pieces
+  pub are : AreOf name pieces command
 
-of_replay : (all : List (List ℕ)) (command : Command) → StandFor all command → IsOfReplay all command
-of_replay all command (for_replay word words pieces capture requests options is spells are) = record {
+-- by the word of the command
+with_word : (name : CommandName) (word : List ℕ) (words : List (List ℕ)) (pieces : List Piece) (command : Command) → word ≡ word_of name → Spells name words pieces → AreOf name pieces command
+    → IsOf (word ∷ words) command
+with_word name word words pieces command is spells are = record {
+  name = name;
   word = word;
   words = words;
   pieces = pieces;
-  capture = capture;
-  requests = requests;
-  options = options;
   all_are = refl;
-  command_is = refl;
   word_is = is;
   spells = spells;
   are = are;
 }
+
+is_of : (all : List (List ℕ)) (command : Command) → StandFor all command → IsOf all command
+is_of all command (for_replay word words pieces capture requests options is spells are) = with_word Replay word words pieces command is spells are
+is_of all command (for_decode word words pieces hex is spells are) = with_word Decode word words pieces command is spells are
+
+-- words that stand for what stands behind the word of a command
+stand : (name : CommandName) (word : List ℕ) (words : List (List ℕ)) (pieces : List Piece) (command : Command) → word ≡ word_of name → Spells name words pieces → AreOf name pieces command
+    → StandFor (word ∷ words) command
+stand Replay word words pieces (replay capture requests options) is spells are = for_replay word words pieces capture requests options is spells are
+stand Decode word words pieces (decode hex) is spells are = for_decode word words pieces hex is spells are
+stand Replay word words pieces (decode hex) is spells are = absurd are
+stand Decode word words pieces (replay capture requests options) is spells are = absurd are
 
 behind : (all : List (List ℕ)) (word : List ℕ) (words : List (List ℕ)) → all ≡ word ∷ words → words ≡ drop 1 all
 behind all word words is = sym (ap (drop 1) is)
@@ -58,54 +74,71 @@ in_front : (all : List (List ℕ)) (word first : List ℕ) (words : List (List �
 in_front all word first words is at =
     let front : slice_get all 0 ≡ Some word = ap (λ (ws : List (List ℕ)). slice_get ws 0) is in cc
 
+-- the word of a command is found
+word_found : (name : CommandName) → command_named (word_of name) ≡ Some name
+unfolding command_named
+word_found Replay = refl
+word_found Decode = refl
+
 -- no command has that word
 pub no_name : (all : List (List ℕ)) (first : List ℕ) → slice_get all 0 ≡ Some first → command_named first ≡ None → (command : Command) → StandFor all command → ⊥
-unfolding command_named
 no_name all first at none command stands =
-    let of = of_replay all command stands in
-    let is : first ≡ word_of Replay = in_front all of.word first of.words of.all_are at ∙ of.word_is in
-    let found : command_named (word_of Replay) ≡ None = sym (ap command_named is) ∙ none in
+    let of = is_of all command stands in
+    let found : command_named first ≡ Some of.name = ap command_named (in_front all of.word first of.words of.all_are at ∙ of.word_is) ∙ word_found of.name in
     cc
 
+-- the command of words, by the first of them
+one_name : (all : List (List ℕ)) (first : List ℕ) (name : CommandName) (command : Command) (of : IsOf all command) → slice_get all 0 ≡ Some first → command_named first ≡ Some name → of.name ≡ name
+one_name all first name command of at named =
+    let found : command_named first ≡ Some of.name = ap command_named (in_front all of.word first of.words of.all_are at ∙ of.word_is) ∙ word_found of.name in
+    in_some of.name name (sym found ∙ named)
+
 -- the word of a command that was found
-pub name_found : (first : List ℕ) → command_named first ≡ Some Replay → first ≡ word_of Replay
+pub name_found : (first : List ℕ) (name : CommandName) → command_named first ≡ Some name → first ≡ word_of name
 unfolding command_named
-name_found first is = by_same (bytes_eq first (word_of Replay)) refl is
+name_found first name is = by_same (bytes_eq (word_of Replay) first) (bytes_eq (word_of Decode) first) refl refl is
   where
-    by_same : (same : Bool) → bytes_eq first (word_of Replay) ≡ same → (if same then Some Replay else None) ≡ Some Replay → first ≡ word_of Replay
-    by_same true e is = (bytes_eq-Decides first (word_of Replay)).0 e
-    by_same false e is = absurd cc
+    by_same : (replays decodes : Bool) → bytes_eq (word_of Replay) first ≡ replays → bytes_eq (word_of Decode) first ≡ decodes
+        → (if replays then Some Replay else if decodes then Some Decode else None) ≡ Some name → first ≡ word_of name
+    by_same true decodes e f is = sym ((bytes_eq-Decides (word_of Replay) first).0 e) ∙ ap word_of (in_some Replay name is)
+    by_same false true e f is = sym ((bytes_eq-Decides (word_of Decode) first).0 f) ∙ ap word_of (in_some Decode name is)
+    by_same false false e f is = absurd cc
 
 -- words that aren't whole
-pub not_whole : (name : CommandName) (all : List (List ℕ)) → are_whole name Any (drop 1 all) ≡ false → (command : Command) → StandFor all command → ⊥
-not_whole Replay all other command stands =
-    let of = of_replay all command stands in
-    let whole : are_whole Replay Any of.words ≡ true = (spelled_read Replay of.words of.pieces of.spells).whole in
-    let same : are_whole Replay Any of.words ≡ are_whole Replay Any (drop 1 all) = ap (are_whole Replay Any) (behind all of.word of.words of.all_are) in
+pub not_whole : (name : CommandName) (all : List (List ℕ)) (first : List ℕ) → slice_get all 0 ≡ Some first → command_named first ≡ Some name
+    → are_whole name Any (drop 1 all) ≡ false → (command : Command) → StandFor all command → ⊥
+not_whole name all first at named other command stands =
+    let of = is_of all command stands in
+    let whole : are_whole of.name Any of.words ≡ true = (spelled_read of.name of.words of.pieces of.spells).whole in
+    let same : are_whole of.name Any of.words ≡ are_whole name Any (drop 1 all) =
+    ap (are_whole of.name Any) (behind all of.word of.words of.all_are) ∙ ap (λ (n : CommandName). are_whole n Any (drop 1 all)) (one_name all first name command of at named) in
     cc
 
 -- the pieces are those that were read
-pieces_read : (all : List (List ℕ)) (command : Command) (of : IsOfReplay all command) → of.pieces ≡ pieces_from Any (drop 1 all)
+pieces_read : (all : List (List ℕ)) (command : Command) (of : IsOf all command) → of.pieces ≡ pieces_from Any (drop 1 all)
 pieces_read all command of =
-    sym (spelled_read Replay of.words of.pieces of.spells).pieces_are ∙ ap (pieces_from Any) (behind all of.word of.words of.all_are)
+    sym (spelled_read of.name of.words of.pieces of.spells).pieces_are ∙ ap (pieces_from Any) (behind all of.word of.words of.all_are)
+
+-- what stands behind the words, by the first of them
+are_read : (all : List (List ℕ)) (first : List ℕ) (name : CommandName) (command : Command) → slice_get all 0 ≡ Some first → command_named first ≡ Some name → StandFor all command
+    → AreOf name (pieces_from Any (drop 1 all)) command
+are_read all first name command at named stands =
+    let of = is_of all command stands in
+    let here : AreOf name of.pieces command = subst (λ (n : CommandName). AreOf n of.pieces command) (one_name all first name command of at named) of.are in
+    subst (λ (ps : List Piece). AreOf name ps command) (pieces_read all command of) here
 
 -- what was read is what the words stand for
 abbrev pub IsCommand : List (List ℕ) → Option code.Command → Type 0
 IsCommand all result = MatchOption result ((command : Command) → StandFor all command → ⊥) (λ found. StandFor all (command_of found))
 
 pub read_is : (name : CommandName) (all : List (List ℕ)) (first : List ℕ) (result : Option code.Command) → slice_get all 0 ≡ Some first → all ≡ first ∷ drop 1 all → command_named first ≡ Some name
-    → are_whole name Any (drop 1 all) ≡ true → IsReadReplay (pieces_from Any (drop 1 all)) result → IsCommand all result
-read_is Replay all first None at front named whole read = λ command stands.
-    let of = of_replay all command stands in
-    read of.capture of.requests of.options (subst (λ (ps : List Piece). AreOfReplay ps of.capture of.requests of.options) (pieces_read all command of) of.are)
-read_is Replay all first (Some (variant.Replay capture requests options)) at front named whole read =
-    let stands = for_replay first (drop 1 all) (pieces_from Any (drop 1 all)) capture.now requests.now (options_of options) (name_found first named) (whole_spelled Replay (drop 1 all) whole) read in
-    subst (λ (ws : List (List ℕ)). StandFor ws (replay capture.now requests.now (options_of options))) (sym front) stands
+    → are_whole name Any (drop 1 all) ≡ true → IsRead name (pieces_from Any (drop 1 all)) result → IsCommand all result
+read_is name all first None at front named whole read = λ command stands. read command (are_read all first name command at named stands)
+read_is name all first (Some found) at front named whole read =
+    let stands = stand name first (drop 1 all) (pieces_from Any (drop 1 all)) (command_of found) (name_found first name named) (whole_spelled name (drop 1 all) whole) read in
+    subst (λ (ws : List (List ℕ)). StandFor ws (command_of found)) (sym front) stands
 
 -- words stand for one command at most
-in_some : {A : Type 0} (x y : A) → ◌≡◌ {A = Option A} (Some x) (Some y) → x ≡ y
-in_some x y e = cc
-
 same_setting : {A : Type 0} (o : Option A) (x y : A) → o ≡ Some x → o ≡ Some y → x ≡ y
 same_setting o x y a b = in_some x y (sym a ∙ b)
 
@@ -135,13 +168,23 @@ same_replay pieces capture requests capture' requests' options options' a b =
     let second : requests ≡ requests' = cc in
     cc
 
+same_are : (name : CommandName) (pieces : List Piece) (one other : Command) → AreOf name pieces one → AreOf name pieces other → one ≡ other
+same_are Replay pieces (replay capture requests options) (replay capture' requests' options') a b = same_replay pieces capture requests capture' requests' options options' a b
+same_are Decode pieces (decode hex) (decode hex') a b =
+    let texts : ◌≡◌ {A = List (List ℕ)} (hex ∷ []) (hex' ∷ []) = sym a.operand_is ∙ b.operand_is in
+    let same : hex ≡ hex' = cc in
+    ap decode same
+same_are Replay pieces (replay capture requests options) (decode hex) a b = absurd b
+same_are Replay pieces (decode hex) other a b = absurd a
+same_are Decode pieces (decode hex) (replay capture requests options) a b = absurd b
+same_are Decode pieces (replay capture requests options) other a b = absurd a
+
 pub one_stands : (all : List (List ℕ)) (one other : Command) → StandFor all one → StandFor all other → one ≡ other
 one_stands all one other a b =
-    let of = of_replay all one a in
-    let of' = of_replay all other b in
-    let pieces : of.pieces ≡ of'.pieces = pieces_read all one of ∙ sym (pieces_read all other of') in
-    let are : AreOfReplay of'.pieces of.capture of.requests of.options = subst (λ (ps : List Piece). AreOfReplay ps of.capture of.requests of.options) pieces of.are in
-    of.command_is ∙ same_replay of'.pieces of.capture of.requests of'.capture of'.requests of.options of'.options are of'.are ∙ sym of'.command_is
+    let of = is_of all one a in
+    let at : slice_get all 0 ≡ Some of.word = ap (λ (ws : List (List ℕ)). slice_get ws 0) of.all_are in
+    let named : command_named of.word ≡ Some of.name = ap command_named of.word_is ∙ word_found of.name in
+    same_are of.name (pieces_from Any (drop 1 all)) one other (are_read all of.word of.name one at named a) (are_read all of.word of.name other at named b)
 
 -- what holds where there is none
 pub where_none : {X : Type 0} (r : Option X) (P : Type 0) (Q : X → Type 0) → is_some r ≡ false → MatchOption r P Q → P

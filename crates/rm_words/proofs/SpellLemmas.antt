@@ -1,11 +1,10 @@
 -- The words that are pieces.
 use Rattle.std.proofs.Common.{◌≡◌, ℕ, ◌+◌, length, List, [], ◌∷◌, ◌++◌, map, drop, Bool, true, false, refl, sym, ap, subst, ◌∙◌}
-use Rattle.std.specs.Prelude.{◌&&◌, ◌==◌, not, codes, if◌then◌else◌}
-use Rattle.rm_words.specs.Names.{name_of, takes, takes_value}
+use Rattle.std.specs.Prelude.{◌&&◌, ◌==◌, not, if◌then◌else◌}
+use Rattle.rm_words.specs.Names.{name_of}
 use Rattle.rm_words.specs.Grammar.{Piece, operand, gives, dashes, is_plain, Spells, none, end, plain, flag, separate, joined}
-use Rattle.rm_words.specs.Parts.{part_of, next_of, may_stand, may_end, are_whole, pieces_in, pieces_from, plain_part, dashed_part, alone_part, joined_part}
+use Rattle.rm_words.specs.Parts.{part_of, next_of, may_stand, are_whole, pieces_in, pieces_from, plain_part, dashed_part}
 use Rattle.rm_words.specs.declared.names.CommandName.{CommandName}
-use Rattle.rm_words.specs.declared.names.OptionName.{OptionName}
 use Rattle.rm_words.specs.declared.parts.Expected.{Expected}
 use Rattle.rm_words.specs.declared.parts.Expected.TheVariants as expected
 use Rattle.rm_words.specs.declared.parts.Part.{Part}

@@ -1,5 +1,5 @@
 -- Words that are read one by one.
-use Rattle.std.proofs.Common.{◌≡◌, ℕ, zero, suc, ◌+◌, ◌-◌, ◌≤◌, List, [], ◌∷◌, ◌++◌, drop, length, Option, Some, None, Bool, true, false, refl, sym, ap, subst, ◌∙◌, append_assoc, arith}
+use Rattle.std.proofs.Common.{◌≡◌, ℕ, suc, ◌+◌, ◌≤◌, List, [], ◌∷◌, ◌++◌, drop, length, Option, Some, None, Bool, true, false, refl, sym, ap, ◌∙◌, append_assoc, arith}
 use Rattle.std.specs.Borrow.{Bor}
 use Rattle.std.specs.Option.{is_some}
 use Rattle.rm_words.specs.Scan.{so_far}
@@ -9,7 +9,7 @@ use Rattle.std.proofs.lemmas.Grind.{common_steps}
 use Rattle.std.proofs.lemmas.List.{drop_more}
 use Rattle.std.proofs.lemmas.Option.{get_or_from_slice_get, slice_get_within}
 use Rattle.rm_words.specs.Names.{name_of}
-use Rattle.rm_words.specs.Grammar.{Piece, operand, gives, operands, values_of}
+use Rattle.rm_words.specs.Grammar.{Piece, gives, operands, values_of}
 use Rattle.rm_words.specs.Parts.{part_of, next_of, is_operand, may_stand, are_whole, pieces_in, pieces_from, values_in, value_if}
 use Rattle.rm_words.specs.declared.names.CommandName.{CommandName}
 use Rattle.rm_words.specs.declared.names.OptionName.{OptionName}

@@ -1,12 +1,12 @@
 -- Which words stand for which command.
-use Rattle.std.specs.Prelude.{◌≡◌, ◌≤◌, ◌<◌, ℕ, List, [], ◌∷◌, ◌++◌, length, map, not, ◌&&◌, ◌==◌, nat_le, Bool, true, false, codes, if◌then◌else◌, Option, Some, None}
+use Rattle.std.specs.Prelude.{◌≡◌, ℕ, List, [], ◌∷◌, ◌++◌, length, map, not, ◌%◌, ◌&&◌, ◌==◌, nat_le, Bool, true, false, codes, if◌then◌else◌, Option, Some, None}
 use Rattle.std.specs.Str.{bytes_eq, all_ascii_digits}
 use Rattle.std.specs.Str.Parse.{digits_value}
 use Rattle.std.specs.List.{list_all, slice_index}
-use Rattle.std.specs.Char.{is_ascii_graphic}
+use Rattle.std.specs.Char.{is_ascii_graphic, is_ascii_hexdigit}
 use Rattle.rm_words.specs.Names.{word_of, takes, name_of, takes_value}
 use Rattle.rm_words.specs.declared.names.CommandName.{CommandName}
-use Rattle.rm_words.specs.declared.names.CommandName.TheVariants.{Replay}
+use Rattle.rm_words.specs.declared.names.CommandName.TheVariants.{Replay, Decode}
 use Rattle.rm_words.specs.declared.names.OptionName.{OptionName}
 use Rattle.rm_words.specs.declared.names.OptionName.TheVariants.{Hosts, Pairs, Upper, Lead, KeepShort, Read, Write}
 
@@ -66,6 +66,10 @@ number_within low high text =
 unfoldable pub is_community : List ℕ → Bool
 is_community text = nat_le 1 (length text) && nat_le (length text) 64 && not (slice_index text 0 == 45) && list_all is_ascii_graphic text
 
+-- octets in hexadecimal digits of either case, two for each: 1 to 65535 of them
+unfoldable pub is_hex : List ℕ → Bool
+is_hex text = nat_le 1 (length text) && nat_le (length text) 131070 && (length text % 2 == 0) && list_all is_ascii_hexdigit text
+
 abbrev pub community_of : List ℕ → Option (List ℕ)
 community_of text = if is_community text then Some text else None
 
@@ -103,6 +107,7 @@ pub record AreOptions (pieces : List Piece) (options : Options) : Type 0 where
 -- a command with its operands and options
 pub data Command : Type 0 where
   replay : (capture requests : List ℕ) (options : Options) → Command
+  decode : (hex : List ℕ) → Command
 
 -- the operands and options of `replay`: the capture and the request file
 pub record AreOfReplay (pieces : List Piece) (capture requests : List ℕ) (options : Options) : Type 0 where
@@ -111,8 +116,16 @@ pub record AreOfReplay (pieces : List Piece) (capture requests : List ℕ) (opti
   pub requests_are : is_name requests ≡ true
   pub options_are : AreOptions pieces options
 
+-- the operand of `decode`: octets in hexadecimal digits
+pub record AreOfDecode (pieces : List Piece) (hex : List ℕ) : Type 0 where
+  pub operand_is : operands pieces ≡ hex ∷ []
+  pub hex_is : is_hex hex ≡ true
+
 -- Which words stand for which command, a line for each command: its word, and what stands behind it.
 pub data StandFor : List (List ℕ) → Command → Type 0 where
   for_replay : (word : List ℕ) (words : List (List ℕ)) (pieces : List Piece) (capture requests : List ℕ) (options : Options)
       → word ≡ word_of Replay → Spells Replay words pieces → AreOfReplay pieces capture requests options
       → StandFor (word ∷ words) (replay capture requests options)
+  for_decode : (word : List ℕ) (words : List (List ℕ)) (pieces : List Piece) (hex : List ℕ)
+      → word ≡ word_of Decode → Spells Decode words pieces → AreOfDecode pieces hex
+      → StandFor (word ∷ words) (decode hex)

@@ -1,18 +1,20 @@
 -- The names of commands and of options.
-use Rattle.std.specs.Prelude.{ℕ, List, [], ◌∷◌, find, Bool, true, false, codes, if◌then◌else◌, Option, Some, None}
+use Rattle.std.specs.Prelude.{ℕ, List, [], ◌∷◌, find, Bool, true, false, codes, Option}
 use Rattle.std.specs.Str.{bytes_eq}
 use Rattle.rm_words.specs.declared.names.CommandName.{CommandName}
-use Rattle.rm_words.specs.declared.names.CommandName.TheVariants.{Replay}
+use Rattle.rm_words.specs.declared.names.CommandName.TheVariants.{Replay, Decode}
 use Rattle.rm_words.specs.declared.names.OptionName.{OptionName}
 use Rattle.rm_words.specs.declared.names.OptionName.TheVariants.{Hosts, Pairs, Upper, Lead, KeepShort, Read, Write}
 
 -- the word of a command
 abbrev pub word_of : CommandName → List ℕ
 word_of Replay = codes "replay"
+word_of Decode = codes "decode"
 
 -- the options of a command
 abbrev pub takes : CommandName → OptionName → Bool
 takes Replay option = true
+takes Decode option = false
 
 -- the name of an option
 abbrev pub name_of : OptionName → List ℕ
@@ -34,9 +36,12 @@ takes_value KeepShort = false
 takes_value Read = true
 takes_value Write = true
 
+abbrev pub commands : List CommandName
+commands = Replay ∷ Decode ∷ []
+
 -- the command of a word
 unfoldable pub command_named : List ℕ → Option CommandName
-command_named word = if bytes_eq word (word_of Replay) then Some Replay else None
+command_named word = find (λ command. bytes_eq (word_of command) word) commands
 
 abbrev pub options : List OptionName
 options = Hosts ∷ Pairs ∷ Upper ∷ Lead ∷ KeepShort ∷ Read ∷ Write ∷ []

@@ -1,5 +1,5 @@
 -- The words one by one, as they are read.
-use Rattle.std.specs.Prelude.{◌≡◌, ℕ, ◌+◌, List, [], ◌∷◌, ◌++◌, ◌&&◌, ◌==◌, Bool, true, false, if◌then◌else◌, Option, Some, None, position, take, drop}
+use Rattle.std.specs.Prelude.{ℕ, ◌+◌, List, [], ◌∷◌, ◌++◌, ◌&&◌, ◌==◌, Bool, true, false, if◌then◌else◌, Option, Some, None, position, take, drop}
 use Rattle.std.specs.Str.{bytes_eq}
 use Rattle.rm_words.specs.Grammar.{Piece, operand, gives}
 use Rattle.rm_words.specs.Names.{takes, name_of, takes_value, option_named}

@@ -3,12 +3,14 @@ ghost use Rattle.std.specs.Prelude.{◌≡◌, ◌≤◌, length, drop, MatchOpt
 ghost use Rattle.rm_words.specs.Grammar.{AreOptions, Options, StandFor, is_name, operands};
 ghost use Rattle.rm_words.specs.Grammar.{Command as Meant};
 ghost use Rattle.rm_words.specs.Parts.{pieces_from};
-ghost use Rattle.rm_words.specs.Told.{AreTwoNames, IsReadReplay, command_of, options_of};
+ghost use Rattle.rm_words.specs.Told.{AreTwoNames, IsRead, command_of, options_of};
+ghost use Rattle.rm_words.specs.declared.names.CommandName.TheVariants.{Decode, Replay};
 ghost use Rattle.rm_words.specs.declared.parts.Expected.TheVariants.{Any};
 
 use crate::names::{CommandName, OptionName};
 use crate::options::RunOptions;
 use crate::scan::{are_whole, community_of, is_given, number_of, operand};
+use crate::values::is_hex;
 use rm_edge::Words;
 
 /// A command, with its operands and options.
@@ -20,6 +22,10 @@ pub enum Command<'a> {
         requests: &'a str,
         options: RunOptions,
     },
+    /// Shows the message that octets are. They are in hexadecimal digits, two for each, at most 131,070.
+    Decode {
+        hex: &'a str,
+    },
 }
 
 /// The command that words stand for. None comes exactly where they stand for none.
@@ -27,7 +33,7 @@ pub enum Command<'a> {
 /// The first word is that of the command. Options and operands follow in any order, the operands in that of the command. An
 /// option stands once at most, as `--name value` or `--name=value`, and its name isn't shortened; `--keep-short` has no value.
 /// Behind a word `--` all words are operands. Before it, a word that begins with a dash and has more characters is an option.
-/// An operand isn't empty, a number is one to ten decimal digits within its range, and a community 1 to 64 characters from `!`
+/// An operand isn't empty. Octets are an even number of hexadecimal digits, at most 131,070. A number is one to ten decimal digits within its range, and a community 1 to 64 characters from `!`
 /// to `~` that don't begin with a dash.
 pub fn read_command(words: &Words) -> Option<Command<'_>>
     ensures { MatchOption result ((command : Meant) → StandFor words.now command → ⊥) (λ found. StandFor words.now (command_of found)) }
@@ -43,13 +49,14 @@ pub fn read_command(words: &Words) -> Option<Command<'_>>
     }
     match name {
         CommandName::Replay => read_replay(words),
+        CommandName::Decode => read_decode(words),
     }
 }
 
 // The command `replay` of words that are whole.
 fn read_replay(words: &Words) -> Option<Command<'_>>
     requires { 1 ≤ length words.now }
-    ensures { IsReadReplay (pieces_from Any (drop 1 words.now)) result }
+    ensures { IsRead Replay (pieces_from Any (drop 1 words.now)) result }
 {
     let (capture, requests) = two_names(words)?;
     let options = run_options(words)?;
@@ -58,6 +65,18 @@ fn read_replay(words: &Words) -> Option<Command<'_>>
         requests,
         options,
     })
+}
+
+// The command `decode` of words that are whole.
+fn read_decode(words: &Words) -> Option<Command<'_>>
+    requires { 1 ≤ length words.now }
+    ensures { IsRead Decode (pieces_from Any (drop 1 words.now)) result }
+{
+    let hex = operand(words, 0)?;
+    if operand(words, 1).is_some() || !is_hex(hex.as_bytes()) {
+        return None;
+    }
+    Some(Command::Decode { hex })
 }
 
 // The operands, where they are two names of files.

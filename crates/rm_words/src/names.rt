@@ -1,11 +1,12 @@
 // The names of commands and of options.
 ghost use Rattle.std.specs.Prelude.{◌≡◌};
-ghost use Rattle.rm_words.specs.Names.{name_of, command_named, option_named, takes, takes_value};
+ghost use Rattle.rm_words.specs.Names.{word_of, name_of, command_named, option_named, takes, takes_value};
 
 /// The word that a command begins with.
 #[derive(Clone, Copy, Debug, PartialEq, Eq)]
 pub enum CommandName {
     Replay,
+    Decode,
 }
 
 /// An option of a command.
@@ -27,6 +28,9 @@ pub enum OptionName {
     Write,
 }
 
+/// All commands.
+const COMMANDS: [CommandName; 2] = [CommandName::Replay, CommandName::Decode];
+
 /// All options.
 const OPTIONS: [OptionName; 7] = [
     OptionName::Hosts,
@@ -39,16 +43,25 @@ const OPTIONS: [OptionName; 7] = [
 ];
 
 impl CommandName {
+    /// The word.
+    fn word(self) -> &'static str
+        ensures { result.now ≡ word_of self }
+    {
+        match self {
+            CommandName::Replay => "replay",
+            CommandName::Decode => "decode",
+        }
+    }
+
     /// The command of a word.
     #[tactic(auto, unfolding(crate::specs::Names::command_named))]
     pub fn named(word: &str) -> Option<CommandName>
         ensures { result ≡ command_named word.now }
     {
-        if word == "replay" {
-            Some(CommandName::Replay)
-        } else {
-            None
-        }
+        COMMANDS
+            .iter()
+            .copied()
+            .find(|command| command.word() == word)
     }
 
     /// Whether the command has the option.
@@ -57,6 +70,7 @@ impl CommandName {
     {
         match self {
             CommandName::Replay => true,
+            CommandName::Decode => false,
         }
     }
 }

@@ -34,6 +34,7 @@ fn told(alloc: Global, text: &str) -> Result<String, Fail> {
             str::from_utf8(&options.read)?,
             str::from_utf8(&options.write)?
         )?),
+        Some(Command::Decode { hex }) => Ok(String::from_str(alloc, hex)?),
     }
 }
 
@@ -50,6 +51,8 @@ fn a_command_is_read(rt: HostRuntime) -> Result<(), Fail> {
             "--c - 1024 1024 2 5 false public a=b",
         ),
         ("replay c", "none"),
+        ("decode 3024", "3024"),
+        ("decode 303", "none"),
     ] {
         let told = told(rt.alloc(), text)?;
         assert_eq!(rt; told.as_str(), command);

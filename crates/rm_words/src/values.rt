@@ -1,8 +1,8 @@
 // What the value of an option is.
 ghost use Rattle.std.specs.Prelude.{◌≡◌, ◌≤◌, IfSome, IsTrue, MatchOption, Some, None, length};
 ghost use Rattle.std.specs.List.{list_all};
-ghost use Rattle.std.specs.Char.{is_ascii_graphic};
-ghost use Rattle.rm_words.specs.Grammar.{number_within, community_of, is_community};
+ghost use Rattle.std.specs.Char.{is_ascii_graphic, is_ascii_hexdigit};
+ghost use Rattle.rm_words.specs.Grammar.{number_within, community_of, is_community, is_hex};
 
 use arrayvec::ArrayVec;
 
@@ -35,6 +35,23 @@ fn is_visible(text: &[u8]) -> bool
     ensures { result ≡ list_all is_ascii_graphic text.now }
 {
     text.iter().all(|c| c.is_ascii_graphic())
+}
+
+fn are_hex_digits(text: &[u8]) -> bool
+    ensures { result ≡ list_all is_ascii_hexdigit text.now }
+{
+    text.iter().all(|c| c.is_ascii_hexdigit())
+}
+
+/// Whether a text is octets in hexadecimal digits, two for each, at most 131,070.
+#[tactic(auto, unfolding(crate::specs::Grammar::is_hex))]
+pub fn is_hex(text: &[u8]) -> bool
+    ensures { result ≡ is_hex text.now }
+{
+    if text.is_empty() || text.len() > 131_070 || text.len() % 2 != 0 {
+        return false;
+    }
+    are_hex_digits(text)
 }
 
 #[tactic(auto, unfolding(crate::specs::Grammar::is_community))]

@@ -1,31 +1,89 @@
-use Rattle.std.proofs.Common.{ℕ, ◌+◌, List}
-use Rattle.rm_words.specs.Grammar.{Options}
-use Rattle.rm_words.specs.Told.{options_of}
+use Rattle.std.proofs.Common.{◌≡◌, ◌⊎◌, ◌+◌, List, ℕ, subst, ap}
+use Rattle.rm_edge.specs.Outside.{Rose}
+use Rattle.rm_words.specs.Grammar.{StandFor}
+use Rattle.rm_words.specs.Told.{options_of, command_of}
+use Rattle.rm_words.specs.declared.command.Command.{Command}
 use Rattle.rm_probe.specs.Ends.{IsExact, IsComplete}
-use Rattle.rm_cmd.specs.Commands.{EndsWith}
-use Rattle.rm_cmd.proofs.CommandLemmas.{carries}
+use Rattle.rm_probe.specs.declared.status.Status.TheVariants.{Done, NoMemory}
+use Rattle.rm_cmd.specs.Commands.{EndsWith, Decodes}
+use Rattle.rm_cmd.proofs.CommandLemmas.{of_replay, no_decode, of_decode, no_replay, digits_of, done_or_none}
 use Rattle.rm_cmd.proofs.entry.run.Goals as goal
 
-pub returns-in-Some-clause-ends : goal.returns-in-Some-clause-ends
-returns-in-Some-clause-ends g c =
-    carries c.one_command.ensures c.args.words.now c.in-Some.capture.now c.in-Some.requests.now (options_of c.in-Some.options)
+stands : (words : List (List ℕ)) (found known : Command) → found ≡ known → StandFor words (command_of found) → StandFor words (command_of known)
+stands words found known same is = subst (StandFor words) (ap command_of same) is
+
+pub returns-in-Some-Replay-clause-ends : goal.returns-in-Some-Replay-clause-ends
+returns-in-Some-Replay-clause-ends g c =
+    of_replay c.one_command.ensures c.args.words.now c.in-Some-Replay.capture.now c.in-Some-Replay.requests.now (options_of c.in-Some-Replay.options)
     (λ capture requests options.
     EndsWith options (g.F.Shelf.held c.args.shelf.now capture) (g.F.Shelf.held c.args.shelf.now requests)
     (g.F.Shelf.faults c.args.shelf.now capture + g.F.Shelf.faults c.args.shelf.now requests) (g.F.Shelf.faults c.run_replay.new.shelf capture + g.F.Shelf.faults c.run_replay.new.shelf requests)
     (g.K.Sink.faults c.args.out.now) (g.K.Sink.faults c.run_replay.new.out) (g.K.Sink.content c.args.out.now) (g.K.Sink.content c.run_replay.new.out) c.run_replay.result)
-    c.in-Some.ensures c.run_replay.ensures.ends
+    (stands c.args.words.now c.in-Some-Replay.field-0 _ c.in-Some-Replay.field-0-is c.in-Some-Replay.ensures) c.run_replay.ensures.ends
 
-pub returns-in-Some-clause-exact : goal.returns-in-Some-clause-exact
-returns-in-Some-clause-exact g c =
-    carries c.one_command.ensures c.args.words.now c.in-Some.capture.now c.in-Some.requests.now (options_of c.in-Some.options)
+pub returns-in-Some-Replay-clause-exact : goal.returns-in-Some-Replay-clause-exact
+returns-in-Some-Replay-clause-exact g c =
+    of_replay c.one_command.ensures c.args.words.now c.in-Some-Replay.capture.now c.in-Some-Replay.requests.now (options_of c.in-Some-Replay.options)
     (λ capture requests options. IsExact options.lead (g.F.Shelf.held c.args.shelf.now capture) (g.F.Shelf.held c.args.shelf.now requests) c.run_replay.result)
-    c.in-Some.ensures c.run_replay.ensures.exact
+    (stands c.args.words.now c.in-Some-Replay.field-0 _ c.in-Some-Replay.field-0-is c.in-Some-Replay.ensures) c.run_replay.ensures.exact
 
-pub returns-in-Some-clause-complete : goal.returns-in-Some-clause-complete
-returns-in-Some-clause-complete g c =
-    carries c.one_command.ensures c.args.words.now c.in-Some.capture.now c.in-Some.requests.now (options_of c.in-Some.options)
+pub returns-in-Some-Replay-clause-complete : goal.returns-in-Some-Replay-clause-complete
+returns-in-Some-Replay-clause-complete g c =
+    of_replay c.one_command.ensures c.args.words.now c.in-Some-Replay.capture.now c.in-Some-Replay.requests.now (options_of c.in-Some-Replay.options)
     (λ capture requests options.
     IsComplete options.lead (g.F.Shelf.held c.args.shelf.now capture) (g.F.Shelf.held c.args.shelf.now requests)
     (g.F.Shelf.faults c.args.shelf.now capture + g.F.Shelf.faults c.args.shelf.now requests) (g.F.Shelf.faults c.run_replay.new.shelf capture + g.F.Shelf.faults c.run_replay.new.shelf requests)
     (g.K.Sink.faults c.args.out.now) (g.K.Sink.faults c.run_replay.new.out) c.run_replay.result)
-    c.in-Some.ensures c.run_replay.ensures.complete
+    (stands c.args.words.now c.in-Some-Replay.field-0 _ c.in-Some-Replay.field-0-is c.in-Some-Replay.ensures) c.run_replay.ensures.complete
+
+pub returns-in-Some-Replay-clause-decodes : goal.returns-in-Some-Replay-clause-decodes
+returns-in-Some-Replay-clause-decodes g c =
+    no_decode c.one_command.ensures c.args.words.now c.in-Some-Replay.capture.now c.in-Some-Replay.requests.now (options_of c.in-Some-Replay.options)
+    (λ octets. Decodes octets (g.K.Sink.faults c.args.out.now) (g.K.Sink.faults c.run_replay.new.out) (g.K.Sink.content c.args.out.now) (g.K.Sink.content c.run_replay.new.out) c.run_replay.result)
+    (stands c.args.words.now c.in-Some-Replay.field-0 _ c.in-Some-Replay.field-0-is c.in-Some-Replay.ensures)
+
+pub returns-in-Some-Replay-clause-decodes_whole : goal.returns-in-Some-Replay-clause-decodes_whole
+returns-in-Some-Replay-clause-decodes_whole g c =
+    no_decode c.one_command.ensures c.args.words.now c.in-Some-Replay.capture.now c.in-Some-Replay.requests.now (options_of c.in-Some-Replay.options)
+    (λ octets. (Rose (g.K.Sink.faults c.args.out.now) (g.K.Sink.faults c.run_replay.new.out) → ⊥) → (c.run_replay.result ≡ Done) ⊎ (c.run_replay.result ≡ NoMemory))
+    (stands c.args.words.now c.in-Some-Replay.field-0 _ c.in-Some-Replay.field-0-is c.in-Some-Replay.ensures)
+
+pub returns-in-Some-Decode-clause-ends : goal.returns-in-Some-Decode-clause-ends
+returns-in-Some-Decode-clause-ends g c =
+    no_replay c.one_command.ensures c.args.words.now c.in-Some-Decode.digits.now
+    (λ capture requests options.
+    EndsWith options (g.F.Shelf.held c.args.shelf.now capture) (g.F.Shelf.held c.args.shelf.now requests)
+    (g.F.Shelf.faults c.args.shelf.now capture + g.F.Shelf.faults c.args.shelf.now requests) (g.F.Shelf.faults c.args.shelf.now capture + g.F.Shelf.faults c.args.shelf.now requests)
+    (g.K.Sink.faults c.args.out.now) (g.K.Sink.faults c.run_decode.new.out) (g.K.Sink.content c.args.out.now) (g.K.Sink.content c.run_decode.new.out) c.run_decode.result)
+    (stands c.args.words.now c.in-Some-Decode.field-0 _ c.in-Some-Decode.field-0-is c.in-Some-Decode.ensures)
+
+pub returns-in-Some-Decode-clause-exact : goal.returns-in-Some-Decode-clause-exact
+returns-in-Some-Decode-clause-exact g c =
+    no_replay c.one_command.ensures c.args.words.now c.in-Some-Decode.digits.now
+    (λ capture requests options. IsExact options.lead (g.F.Shelf.held c.args.shelf.now capture) (g.F.Shelf.held c.args.shelf.now requests) c.run_decode.result)
+    (stands c.args.words.now c.in-Some-Decode.field-0 _ c.in-Some-Decode.field-0-is c.in-Some-Decode.ensures)
+
+pub returns-in-Some-Decode-clause-complete : goal.returns-in-Some-Decode-clause-complete
+returns-in-Some-Decode-clause-complete g c =
+    no_replay c.one_command.ensures c.args.words.now c.in-Some-Decode.digits.now
+    (λ capture requests options.
+    IsComplete options.lead (g.F.Shelf.held c.args.shelf.now capture) (g.F.Shelf.held c.args.shelf.now requests)
+    (g.F.Shelf.faults c.args.shelf.now capture + g.F.Shelf.faults c.args.shelf.now requests) (g.F.Shelf.faults c.args.shelf.now capture + g.F.Shelf.faults c.args.shelf.now requests)
+    (g.K.Sink.faults c.args.out.now) (g.K.Sink.faults c.run_decode.new.out) c.run_decode.result)
+    (stands c.args.words.now c.in-Some-Decode.field-0 _ c.in-Some-Decode.field-0-is c.in-Some-Decode.ensures)
+
+pub returns-in-Some-Decode-clause-decodes : goal.returns-in-Some-Decode-clause-decodes
+returns-in-Some-Decode-clause-decodes g c =
+    of_decode c.one_command.ensures c.args.words.now c.in-Some-Decode.digits.now
+    (λ octets. Decodes octets (g.K.Sink.faults c.args.out.now) (g.K.Sink.faults c.run_decode.new.out) (g.K.Sink.content c.args.out.now) (g.K.Sink.content c.run_decode.new.out) c.run_decode.result)
+    (stands c.args.words.now c.in-Some-Decode.field-0 _ c.in-Some-Decode.field-0-is c.in-Some-Decode.ensures) c.run_decode.ensures.decodes
+
+pub returns-in-Some-Decode-clause-decodes_whole : goal.returns-in-Some-Decode-clause-decodes_whole
+returns-in-Some-Decode-clause-decodes_whole g c =
+    let (octets, is, how) = c.run_decode.ensures.decodes in
+    of_decode c.one_command.ensures c.args.words.now c.in-Some-Decode.digits.now
+    (λ octets. (Rose (g.K.Sink.faults c.args.out.now) (g.K.Sink.faults c.run_decode.new.out) → ⊥) → (c.run_decode.result ≡ Done) ⊎ (c.run_decode.result ≡ NoMemory))
+    (stands c.args.words.now c.in-Some-Decode.field-0 _ c.in-Some-Decode.field-0-is c.in-Some-Decode.ensures) (octets, is, done_or_none octets _ _ _ _ c.run_decode.result how)
+
+pub run_decode-requires : goal.run_decode-requires
+run_decode-requires g c = record { digits = digits_of c.args.words.now c.in-Some-Decode.digits.now (stands c.args.words.now c.in-Some-Decode.field-0 _ c.in-Some-Decode.field-0-is c.in-Some-Decode.ensures) }

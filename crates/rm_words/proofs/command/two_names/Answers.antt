@@ -1,4 +1,4 @@
-use Rattle.std.proofs.Common.{sym, ◌∙◌}
+use Rattle.std.proofs.Common.{sym}
 use Rattle.rm_words.proofs.CommandLemmas.{two_operands, where_none}
 use Rattle.rm_words.proofs.command.two_names.Goals as goal
 

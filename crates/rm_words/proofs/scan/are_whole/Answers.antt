@@ -1,6 +1,6 @@
-use Rattle.std.proofs.Common.{◌≡◌, ℕ, ◌+◌, List, drop, Some, true, false, refl, sym, ap, ◌∙◌}
-use Rattle.std.specs.Prelude.{◌&&◌, slice_get}
-use Rattle.rm_words.specs.Parts.{are_whole, may_stand, next_of}
+use Rattle.std.proofs.Common.{◌≡◌, Some, true, false, refl, sym, ap, ◌∙◌}
+use Rattle.std.specs.Prelude.{slice_get}
+use Rattle.rm_words.specs.Parts.{may_stand, next_of}
 use Rattle.rm_words.proofs.WordLemmas.{IsRead, whole_more}
 use Rattle.rm_words.proofs.scan.are_whole.Goals as goal
 

@@ -1,8 +1,7 @@
-use Rattle.std.proofs.Common.{◌≡◌, ℕ, zero, suc, ◌+◌, ◌-◌, List, ◌∷◌, drop, Some, Bool, true, false, refl, sym, ap, ◌∙◌, arith}
-use Rattle.std.specs.Prelude.{slice_get, if◌then◌else◌}
-use Rattle.rm_words.specs.Grammar.{operands}
-use Rattle.rm_words.specs.Parts.{is_operand, next_of, pieces_from}
-use Rattle.rm_words.proofs.WordLemmas.{IsRead, operands_more, operand_here, operand_behind, no_operand}
+use Rattle.std.proofs.Common.{◌≡◌, Some, true, false, refl, sym, ap, ◌∙◌, arith}
+use Rattle.std.specs.Prelude.{slice_get}
+use Rattle.rm_words.specs.Parts.{is_operand, next_of}
+use Rattle.rm_words.proofs.WordLemmas.{IsRead, operand_here, operand_behind, no_operand}
 use Rattle.rm_words.proofs.scan.operand.Goals as goal
 use Rattle.rm_words.proofs.scan.operand.Goals.{then-is_operand+else-left-eq0, else-is_operand}
 

@@ -1,7 +1,6 @@
-use Rattle.std.proofs.Common.{◌≡◌, ℕ, ◌+◌, ◌≤◌, List, [], ◌∷◌, ◌++◌, length, drop, Some, true, false, refl, sym, ap, ◌∙◌, append_assoc, arith}
+use Rattle.std.proofs.Common.{◌≡◌, ℕ, ◌≤◌, List, [], ◌++◌, length, Some, refl, sym, ap, ◌∙◌}
 use Rattle.std.specs.Prelude.{slice_get}
-use Rattle.rm_words.specs.Grammar.{values_of}
-use Rattle.rm_words.specs.Parts.{next_of, pieces_from, values_in}
+use Rattle.rm_words.specs.Parts.{next_of, values_in}
 use Rattle.rm_words.specs.Scan.{so_far}
 use Rattle.rm_words.proofs.WordLemmas.{IsRead, values_more, given_again, some_given, none_given, one_value, goes_on, stays}
 use Rattle.rm_words.proofs.scan.value_of.Goals as goal
