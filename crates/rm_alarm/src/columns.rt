@@ -1,5 +1,5 @@
 // The columns of a row of alarmTable.
-ghost use Rattle.std.specs.Prelude.{◌≡◌};
+ghost use Rattle.std.specs.Prelude.{◌≡◌, refl};
 
 use crate::column::{
     FALLING_EVENT_INDEX, FALLING_THRESHOLD, INDEX, INTERVAL, OWNER, RISING_EVENT_INDEX,
@@ -11,8 +11,7 @@ use crate::startup_alarm::StartupAlarm;
 use crate::thresholds::Thresholds;
 use arrayvec::ArrayVec;
 use rm_columns::{
-    ControlRow, ControlSheet, Numbered, index_of_one, is_one_number, name_in, number_in,
-    one_number, put_text, same_text,
+    ControlRow, ControlSheet, Numbered, OneNumber, name_in, number_in, put_text, same_text,
 };
 use rm_group::TableObjects;
 use rm_model::Setting::{Empty, NoName, Number};
@@ -82,6 +81,8 @@ impl Default for AlarmRow {
 }
 
 impl ControlRow for AlarmRow {
+    type Keys = OneNumber;
+
     ghost use Rattle.rm_val.specs.Spellable.{IsSpellable};
     ghost use Rattle.rm_alarm.specs.Rows.{variable_kept};
     ghost use Rattle.rm_alarm.specs.RowLaws.{alarm_rows};
@@ -92,28 +93,10 @@ impl ControlRow for AlarmRow {
 
     ghost default_is_blank = { λ row is. is };
 
+    ghost keyed = { (refl, refl) };
+
     fn table() -> ControlSheet {
         TABLE
-    }
-
-    fn index(number: u32) -> Oid {
-        index_of_one(number)
-    }
-
-    fn number(name: &Oid, from: usize) -> Option<u32> {
-        one_number(name, from)
-    }
-
-    fn is_row(number: u32) -> bool {
-        is_one_number(number)
-    }
-
-    fn is_fixed(_index: u32, _column: u32) -> bool {
-        false
-    }
-
-    fn stays(_index: u32) -> bool {
-        false
     }
 
     fn blank(_index: u32) -> Self {

@@ -9,15 +9,19 @@ ghost use Rattle.rm_model.specs.Sheet.{columns_of};
 ghost use Rattle.rm_columns.specs.Field.{shown_with};
 ghost use Rattle.rm_columns.specs.RowForm.{RowForm};
 
-use crate::columns::Columns;
 use crate::control_sheet::ControlSheet;
+use crate::row_keys::RowKeys;
 use rm_model::ColumnSheet;
 use rm_val::{Oid, Value};
 
 /// A row of a control table, in the form in which a group keeps it: the columns that can be set, its status left out, and other data
-/// of the row. The default is a new row with the index 0, which is no row's.
+/// of the row. A type of rows is that of one table, which it describes as data: how a Set is judged, and what a row shows, follow
+/// from the description once for all tables. The default is a new row with the index 0, which is no row's.
 pub trait ControlRow: Default + Drop {
-    /// Its form.
+    /// The indexes of the rows, and what goes by them.
+    type Keys: RowKeys;
+
+    /// The form of the rows.
     ghost form: { RowForm Self };
 
     /// Whether what the columns show has a spelling. It always has, where no column takes a name.
@@ -33,37 +37,9 @@ pub trait ControlRow: Default + Drop {
         ensures room { result.most ≤ 32 }
         ensures columns { columns_of result.columns.now ≡ form.table.columns };
 
-    /// The identifier of the table's entry.
-    fn entry() -> Oid
-        ensures { result ≡ form.table.entry }
-    {
-        Oid::from_slice(Self::table().objects.entry).unwrap()
-    }
-
     /// A new row with that index.
     fn blank(index: u32) -> Self
         ensures { result ≡ form.blank index };
-
-    /// The index of the row that has a number.
-    fn index(number: u32) -> Oid
-        ensures { result ≡ row_index form.table number };
-
-    /// The number of the row whose index is what a name has from a place on. None where that can be the index of no row.
-    fn number(name: &Oid, from: usize) -> Option<u32>
-        requires { from ≤ length name.now }
-        ensures { result ≡ form.table.indexing.number_of (drop from name.now) };
-
-    /// Whether a row can have a number.
-    fn is_row(number: u32) -> bool
-        ensures { result ≡ is_row_number form.table number };
-
-    /// Whether a column of a row can never be set.
-    fn is_fixed(index: u32, column: u32) -> bool
-        ensures { result ≡ form.table.rules.is_fixed (row_index form.table index) column };
-
-    /// Whether a row was there from the beginning and stays.
-    fn stays(index: u32) -> bool
-        ensures { result ≡ form.table.rules.stays (row_index form.table index) };
 
     /// Sets a column to a value that it takes.
     fn put(&mut self, column: u32, value: &Value<'_>)
@@ -86,74 +62,65 @@ pub trait ControlRow: Default + Drop {
 
     /// The default of the type is a new row with the index 0, which is no row's.
     ghost default_is_blank: { (row : Self) → Self.Default.is_default row → row ≡ form.blank 0 };
-}
 
-impl<R: ControlRow> Columns for R {
-    ghost table = { R.form.table };
+    /// The keys are those of the table.
+    ghost keyed: { (form.table.indexing ≡ Self.Keys.indexing) × (form.table.rules ≡ Self.Keys.rules) };
 
-    ghost set_to = { R.form.set_to };
-
-    ghost blank_row = { R.form.blank };
-
-    ghost with_column = { R.form.with_column };
-
-    ghost spelled = { R.spelled };
-
-    fn sheet() -> &'static [ColumnSheet] {
-        R::table().columns
+    /// The identifier of the table's entry.
+    final fn entry() -> Oid
+        ensures { result ≡ form.table.entry }
+    {
+        Oid::from_slice(Self::table().objects.entry).unwrap()
     }
 
-    fn most() -> usize {
-        R::table().most
+    /// The description of the writable columns beside the status, in the order of the table.
+    final fn sheet() -> &'static [ColumnSheet]
+        ensures { columns_of result.now ≡ form.table.columns }
+    {
+        Self::table().columns
     }
 
-    fn index(number: u32) -> Oid {
-        <R as ControlRow>::index(number)
+    /// How many rows there are at most. There is room for 32.
+    final fn most() -> usize
+        ensures value { result ≡ form.table.most }
+        ensures room { result ≤ 32 }
+    {
+        Self::table().most
     }
 
-    fn number(name: &Oid, from: usize) -> Option<u32> {
-        <R as ControlRow>::number(name, from)
+    /// The index of the row that has a number.
+    final fn index(number: u32) -> Oid
+        ensures { result ≡ row_index form.table number }
+    {
+        Self::Keys::index(number)
     }
 
-    fn is_row(number: u32) -> bool {
-        <R as ControlRow>::is_row(number)
+    /// The number of the row whose index is what a name has from a place on. None where that can be the index of no row.
+    final fn number(name: &Oid, from: usize) -> Option<u32>
+        requires { from ≤ length name.now }
+        ensures { result ≡ form.table.indexing.number_of (drop from name.now) }
+    {
+        Self::Keys::number(name, from)
     }
 
-    fn is_fixed(index: u32, column: u32) -> bool {
-        <R as ControlRow>::is_fixed(index, column)
+    /// Whether a row can have a number.
+    final fn is_row(number: u32) -> bool
+        ensures { result ≡ is_row_number form.table number }
+    {
+        Self::Keys::is_row(number)
     }
 
-    fn stays(index: u32) -> bool {
-        <R as ControlRow>::stays(index)
+    /// Whether a column of a row can never be set.
+    final fn is_fixed(row: u32, column: u32) -> bool
+        ensures { result ≡ form.table.rules.is_fixed (row_index form.table row) column }
+    {
+        Self::Keys::is_fixed(row, column)
     }
 
-    fn blank(index: u32) -> Self {
-        <R as ControlRow>::blank(index)
+    /// Whether a row was there from the beginning and stays.
+    final fn stays(row: u32) -> bool
+        ensures { result ≡ form.table.rules.stays (row_index form.table row) }
+    {
+        Self::Keys::stays(row)
     }
-
-    fn put(&mut self, column: u32, value: &Value<'_>) {
-        ControlRow::put(self, column, value);
-    }
-
-    fn show(&self, column: u32) -> Option<Value<'_>> {
-        ControlRow::show(self, column)
-    }
-
-    fn agree(&self) -> bool {
-        ControlRow::agree(self)
-    }
-
-    fn bare(&self) -> Self {
-        ControlRow::bare(self)
-    }
-
-    ghost default_is_blank = { λ row is. R.default_is_blank row is };
-
-    ghost blank_alike = { R.form.blank_alike };
-
-    ghost set_with = { R.form.set_with };
-
-    ghost sound = { R.form.sound };
-
-    ghost apart = { R.form.apart };
 }

@@ -2,24 +2,22 @@
 //! and what it shows.
 #![tactic(auto)]
 
-mod columns;
 mod control_row;
 mod control_sheet;
 mod interface;
 mod numbered;
-mod numbers;
+mod row_keys;
 mod sheet;
 #[cfg(test)]
 mod tests;
 mod values;
 
-pub use columns::Columns;
 pub use control_row::ControlRow;
 pub use control_sheet::ControlSheet;
 pub use interface::{interface_name, source};
 pub use numbered::Numbered;
-pub use numbers::{index_of_one, is_one_number, one_number};
 pub use rm_model::INTERFACES;
+pub use row_keys::{OneNumber, RowKeys};
 pub use sheet::{check, is_ready, may_always, shown};
 pub use values::{
     counter_32, interface_in, name_in, natural_in, number_in, put_text, same_text, short_in,

@@ -10,7 +10,7 @@ ghost use Rattle.rm_model.specs.Sheet.{range_of, kind_of, is_always, setting_val
 ghost use Rattle.rm_columns.specs.Field.{kind_in};
 ghost use Rattle.rm_columns.specs.Field.{shows};
 
-use crate::columns::Columns;
+use crate::control_row::ControlRow;
 use crate::interface::interface_name;
 use crate::values::{number_fault, source_fault, text_fault};
 use rm_model::{ColumnKind, ColumnSheet, Settable, Setting, Span};
@@ -18,31 +18,31 @@ use rm_val::{ErrorStatus, Oid, Value};
 
 /// What is wrong with a value for a column of a table (RFC 1905, section 4.2.5): notWritable for a column that isn't writable,
 /// the status among them, else wrongType, wrongLength or wrongValue. None where the column takes the value.
-pub fn check<C: Columns>(column: u32, value: &Value<'_>) -> Option<ErrorStatus>
-    ensures { result ≡ value_fault (column_kind C.table column) (val_of value.now) }
+pub fn check<C: ControlRow>(column: u32, value: &Value<'_>) -> Option<ErrorStatus>
+    ensures { result ≡ value_fault (column_kind C.form.table column) (val_of value.now) }
 {
     fault_in(C::sheet(), column, value)
 }
 
 /// Whether a column may be set while its row is valid too.
-pub fn may_always<C: Columns>(column: u32) -> bool
-    ensures { result ≡ may_always C.table column }
+pub fn may_always<C: ControlRow>(column: u32) -> bool
+    ensures { result ≡ may_always C.form.table column }
 {
     always_in(C::sheet(), column)
 }
 
 /// Whether a row with these columns is ready, but for what only a `Look` can tell.
-pub fn is_ready<C: Columns>(row: &C) -> bool
-    ensures { result ≡ is_ready C.table (of_columns C.table (C.set_to row.now)) }
+pub fn is_ready<C: ControlRow>(row: &C) -> bool
+    ensures { result ≡ is_ready C.form.table (of_columns C.form.table (C.form.set_to row.now)) }
 {
     has_needed(row, C::sheet()) && row.agree()
 }
 
 /// What a column shows, with `other` for one that isn't among the writable ones.
-pub fn shown<'a, C: Columns>(row: &'a C, column: u32, other: Value<'a>) -> Value<'a>
+pub fn shown<'a, C: ControlRow>(row: &'a C, column: u32, other: Value<'a>) -> Value<'a>
     requires spelled { C.spelled row.now }
     requires spelling { HasSpelling (val_of other) }
-    ensures value { val_of result ≡ (if is_some (table_column C.table column) then shows C.table C.set_to row.now column else val_of other.entry) }
+    ensures value { val_of result ≡ (if is_some (table_column C.form.table column) then shows C.form.table C.form.set_to row.now column else val_of other.entry) }
     ensures spelling { HasSpelling (val_of result) }
 {
     match column_in(C::sheet(), column) {
@@ -55,20 +55,20 @@ pub fn shown<'a, C: Columns>(row: &'a C, column: u32, other: Value<'a>) -> Value
 }
 
 // Whether each column that a row needs was set.
-fn has_needed<C: Columns>(row: &C, columns: &[ColumnSheet]) -> bool
-    ensures { result ≡ list_all (λ c. not c.needed || is_some (C.set_to row.now c.number)) (columns_of columns.now) }
+fn has_needed<C: ControlRow>(row: &C, columns: &[ColumnSheet]) -> bool
+    ensures { result ≡ list_all (λ c. not c.needed || is_some (C.form.set_to row.now c.number)) (columns_of columns.now) }
 {
     !missing(row, columns).is_some()
 }
 
-fn missing<'a, C: Columns>(row: &C, columns: &'a [ColumnSheet]) -> Option<&'a ColumnSheet>
-    ensures { option_copied result ≡ find (λ c. c.needed && is_none (C.set_to row.now c.number)) columns.now }
+fn missing<'a, C: ControlRow>(row: &C, columns: &'a [ColumnSheet]) -> Option<&'a ColumnSheet>
+    ensures { option_copied result ≡ find (λ c. c.needed && is_none (C.form.set_to row.now c.number)) columns.now }
 {
     columns.iter().find(|column| is_missing(row, column))
 }
 
-fn is_missing<C: Columns>(row: &C, column: &ColumnSheet) -> bool
-    ensures { result ≡ (column.now.needed && is_none (C.set_to row.now column.now.number)) }
+fn is_missing<C: ControlRow>(row: &C, column: &ColumnSheet) -> bool
+    ensures { result ≡ (column.now.needed && is_none (C.form.set_to row.now column.now.number)) }
 {
     column.needed && row.show(column.number).is_none()
 }

@@ -1,11 +1,10 @@
 // A row of etherStats.
-ghost use Rattle.std.specs.Prelude.{◌≡◌};
+ghost use Rattle.std.specs.Prelude.{◌≡◌, refl};
 
 use crate::statistics::Statistics;
 use arrayvec::ArrayVec;
 use rm_columns::{
-    ControlRow, ControlSheet, index_of_one, interface_in, interface_name, is_one_number,
-    one_number, put_text, same_text,
+    ControlRow, ControlSheet, OneNumber, interface_in, interface_name, put_text, same_text,
 };
 use rm_group::TableObjects;
 use rm_model::Setting::{Empty, Interface};
@@ -77,34 +76,18 @@ impl Default for StatisticsRow {
 }
 
 impl ControlRow for StatisticsRow {
+    type Keys = OneNumber;
+
     ghost use Rattle.rm_ether.specs.StatisticsRows.{statistics_rows};
 
     ghost form = { statistics_rows };
 
     ghost default_is_blank = { λ row is. is };
 
+    ghost keyed = { (refl, refl) };
+
     fn table() -> ControlSheet {
         TABLE
-    }
-
-    fn index(number: u32) -> Oid {
-        index_of_one(number)
-    }
-
-    fn number(name: &Oid, from: usize) -> Option<u32> {
-        one_number(name, from)
-    }
-
-    fn is_row(number: u32) -> bool {
-        is_one_number(number)
-    }
-
-    fn is_fixed(_index: u32, _column: u32) -> bool {
-        false
-    }
-
-    fn stays(_index: u32) -> bool {
-        false
     }
 
     fn blank(_index: u32) -> Self {

@@ -1,13 +1,10 @@
 // The columns of a row of eventTable.
-ghost use Rattle.std.specs.Prelude.{◌≡◌};
+ghost use Rattle.std.specs.Prelude.{◌≡◌, refl};
 ghost use Rattle.rm_event.specs.EventRows.{blank_row, event_rows};
 
 use crate::event_type::EventType;
 use arrayvec::ArrayVec;
-use rm_columns::{
-    ControlRow, ControlSheet, Numbered, index_of_one, is_one_number, one_number, put_text,
-    same_text,
-};
+use rm_columns::{ControlRow, ControlSheet, Numbered, OneNumber, put_text, same_text};
 use rm_group::TableObjects;
 use rm_model::Setting::{Empty, Number};
 use rm_model::{ColumnKind, StatusKind, column, numbers};
@@ -66,32 +63,16 @@ impl Default for EventRow {
 }
 
 impl ControlRow for EventRow {
+    type Keys = OneNumber;
+
     ghost form = { event_rows };
 
     ghost default_is_blank = { λ row is. is };
 
+    ghost keyed = { (refl, refl) };
+
     fn table() -> ControlSheet {
         TABLE
-    }
-
-    fn index(number: u32) -> Oid {
-        index_of_one(number)
-    }
-
-    fn number(name: &Oid, from: usize) -> Option<u32> {
-        one_number(name, from)
-    }
-
-    fn is_row(number: u32) -> bool {
-        is_one_number(number)
-    }
-
-    fn is_fixed(_index: u32, _column: u32) -> bool {
-        false
-    }
-
-    fn stays(_index: u32) -> bool {
-        false
     }
 
     fn blank(_index: u32) -> Self {

@@ -1,11 +1,11 @@
 // The columns of a row of historyControl that can be set.
-ghost use Rattle.std.specs.Prelude.{◌≡◌};
+ghost use Rattle.std.specs.Prelude.{◌≡◌, refl};
 ghost use Rattle.rm_history.specs.ControlColumns.{blank_columns, control_rows};
 
 use arrayvec::ArrayVec;
 use rm_columns::{
-    ControlRow, ControlSheet, index_of_one, interface_in, interface_name, is_one_number,
-    one_number, put_text, same_text, short_in,
+    ControlRow, ControlSheet, OneNumber, interface_in, interface_name, put_text, same_text,
+    short_in,
 };
 use rm_group::TableObjects;
 use rm_model::Setting::{Empty, Interface, Number};
@@ -65,32 +65,16 @@ impl Default for ControlColumns {
 }
 
 impl ControlRow for ControlColumns {
+    type Keys = OneNumber;
+
     ghost form = { control_rows };
 
     ghost default_is_blank = { λ columns is. is };
 
+    ghost keyed = { (refl, refl) };
+
     fn table() -> ControlSheet {
         TABLE
-    }
-
-    fn index(number: u32) -> Oid {
-        index_of_one(number)
-    }
-
-    fn number(name: &Oid, from: usize) -> Option<u32> {
-        one_number(name, from)
-    }
-
-    fn is_row(number: u32) -> bool {
-        is_one_number(number)
-    }
-
-    fn is_fixed(_index: u32, _column: u32) -> bool {
-        false
-    }
-
-    fn stays(_index: u32) -> bool {
-        false
     }
 
     fn blank(_index: u32) -> Self {

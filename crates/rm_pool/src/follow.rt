@@ -11,15 +11,15 @@ use crate::begin::Begin;
 use crate::part::Part;
 use crate::pool::Pool;
 use crate::slot::Slot;
-use rm_columns::Columns;
+use rm_columns::ControlRow;
 use rm_model::State;
 use rm_status::Controls;
 
 impl<P: Part> Pool<P> {
     /// Makes the parts spare whose rows aren't valid, and begins one for each valid row that has none. There is storage for all
     /// valid rows.
-    pub fn follow<C: Columns, B: Begin<P>>(&mut self, rows: &Controls<C>, how: &B)
-        requires { count_valid C.table (rows_before C.table C.set_to rows.now) ≤ length self.old }
+    pub fn follow<C: ControlRow, B: Begin<P>>(&mut self, rows: &Controls<C>, how: &B)
+        requires { count_valid C.form.table (rows_before C.form.table C.form.set_to rows.now) ≤ length self.old }
         ensures of_valid { IsOfValid self.new rows.now }
         ensures stays { (row : ℕ) → valid_in rows.now row ≡ true → has_part self.old row ≡ true → part_in self.new row ≡ part_in self.old row }
         ensures begun { (row : ℕ) → valid_in rows.now row ≡ true → part_in self.old row ≡ None → IsThere (B.begun how.now row) (part_in self.new row) }
@@ -31,7 +31,7 @@ impl<P: Part> Pool<P> {
     }
 
     /// Makes the parts spare whose rows aren't valid.
-    pub fn release<C: Columns>(&mut self, rows: &Controls<C>)
+    pub fn release<C: ControlRow>(&mut self, rows: &Controls<C>)
         ensures parts { (row : ℕ) → part_in self.new row ≡ (if valid_in rows.now row then part_in self.old row else None) }
         ensures size { length self.new ≡ length self.old }
     {
@@ -39,7 +39,7 @@ impl<P: Part> Pool<P> {
     }
 
     // Begins a part for each valid row that has none.
-    fn begin_each<C: Columns, B: Begin<P>>(&mut self, rows: &Controls<C>, how: &B)
+    fn begin_each<C: ControlRow, B: Begin<P>>(&mut self, rows: &Controls<C>, how: &B)
         requires used { (row : ℕ) → has_part self.old row ≡ true → valid_in rows.now row ≡ true }
         requires enough { count_below (valid_in rows.now) (2 ^ 32) ≤ length self.old }
         ensures { AreBegun (valid_in rows.now) (B.begun how.now) self.old self.new (2 ^ 32) }
@@ -53,7 +53,7 @@ impl<P: Part> Pool<P> {
     }
 
     // Begins the part of a row, where the row is valid and has none.
-    fn begin_of<C: Columns, B: Begin<P>>(&mut self, rows: &Controls<C>, row: u32, how: &B)
+    fn begin_of<C: ControlRow, B: Begin<P>>(&mut self, rows: &Controls<C>, row: u32, how: &B)
         requires used { (other : ℕ) → has_part self.old other ≡ true → valid_in rows.now other ≡ true }
         requires enough { count_below (valid_in rows.now) (2 ^ 32) ≤ length self.old }
         ensures begun { valid_in rows.now row ≡ true → part_in self.old row ≡ None → IsThere (B.begun how.now row) (part_in self.new row) }
@@ -77,7 +77,7 @@ impl<P: Part> Pool<P> {
 }
 
 // Makes the parts spare whose rows aren't valid.
-fn release_all<P: Part, C: Columns>(slots: &mut Option<Vec<Slot<P>>>, rows: &Controls<C>)
+fn release_all<P: Part, C: ControlRow>(slots: &mut Option<Vec<Slot<P>>>, rows: &Controls<C>)
     ensures { kept slots.new ≡ map (released (valid_in rows.now)) (kept slots.old) }
 {
     if let Some(slots) = slots {
@@ -86,7 +86,7 @@ fn release_all<P: Part, C: Columns>(slots: &mut Option<Vec<Slot<P>>>, rows: &Con
 }
 
 // Makes the parts spare whose rows aren't valid.
-fn release_in<P: Part, C: Columns>(slots: &mut [Slot<P>], rows: &Controls<C>)
+fn release_in<P: Part, C: ControlRow>(slots: &mut [Slot<P>], rows: &Controls<C>)
     ensures { slots.new ≡ map (released (valid_in rows.now)) slots.old }
 {
     for slot in slots.iter_mut() {
@@ -95,7 +95,7 @@ fn release_in<P: Part, C: Columns>(slots: &mut [Slot<P>], rows: &Controls<C>)
 }
 
 // Makes a part spare whose row isn't valid.
-fn release_one<P: Part, C: Columns>(slot: &mut Slot<P>, rows: &Controls<C>)
+fn release_one<P: Part, C: ControlRow>(slot: &mut Slot<P>, rows: &Controls<C>)
     ensures { slot.new ≡ released (valid_in rows.now) slot.old }
 {
     if let Some(row) = slot.row {
@@ -106,7 +106,7 @@ fn release_one<P: Part, C: Columns>(slot: &mut Slot<P>, rows: &Controls<C>)
 }
 
 // Whether a row is valid.
-fn is_valid<C: Columns>(rows: &Controls<C>, row: u32) -> bool
+fn is_valid<C: ControlRow>(rows: &Controls<C>, row: u32) -> bool
     ensures { result ≡ valid_in rows.now row }
 {
     matches!(rows.state(row), State::Valid)

@@ -7,12 +7,14 @@ use Rattle.arrayvec.specs.contracts.array_vec.ArrayVec as vector
 use Rattle.rm_status.specs.Rows.{with_columns, with_columns_at}
 use Rattle.rm_status.specs.contracts.row.Row as row
 use Rattle.rm_status.specs.contracts.controls.Controls.{the_row}
-use Rattle.rm_columns.specs.declared.columns.Columns as Columns
+use Rattle.rm_columns.specs.declared.control_row.ControlRow as ControlRow
+use Rattle.rm_columns.specs.declared.row_keys.RowKeys as RowKeys
 use Rattle.std.specs.declared.default.Default as Default
 
 -- the row of that index ends with the columns last written through r
-abbrev pub lends_columns : (C : RattleType) (columns : Columns.Ghosts C.Denot) (blank : Default.Ghosts C.Denot) → MutBor (List (Row C.Denot)) → ℕ → Option (MutBor C.Denot) → Fml
-lends_columns C columns blank rows i r = LendsIf (the_row C columns blank) C rows r (with_columns rows.now i) rows.now
+abbrev pub lends_columns : (C Keys : RattleType) (columns : ControlRow.Ghosts C.Denot Keys.Denot) (blank : Default.Ghosts C.Denot) (keys : RowKeys.Ghosts Keys.Denot)
+    → MutBor (List (Row C.Denot)) → ℕ → Option (MutBor C.Denot) → Fml
+lends_columns C Keys columns blank keys rows i r = LendsIf (the_row C Keys columns blank keys) C rows r (with_columns rows.now i) rows.now
 
 -- the row at that place does
 abbrev pub lends_columns_at : (C N A : RattleType) → MutBor (ArrayVec (Row C.Denot)) → ℕ → Option (MutBor C.Denot) → Fml

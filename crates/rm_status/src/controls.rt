@@ -21,7 +21,7 @@ ghost use Rattle.rm_status.specs.Lending.{lends_columns, lends_columns_at};
 
 use crate::row::Row;
 use arrayvec::ArrayVec;
-use rm_columns::Columns;
+use rm_columns::ControlRow;
 use rm_model::{State, StatusKind};
 use rm_val::Oid;
 use std::marker::Model;
@@ -31,12 +31,12 @@ pub const MAX_ROWS: usize = 32;
 
 /// The rows of a control table, each under the number of its index, in order of these numbers and so of the indexes.
 #[derive(Drop)]
-pub struct Controls<C: Columns> {
+pub struct Controls<C: ControlRow> {
     rows: ArrayVec<Row<C>, MAX_ROWS>,
     kind: StatusKind,
 }
 
-impl<C: Columns> Model for Controls<C> {
+impl<C: ControlRow> Model for Controls<C> {
     ghost use Rattle.std.specs.Prelude.{List, ◌≡◌};
     ghost use Rattle.rm_status.specs.declared.row.Row.{Row};
     ghost use Rattle.rm_status.specs.Rows.{AreControlRows};
@@ -45,13 +45,13 @@ impl<C: Columns> Model for Controls<C> {
 
     ghost view = { λ s. s.rows.items };
 
-    ghost invariant = { λ s. (s.kind ≡ C.table.status_kind) × AreControlRows C.table s.rows.items };
+    ghost invariant = { λ s. (s.kind ≡ C.form.table.status_kind) × AreControlRows C.form.table s.rows.items };
 }
 
-impl<C: Columns> Controls<C> {
+impl<C: ControlRow> Controls<C> {
     /// A table without rows. Its status column is of the kind that the table's is.
     pub fn new(kind: StatusKind) -> Controls<C>
-        requires { kind ≡ C.table.status_kind }
+        requires { kind ≡ C.form.table.status_kind }
         ensures { result ≡ [] }
     {
         Controls {
@@ -64,7 +64,7 @@ impl<C: Columns> Controls<C> {
     pub fn len(&self) -> usize
         ensures value { result ≡ length self.now }
         ensures most { result ≤ 32 }
-        ensures rows { AreControlRows C.table self.now }
+        ensures rows { AreControlRows C.form.table self.now }
         ensures counted { result ≡ count_below (λ row. is_some (row_in self.now row)) (2 ^ 32) }
     {
         self.rows.len()
@@ -83,7 +83,7 @@ impl<C: Columns> Controls<C> {
     /// A row, which has a number that a row can have. None where there is no such row.
     pub fn row(&self, index: u32) -> Option<&Row<C>>
         ensures value { option_copied result ≡ row_in self.now index }
-        ensures index { OnSome result (IsTrue (is_row_number C.table index)) }
+        ensures index { OnSome result (IsTrue (is_row_number C.form.table index)) }
     {
         prove!(self.len() <= MAX_ROWS);
         self.find(index)
@@ -101,7 +101,7 @@ impl<C: Columns> Controls<C> {
 
     /// Lends the columns of a row for writing. Its state and all other rows stay. None where there is no such row.
     pub fn get_mut(&mut self, index: u32) -> Option<&mut C>
-        ensures* writes_back { sem 𝓛 (lends_columns C.row C.Columns.own C.Default self.entry index result) }
+        ensures* writes_back { sem 𝓛 (lends_columns C.row C.Keys.row C.ControlRow.own C.Default C.Keys.RowKeys self.entry index result) }
         ensures value { IfSome result (λ c. columns_in self.old index ≡ Some c.now) }
         ensures none { IfNone result (columns_in self.old index ≡ None) }
     {
@@ -112,7 +112,7 @@ impl<C: Columns> Controls<C> {
     /// The least number of a row above that one. None where there is no row above.
     pub fn after(&self, index: u32) -> Option<u32>
         ensures least { IsIndexAfter self.now index result }
-        ensures rows { AreControlRows C.table self.now }
+        ensures rows { AreControlRows C.form.table self.now }
     {
         let _ = &self.rows;
         match self.first_above(index) {
@@ -123,10 +123,10 @@ impl<C: Columns> Controls<C> {
 
     /// Puts in a row that there isn't yet, as one that a table has from the beginning.
     pub fn insert(&mut self, index: u32, state: State, columns: C)
-        requires index { IsTrue (is_row_number C.table index) }
+        requires index { IsTrue (is_row_number C.form.table index) }
         requires there { is_absent state ≡ false }
         requires absent { row_in self.old index ≡ None }
-        requires room { length self.old < C.table.most }
+        requires room { length self.old < C.form.table.most }
         ensures rows { let x : Row C = record { index = index; state = state; columns = columns } in (i : ℕ) → row_in self.new i ≡ (if nat_eq index i then Some x else row_in self.old i) }
         ensures one_more { length self.new ≡ length self.old + 1 }
     {
@@ -178,8 +178,8 @@ impl<C: Columns> Controls<C> {
 
     /// The first row whose index is above some numbers.
     pub(crate) fn first_behind(&self, index: &Oid) -> Option<&Row<C>>
-        ensures value { option_copied result ≡ find (λ r. is_lt (slice_cmp nat_cmp index.now (row_index C.table r.index))) self.now }
-        ensures rows { AreControlRows C.table self.now }
+        ensures value { option_copied result ≡ find (λ r. is_lt (slice_cmp nat_cmp index.now (row_index C.form.table r.index))) self.now }
+        ensures rows { AreControlRows C.form.table self.now }
     {
         let _ = &self.rows;
         self.rows
@@ -216,8 +216,8 @@ impl<C: Columns> Controls<C> {
 }
 
 // Whether the index of a row is above some numbers.
-fn is_behind<C: Columns>(row: &Row<C>, index: &Oid) -> bool
-    ensures { result ≡ is_lt (slice_cmp nat_cmp index.now (row_index C.table row.now.index)) }
+fn is_behind<C: ControlRow>(row: &Row<C>, index: &Oid) -> bool
+    ensures { result ≡ is_lt (slice_cmp nat_cmp index.now (row_index C.form.table row.now.index)) }
 {
     index.compare(&C::index(row.index)).is_lt()
 }

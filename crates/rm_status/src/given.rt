@@ -13,23 +13,23 @@ use crate::place::{is_cell, place_under};
 use crate::steps::{
     column_fault, fixed_fault, is_made, status_or_staying_fault, status_value_fault, value_ask,
 };
-use rm_columns::{Columns, check, may_always};
+use rm_columns::{ControlRow, check, may_always};
 use rm_group::{Assigns, wrong_at};
 use rm_model::{Ask, Place, State, StatusKind, Verdict};
 use rm_val::{ErrorStatus, Oid, Value};
 
 /// What a Set asks of a row.
-pub(crate) fn set_ask<C: Columns, A: Assigns>(
+pub(crate) fn set_ask<C: ControlRow, A: Assigns>(
     kind: StatusKind,
     set: &A,
     entry: &Oid,
     status: u32,
     row: u32,
 ) -> Ask
-    requires kind { kind ≡ C.table.status_kind }
-    requires entry { entry.now ≡ C.table.entry }
-    requires status { status ≡ C.table.status }
-    ensures { result ≡ set_ask C.table (A.bindings set.now) (row_index C.table row) }
+    requires kind { kind ≡ C.form.table.status_kind }
+    requires entry { entry.now ≡ C.form.table.entry }
+    requires status { status ≡ C.form.table.status }
+    ensures { result ≡ set_ask C.form.table (A.bindings set.now) (row_index C.form.table row) }
 {
     let count = set.count();
     for place in 0..count {
@@ -58,15 +58,15 @@ pub(crate) fn is_again<A: Assigns>(set: &A, place: usize) -> bool
 }
 
 /// What is wrong with a value for a column.
-fn column_value_fault<C: Columns>(
+fn column_value_fault<C: ControlRow>(
     kind: StatusKind,
     status: u32,
     column: u32,
     value: &Value<'_>,
 ) -> Option<ErrorStatus>
-    requires kind { kind ≡ C.table.status_kind }
-    requires status { status ≡ C.table.status }
-    ensures { result ≡ value_fault (writable_kind C.table column) (val_of value.now) }
+    requires kind { kind ≡ C.form.table.status_kind }
+    requires status { status ≡ C.form.table.status }
+    ensures { result ≡ value_fault (writable_kind C.form.table column) (val_of value.now) }
 {
     if column == status {
         status_value_fault(kind, value)
@@ -76,15 +76,15 @@ fn column_value_fault<C: Columns>(
 }
 
 /// What is wrong with a value alone, by where its name stands.
-pub(crate) fn alone_fault<C: Columns>(
+pub(crate) fn alone_fault<C: ControlRow>(
     kind: StatusKind,
     status: u32,
     place: Place,
     value: &Value<'_>,
 ) -> Option<ErrorStatus>
-    requires kind { kind ≡ C.table.status_kind }
-    requires status { status ≡ C.table.status }
-    ensures { result ≡ alone_fault C.table place (val_of value.now) }
+    requires kind { kind ≡ C.form.table.status_kind }
+    requires status { status ≡ C.form.table.status }
+    ensures { result ≡ alone_fault C.form.table place (val_of value.now) }
 {
     match place {
         Place::Outside => None,
@@ -107,16 +107,16 @@ pub(crate) fn alone_fault<C: Columns>(
 }
 
 /// The first pass of a Set on one table.
-pub(crate) fn judge_alone<C: Columns, A: Assigns>(
+pub(crate) fn judge_alone<C: ControlRow, A: Assigns>(
     kind: StatusKind,
     set: &A,
     entry: &Oid,
     status: u32,
 ) -> Verdict
-    requires kind { kind ≡ C.table.status_kind }
-    requires entry { entry.now ≡ C.table.entry }
-    requires status { status ≡ C.table.status }
-    ensures { IsFirstFault (length (A.bindings set.now)) (first_pass C.table (A.bindings set.now)) result }
+    requires kind { kind ≡ C.form.table.status_kind }
+    requires entry { entry.now ≡ C.form.table.entry }
+    requires status { status ≡ C.form.table.status }
+    ensures { IsFirstFault (length (A.bindings set.now)) (first_pass C.form.table (A.bindings set.now)) result }
 {
     let count = set.count();
     for place in 0..count {
@@ -133,7 +133,7 @@ pub(crate) fn judge_alone<C: Columns, A: Assigns>(
 
 /// What is wrong with the binding of a column of a row. `crowded` says that the Set makes too many rows, and `again` that an
 /// earlier binding names the same variable.
-pub(crate) fn row_fault<C: Columns>(
+pub(crate) fn row_fault<C: ControlRow>(
     kind: StatusKind,
     status: u32,
     row: u32,
@@ -144,9 +144,9 @@ pub(crate) fn row_fault<C: Columns>(
     again: bool,
     column: u32,
 ) -> Option<ErrorStatus>
-    requires kind { kind ≡ C.table.status_kind }
-    requires status { status ≡ C.table.status }
-    ensures { result ≡ row_fault C.table (row_index C.table row) state asked ready crowded again column }
+    requires kind { kind ≡ C.form.table.status_kind }
+    requires status { status ≡ C.form.table.status }
+    ensures { result ≡ row_fault C.form.table (row_index C.form.table row) state asked ready crowded again column }
 {
     if is_made(state, asked) && crowded {
         return Some(ErrorStatus::InconsistentName);
@@ -176,7 +176,7 @@ fn or_again(fault: Option<ErrorStatus>, again: bool) -> Option<ErrorStatus>
 }
 
 /// Puts one binding into a row's columns.
-fn put_one<C: Columns>(
+fn put_one<C: ControlRow>(
     columns: &mut C,
     entry: &Oid,
     status: u32,
@@ -184,11 +184,11 @@ fn put_one<C: Columns>(
     name: &Oid,
     value: &Value<'_>,
 )
-    requires entry { entry.now ≡ C.table.entry }
-    requires status { status ≡ C.table.status }
-    requires fine { alone_fault C.table (place_of C.table name.now) (val_of value.now) ≡ None }
+    requires entry { entry.now ≡ C.form.table.entry }
+    requires status { status ≡ C.form.table.status }
+    requires fine { alone_fault C.form.table (place_of C.form.table name.now) (val_of value.now) ≡ None }
     requires spelling { HasSpelling (val_of value.now) }
-    ensures { columns.new ≡ put_at C.table C.with_column C.blank_row row (place_of C.table name.now) (val_of value.now) columns.old }
+    ensures { columns.new ≡ put_at C.form.table C.form.with_column C.form.blank row (place_of C.form.table name.now) (val_of value.now) columns.old }
 {
     if let Place::Cell(column, number) = place_under::<C>(name, entry) {
         if number == row && column != status {
@@ -198,17 +198,17 @@ fn put_one<C: Columns>(
 }
 
 /// Puts the bindings of a row into its columns, so that of each variable the first one counts.
-pub(crate) fn put_all<C: Columns, A: Assigns>(
+pub(crate) fn put_all<C: ControlRow, A: Assigns>(
     columns: &mut C,
     set: &A,
     entry: &Oid,
     status: u32,
     row: u32,
 )
-    requires entry { entry.now ≡ C.table.entry }
-    requires status { status ≡ C.table.status }
-    requires fine { IsFirstFault (length (A.bindings set.now)) (first_pass C.table (A.bindings set.now)) Verdict.Fine }
-    ensures { columns.new ≡ put_all C.table C.with_column C.blank_row (A.bindings set.now) row columns.old }
+    requires entry { entry.now ≡ C.form.table.entry }
+    requires status { status ≡ C.form.table.status }
+    requires fine { IsFirstFault (length (A.bindings set.now)) (first_pass C.form.table (A.bindings set.now)) Verdict.Fine }
+    ensures { columns.new ≡ put_all C.form.table C.form.with_column C.form.blank (A.bindings set.now) row columns.old }
 {
     let mut place = set.count();
     while place > 0 {

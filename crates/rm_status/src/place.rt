@@ -7,13 +7,13 @@ ghost use Rattle.rm_model.specs.ControlRows.{cell_name};
 ghost use Rattle.rm_model.specs.Judgement.{place_behind};
 ghost use Rattle.rm_status.specs.Commit.{is_cell};
 
-use rm_columns::Columns;
+use rm_columns::ControlRow;
 use rm_model::Place;
 use rm_val::Oid;
 
 /// Where a name stands under an entry, by the indexes that the rows of a table can have.
-pub fn place_under<C: Columns>(name: &Oid, entry: &Oid) -> Place
-    ensures { result ≡ place_behind C.table (behind entry.now name.now) }
+pub fn place_under<C: ControlRow>(name: &Oid, entry: &Oid) -> Place
+    ensures { result ≡ place_behind C.form.table (behind entry.now name.now) }
 {
     if !name.starts_with(entry) {
         return Place::Outside;
@@ -30,8 +30,8 @@ pub fn place_under<C: Columns>(name: &Oid, entry: &Oid) -> Place
 }
 
 /// Whether a name is that of a column of a row.
-pub(crate) fn is_cell<C: Columns>(name: &Oid, entry: &Oid, column: u32, row: u32) -> bool
-    ensures { result ≡ bytes_eq name.now (cell_name entry.now column (row_index C.table row)) }
+pub(crate) fn is_cell<C: ControlRow>(name: &Oid, entry: &Oid, column: u32, row: u32) -> bool
+    ensures { result ≡ bytes_eq name.now (cell_name entry.now column (row_index C.form.table row)) }
 {
     is_at(place_under::<C>(name, entry), column, row)
 }

@@ -5,7 +5,7 @@ ghost use Rattle.rm_val.specs.Spellable.{HasSpelling};
 ghost use Rattle.rm_model.specs.ControlCells.{status_number, control_value};
 ghost use Rattle.rm_columns.specs.Field.{shows};
 
-use rm_columns::{Columns, shown};
+use rm_columns::{ControlRow, shown};
 use rm_model::{State, StatusKind};
 use rm_val::Value;
 
@@ -20,7 +20,7 @@ pub struct Row<C> {
     pub columns: C,
 }
 
-impl<C: Columns> Row<C> {
+impl<C: ControlRow> Row<C> {
     /// What a column of the row shows, with `other` for one that can't be set. `status` is the table's status column, which is of
     /// that kind.
     pub fn cell<'a>(
@@ -30,11 +30,11 @@ impl<C: Columns> Row<C> {
         column: u32,
         other: Value<'a>,
     ) -> Value<'a>
-        requires status { status ≡ C.table.status }
-        requires kind { kind ≡ C.table.status_kind }
+        requires status { status ≡ C.form.table.status }
+        requires kind { kind ≡ C.form.table.status_kind }
         requires spelled { C.spelled self.now.columns }
         requires spelling { HasSpelling (val_of other) }
-        ensures value { val_of result ≡ control_value C.table self.now.state (shows C.table C.set_to self.now.columns) (val_of other.entry) column }
+        ensures value { val_of result ≡ control_value C.form.table self.now.state (shows C.form.table C.form.set_to self.now.columns) (val_of other.entry) column }
         ensures spelling { HasSpelling (val_of result) }
     {
         if column == status {

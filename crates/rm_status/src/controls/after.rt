@@ -9,20 +9,20 @@ ghost use Rattle.rm_status.specs.Bare.{bare_rows};
 use crate::controls::{Controls, MAX_ROWS};
 use crate::row::Row;
 use arrayvec::ArrayVec;
-use rm_columns::Columns;
+use rm_columns::ControlRow;
 use rm_group::Assigns;
 use rm_model::Verdict;
 use rm_val::Oid;
 
-impl<C: Columns> Controls<C> {
+impl<C: ControlRow> Controls<C> {
     /// The rows as a Set will leave them with which both passes found nothing wrong. Their columns have none of the rows'
     /// other data.
     pub fn rows_after<A: Assigns>(&self, set: &A, entry: &Oid, status: u32) -> Controls<C>
-        requires entry { entry.now ≡ C.table.entry }
-        requires status { status ≡ C.table.status }
-        requires fine { IsFirstFault (length (A.bindings set.now)) (first_pass C.table (A.bindings set.now)) Verdict.Fine }
-        requires together { let bindings = A.bindings set.now in IsFirstFault (length bindings) (second_pass C.table (rows_before C.table C.set_to self.now) bindings) Verdict.Fine }
-        ensures { (i : ℕ) → state_in result i ≡ state_after C.table (rows_before C.table C.set_to self.now) (A.bindings set.now) (row_index C.table i) }
+        requires entry { entry.now ≡ C.form.table.entry }
+        requires status { status ≡ C.form.table.status }
+        requires fine { IsFirstFault (length (A.bindings set.now)) (first_pass C.form.table (A.bindings set.now)) Verdict.Fine }
+        requires together { let bindings = A.bindings set.now in IsFirstFault (length bindings) (second_pass C.form.table (rows_before C.form.table C.form.set_to self.now) bindings) Verdict.Fine }
+        ensures { (i : ℕ) → state_in result i ≡ state_after C.form.table (rows_before C.form.table C.form.set_to self.now) (A.bindings set.now) (row_index C.form.table i) }
     {
         let mut rows = self.bare();
         rows.commit(set, entry, status);
@@ -31,7 +31,7 @@ impl<C: Columns> Controls<C> {
 
     // The rows with nothing in their columns but what these were set to.
     fn bare(&self) -> Controls<C>
-        ensures { bare_rows C.set_to result ≡ bare_rows C.set_to self.now }
+        ensures { bare_rows C.form.set_to result ≡ bare_rows C.form.set_to self.now }
     {
         Controls {
             rows: bare_rows(&self.rows),
@@ -41,8 +41,8 @@ impl<C: Columns> Controls<C> {
 }
 
 // The same for rows where they are kept.
-fn bare_rows<C: Columns>(rows: &ArrayVec<Row<C>, MAX_ROWS>) -> ArrayVec<Row<C>, MAX_ROWS>
-    ensures { bare_rows C.set_to result.items ≡ bare_rows C.set_to rows.now.items }
+fn bare_rows<C: ControlRow>(rows: &ArrayVec<Row<C>, MAX_ROWS>) -> ArrayVec<Row<C>, MAX_ROWS>
+    ensures { bare_rows C.form.set_to result.items ≡ bare_rows C.form.set_to rows.now.items }
 {
     let mut bare = ArrayVec::new();
     for row in rows.as_slice() {

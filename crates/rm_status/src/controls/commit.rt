@@ -14,20 +14,20 @@ use crate::place::place_under;
 use crate::row::Row;
 use crate::steps::{is_made, next_state};
 use arrayvec::ArrayVec;
-use rm_columns::Columns;
+use rm_columns::ControlRow;
 use rm_group::Assigns;
 use rm_model::{Place, State, StatusKind, Verdict};
 use rm_val::Oid;
 
-impl<C: Columns> Controls<C> {
+impl<C: ControlRow> Controls<C> {
     /// Acts on the bindings of a Set with which both passes found nothing wrong. `entry` and `status` are the table's entry
     /// and its status column.
     pub fn commit<A: Assigns>(&mut self, set: &A, entry: &Oid, status: u32)
-        requires entry { entry.now ≡ C.table.entry }
-        requires status { status ≡ C.table.status }
-        requires fine { IsFirstFault (length (A.bindings set.now)) (first_pass C.table (A.bindings set.now)) Verdict.Fine }
-        requires together { let bindings = A.bindings set.now in IsFirstFault (length bindings) (second_pass C.table (rows_before C.table C.set_to self.old) bindings) Verdict.Fine }
-        ensures { let bindings = A.bindings set.now in (i : ℕ) → row_in self.new i ≡ row_after C.table C.with_column C.blank_row bindings i (row_in self.old i) }
+        requires entry { entry.now ≡ C.form.table.entry }
+        requires status { status ≡ C.form.table.status }
+        requires fine { IsFirstFault (length (A.bindings set.now)) (first_pass C.form.table (A.bindings set.now)) Verdict.Fine }
+        requires together { let bindings = A.bindings set.now in IsFirstFault (length bindings) (second_pass C.form.table (rows_before C.form.table C.form.set_to self.old) bindings) Verdict.Fine }
+        ensures { let bindings = A.bindings set.now in (i : ℕ) → row_in self.new i ≡ row_after C.form.table C.form.with_column C.form.blank bindings i (row_in self.old i) }
     {
         let _ = &self.rows;
         let count = set.count();
@@ -41,13 +41,13 @@ impl<C: Columns> Controls<C> {
 
     // Makes the row of the binding at a place, where that is a status by which the Set makes a row that there isn't yet.
     fn make_at<A: Assigns>(&mut self, set: &A, entry: &Oid, status: u32, place: usize)
-        requires entry { entry.now ≡ C.table.entry }
-        requires status { status ≡ C.table.status }
+        requires entry { entry.now ≡ C.form.table.entry }
+        requires status { status ≡ C.form.table.status }
         requires within { place < length (A.bindings set.now) }
-        requires fine { first_pass C.table (A.bindings set.now) place ≡ None }
-        requires room { let bindings = A.bindings set.now in (i : ℕ) → is_cell C.table.status i (place_of C.table (name_at bindings place)) ≡ true → is_made State.Absent (set_ask C.table bindings (row_index C.table i)) ≡ true → row_in self.old i ≡ None → length self.old < C.table.most }
-        ensures rows { let bindings = A.bindings set.now in (i : ℕ) → row_in self.new i ≡ option_or (row_in self.old i) (if is_cell C.table.status i (place_of C.table (name_at bindings place)) then made_row C.table C.with_column C.blank_row bindings i else None) }
-        ensures few { let bindings = A.bindings set.now in length self.new ≡ length self.old + made_now C.table C.with_column C.blank_row self.old bindings (place_of C.table (name_at bindings place)) }
+        requires fine { first_pass C.form.table (A.bindings set.now) place ≡ None }
+        requires room { let bindings = A.bindings set.now in (i : ℕ) → is_cell C.form.table.status i (place_of C.form.table (name_at bindings place)) ≡ true → is_made State.Absent (set_ask C.form.table bindings (row_index C.form.table i)) ≡ true → row_in self.old i ≡ None → length self.old < C.form.table.most }
+        ensures rows { let bindings = A.bindings set.now in (i : ℕ) → row_in self.new i ≡ option_or (row_in self.old i) (if is_cell C.form.table.status i (place_of C.form.table (name_at bindings place)) then made_row C.form.table C.form.with_column C.form.blank bindings i else None) }
+        ensures few { let bindings = A.bindings set.now in length self.new ≡ length self.old + made_now C.form.table C.form.with_column C.form.blank self.old bindings (place_of C.form.table (name_at bindings place)) }
     {
         let name = set.name(place);
         if let Place::Cell(column, row) = place_under::<C>(&name, entry) {
@@ -61,11 +61,11 @@ impl<C: Columns> Controls<C> {
 }
 
 // Puts the bindings of a Set into the columns of each row.
-fn write_rows<C: Columns, A: Assigns>(rows: &mut [Row<C>], set: &A, entry: &Oid, status: u32)
-    requires entry { entry.now ≡ C.table.entry }
-    requires status { status ≡ C.table.status }
-    requires fine { IsFirstFault (length (A.bindings set.now)) (first_pass C.table (A.bindings set.now)) Verdict.Fine }
-    ensures { rows.new ≡ map (write_row C.table C.with_column C.blank_row (A.bindings set.now)) rows.old }
+fn write_rows<C: ControlRow, A: Assigns>(rows: &mut [Row<C>], set: &A, entry: &Oid, status: u32)
+    requires entry { entry.now ≡ C.form.table.entry }
+    requires status { status ≡ C.form.table.status }
+    requires fine { IsFirstFault (length (A.bindings set.now)) (first_pass C.form.table (A.bindings set.now)) Verdict.Fine }
+    ensures { rows.new ≡ map (write_row C.form.table C.form.with_column C.form.blank (A.bindings set.now)) rows.old }
 {
     for row in rows.iter_mut() {
         put_all::<C, A>(&mut row.columns, set, entry, status, row.index);
@@ -73,32 +73,32 @@ fn write_rows<C: Columns, A: Assigns>(rows: &mut [Row<C>], set: &A, entry: &Oid,
 }
 
 // The same for rows where they are kept.
-fn write_all<C: Columns, A: Assigns>(
+fn write_all<C: ControlRow, A: Assigns>(
     rows: &mut ArrayVec<Row<C>, MAX_ROWS>,
     set: &A,
     entry: &Oid,
     status: u32,
 )
-    requires entry { entry.now ≡ C.table.entry }
-    requires status { status ≡ C.table.status }
-    requires fine { IsFirstFault (length (A.bindings set.now)) (first_pass C.table (A.bindings set.now)) Verdict.Fine }
-    ensures { rows.new.items ≡ map (write_row C.table C.with_column C.blank_row (A.bindings set.now)) rows.old.items }
+    requires entry { entry.now ≡ C.form.table.entry }
+    requires status { status ≡ C.form.table.status }
+    requires fine { IsFirstFault (length (A.bindings set.now)) (first_pass C.form.table (A.bindings set.now)) Verdict.Fine }
+    ensures { rows.new.items ≡ map (write_row C.form.table C.form.with_column C.form.blank (A.bindings set.now)) rows.old.items }
 {
     write_rows::<C, A>(rows.as_mut_slice(), set, entry, status);
 }
 
 // Takes each row to its state after a Set.
-fn settle_rows<C: Columns, A: Assigns>(
+fn settle_rows<C: ControlRow, A: Assigns>(
     kind: StatusKind,
     rows: &mut ArrayVec<Row<C>, MAX_ROWS>,
     set: &A,
     entry: &Oid,
     status: u32,
 )
-    requires kind { kind ≡ C.table.status_kind }
-    requires entry { entry.now ≡ C.table.entry }
-    requires status { status ≡ C.table.status }
-    ensures { rows.new.items ≡ filter_map (settle_row C.table C.with_column C.blank_row (A.bindings set.now)) rows.old.items }
+    requires kind { kind ≡ C.form.table.status_kind }
+    requires entry { entry.now ≡ C.form.table.entry }
+    requires status { status ≡ C.form.table.status }
+    ensures { rows.new.items ≡ filter_map (settle_row C.form.table C.form.with_column C.form.blank (A.bindings set.now)) rows.old.items }
 {
     let mut place = rows.len();
     while place > 0 {
@@ -116,7 +116,7 @@ fn settle_rows<C: Columns, A: Assigns>(
 }
 
 // Sets the state of the row at a place.
-fn set_state<C: Columns>(rows: &mut ArrayVec<Row<C>, MAX_ROWS>, place: usize, state: State)
+fn set_state<C: ControlRow>(rows: &mut ArrayVec<Row<C>, MAX_ROWS>, place: usize, state: State)
     requires { place < length rows.old.items }
     ensures { rows.new.items ≡ with_state_at rows.old.items place state }
 {

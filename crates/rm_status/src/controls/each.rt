@@ -8,9 +8,9 @@ use crate::change::Change;
 use crate::controls::{Controls, MAX_ROWS};
 use crate::row::Row;
 use arrayvec::ArrayVec;
-use rm_columns::Columns;
+use rm_columns::ControlRow;
 
-impl<C: Columns> Controls<C> {
+impl<C: ControlRow> Controls<C> {
     /// Changes the columns of each row. The states stay, and no row comes or goes.
     pub fn change_each<V: Change<C>>(&mut self, how: &V)
         ensures { (i : ℕ) → row_in self.new i ≡ option_map (changed_row (V.changed how.now)) (row_in self.old i) }
@@ -20,14 +20,14 @@ impl<C: Columns> Controls<C> {
 }
 
 // Changes the columns of each of some rows where they are kept.
-fn change_all<C: Columns, V: Change<C>>(rows: &mut ArrayVec<Row<C>, MAX_ROWS>, how: &V)
+fn change_all<C: ControlRow, V: Change<C>>(rows: &mut ArrayVec<Row<C>, MAX_ROWS>, how: &V)
     ensures { rows.new.items ≡ map (changed_row (V.changed how.now)) rows.old.items }
 {
     change_rows(rows.as_mut_slice(), how);
 }
 
 // Changes the columns of each of some rows.
-fn change_rows<C: Columns, V: Change<C>>(rows: &mut [Row<C>], how: &V)
+fn change_rows<C: ControlRow, V: Change<C>>(rows: &mut [Row<C>], how: &V)
     ensures { rows.new ≡ map (changed_row (V.changed how.now)) rows.old }
 {
     for row in rows.iter_mut() {

@@ -12,18 +12,18 @@ use crate::controls::{Controls, MAX_ROWS};
 use crate::given::{self, is_again, put_all, row_fault, set_ask};
 use crate::place::place_under;
 use crate::steps::is_made;
-use rm_columns::{Columns, is_ready};
+use rm_columns::{ControlRow, is_ready};
 use rm_group::{Assigns, wrong_at};
 use rm_model::{Place, Verdict};
 use rm_val::{ErrorStatus, Oid};
 
-impl<C: Columns> Controls<C> {
+impl<C: ControlRow> Controls<C> {
     /// The first pass of a Set: each binding under the table's entry alone (RFC 1905, section 4.2.5). `entry` and `status`
     /// are the table's entry and its status column.
     pub fn judge_alone<A: Assigns>(&self, set: &A, entry: &Oid, status: u32) -> Verdict
-        requires entry { entry.now ≡ C.table.entry }
-        requires status { status ≡ C.table.status }
-        ensures { IsFirstFault (length (A.bindings set.now)) (first_pass C.table (A.bindings set.now)) result }
+        requires entry { entry.now ≡ C.form.table.entry }
+        requires status { status ≡ C.form.table.status }
+        ensures { IsFirstFault (length (A.bindings set.now)) (first_pass C.form.table (A.bindings set.now)) result }
     {
         let kind = self.kind;
         given::judge_alone::<C, A>(kind, set, entry, status)
@@ -32,11 +32,11 @@ impl<C: Columns> Controls<C> {
     /// The second pass of a Set of which the first found nothing wrong: the bindings of each row together, by what the rows
     /// are now.
     pub fn judge_rows<A: Assigns>(&self, set: &A, entry: &Oid, status: u32) -> Verdict
-        requires entry { entry.now ≡ C.table.entry }
-        requires status { status ≡ C.table.status }
-        requires fine { IsFirstFault (length (A.bindings set.now)) (first_pass C.table (A.bindings set.now)) Verdict.Fine }
-        ensures verdict { let bindings = A.bindings set.now in IsFirstFault (length bindings) (second_pass C.table (rows_before C.table C.set_to self.now) bindings) result }
-        ensures rows { AreControlRows C.table self.now }
+        requires entry { entry.now ≡ C.form.table.entry }
+        requires status { status ≡ C.form.table.status }
+        requires fine { IsFirstFault (length (A.bindings set.now)) (first_pass C.form.table (A.bindings set.now)) Verdict.Fine }
+        ensures verdict { let bindings = A.bindings set.now in IsFirstFault (length bindings) (second_pass C.form.table (rows_before C.form.table C.form.set_to self.now) bindings) result }
+        ensures rows { AreControlRows C.form.table self.now }
     {
         let _ = &self.rows;
         let crowded = self.is_crowded(set, entry, status);
@@ -52,19 +52,19 @@ impl<C: Columns> Controls<C> {
 
     // Whether the rows that there are and those that a Set makes are more together than the table has at most.
     fn is_crowded<A: Assigns>(&self, set: &A, entry: &Oid, status: u32) -> bool
-        requires entry { entry.now ≡ C.table.entry }
-        requires status { status ≡ C.table.status }
-        requires fine { IsFirstFault (length (A.bindings set.now)) (first_pass C.table (A.bindings set.now)) Verdict.Fine }
-        ensures { result ≡ is_crowded C.table (rows_before C.table C.set_to self.now) (A.bindings set.now) }
+        requires entry { entry.now ≡ C.form.table.entry }
+        requires status { status ≡ C.form.table.status }
+        requires fine { IsFirstFault (length (A.bindings set.now)) (first_pass C.form.table (A.bindings set.now)) Verdict.Fine }
+        ensures { result ≡ is_crowded C.form.table (rows_before C.form.table C.form.set_to self.now) (A.bindings set.now) }
     {
         self.rows.len() + self.count_made(set, entry, status) > C::most()
     }
 
     // How many rows a Set makes.
     fn count_made<A: Assigns>(&self, set: &A, entry: &Oid, status: u32) -> usize
-        requires entry { entry.now ≡ C.table.entry }
-        requires status { status ≡ C.table.status }
-        ensures value { result ≡ count_made C.table (state_in self.now) (A.bindings set.now) (length (A.bindings set.now)) }
+        requires entry { entry.now ≡ C.form.table.entry }
+        requires status { status ≡ C.form.table.status }
+        ensures value { result ≡ count_made C.form.table (state_in self.now) (A.bindings set.now) (length (A.bindings set.now)) }
         ensures few { result ≤ 128 }
     {
         let count = set.count();
@@ -77,10 +77,10 @@ impl<C: Columns> Controls<C> {
 
     // How many rows the binding at a place makes, one or none.
     fn made_by<A: Assigns>(&self, set: &A, entry: &Oid, status: u32, place: usize) -> usize
-        requires entry { entry.now ≡ C.table.entry }
-        requires status { status ≡ C.table.status }
+        requires entry { entry.now ≡ C.form.table.entry }
+        requires status { status ≡ C.form.table.status }
         requires within { place < length (A.bindings set.now) }
-        ensures value { let bindings = A.bindings set.now in result ≡ made_by C.table (state_in self.now) bindings (is_again bindings place) (place_of C.table (name_at bindings place)) }
+        ensures value { let bindings = A.bindings set.now in result ≡ made_by C.form.table (state_in self.now) bindings (is_again bindings place) (place_of C.form.table (name_at bindings place)) }
         ensures few { result ≤ 1 }
     {
         let name = set.name(place);
@@ -108,12 +108,12 @@ impl<C: Columns> Controls<C> {
         crowded: bool,
         place: usize,
     ) -> Option<ErrorStatus>
-        requires entry { entry.now ≡ C.table.entry }
-        requires status { status ≡ C.table.status }
-        requires fine { IsFirstFault (length (A.bindings set.now)) (first_pass C.table (A.bindings set.now)) Verdict.Fine }
+        requires entry { entry.now ≡ C.form.table.entry }
+        requires status { status ≡ C.form.table.status }
+        requires fine { IsFirstFault (length (A.bindings set.now)) (first_pass C.form.table (A.bindings set.now)) Verdict.Fine }
         requires within { place < length (A.bindings set.now) }
-        requires crowded { crowded ≡ is_crowded C.table (rows_before C.table C.set_to self.now) (A.bindings set.now) }
-        ensures { result ≡ second_pass C.table (rows_before C.table C.set_to self.now) (A.bindings set.now) place }
+        requires crowded { crowded ≡ is_crowded C.form.table (rows_before C.form.table C.form.set_to self.now) (A.bindings set.now) }
+        ensures { result ≡ second_pass C.form.table (rows_before C.form.table C.form.set_to self.now) (A.bindings set.now) place }
     {
         let name = set.name(place);
         match place_under::<C>(&name, entry) {
@@ -140,20 +140,20 @@ impl<C: Columns> Controls<C> {
         column: u32,
         row: u32,
     ) -> bool
-        requires entry { entry.now ≡ C.table.entry }
-        requires status { status ≡ C.table.status }
-        requires fine { IsFirstFault (length (A.bindings set.now)) (first_pass C.table (A.bindings set.now)) Verdict.Fine }
-        ensures { result ≡ (nat_eq column C.table.status && is_ready_with C.table (rows_before C.table C.set_to self.now) (A.bindings set.now) (row_index C.table row)) }
+        requires entry { entry.now ≡ C.form.table.entry }
+        requires status { status ≡ C.form.table.status }
+        requires fine { IsFirstFault (length (A.bindings set.now)) (first_pass C.form.table (A.bindings set.now)) Verdict.Fine }
+        ensures { result ≡ (nat_eq column C.form.table.status && is_ready_with C.form.table (rows_before C.form.table C.form.set_to self.now) (A.bindings set.now) (row_index C.form.table row)) }
     {
         column == status && self.is_ready_with(set, entry, status, row)
     }
 
     // Whether a row would be ready with the columns that a Set gives to it, a blank one where there is no such row.
     fn is_ready_with<A: Assigns>(&self, set: &A, entry: &Oid, status: u32, row: u32) -> bool
-        requires entry { entry.now ≡ C.table.entry }
-        requires status { status ≡ C.table.status }
-        requires fine { IsFirstFault (length (A.bindings set.now)) (first_pass C.table (A.bindings set.now)) Verdict.Fine }
-        ensures { result ≡ is_ready_with C.table (rows_before C.table C.set_to self.now) (A.bindings set.now) (row_index C.table row) }
+        requires entry { entry.now ≡ C.form.table.entry }
+        requires status { status ≡ C.form.table.status }
+        requires fine { IsFirstFault (length (A.bindings set.now)) (first_pass C.form.table (A.bindings set.now)) Verdict.Fine }
+        ensures { result ≡ is_ready_with C.form.table (rows_before C.form.table C.form.set_to self.now) (A.bindings set.now) (row_index C.form.table row) }
     {
         prove!(self.len() <= MAX_ROWS);
         match self.row(row) {
@@ -164,17 +164,17 @@ impl<C: Columns> Controls<C> {
 }
 
 // Whether columns are ready once the bindings of a row are in them.
-fn is_ready_after<C: Columns, A: Assigns>(
+fn is_ready_after<C: ControlRow, A: Assigns>(
     columns: C,
     set: &A,
     entry: &Oid,
     status: u32,
     row: u32,
 ) -> bool
-    requires entry { entry.now ≡ C.table.entry }
-    requires status { status ≡ C.table.status }
-    requires fine { IsFirstFault (length (A.bindings set.now)) (first_pass C.table (A.bindings set.now)) Verdict.Fine }
-    ensures { result ≡ is_ready C.table (of_columns C.table (λ column. option_or (value_given (A.bindings set.now) (cell_name C.table.entry column (row_index C.table row))) (C.set_to columns column))) }
+    requires entry { entry.now ≡ C.form.table.entry }
+    requires status { status ≡ C.form.table.status }
+    requires fine { IsFirstFault (length (A.bindings set.now)) (first_pass C.form.table (A.bindings set.now)) Verdict.Fine }
+    ensures { result ≡ is_ready C.form.table (of_columns C.form.table (λ column. option_or (value_given (A.bindings set.now) (cell_name C.form.table.entry column (row_index C.form.table row))) (C.form.set_to columns column))) }
 {
     let mut with = columns;
     put_all::<C, A>(&mut with, set, entry, status, row);

@@ -10,15 +10,15 @@ use crate::given::set_ask;
 use crate::place::place_under;
 use crate::row::Row;
 use crate::steps::next_state;
-use rm_columns::Columns;
+use rm_columns::ControlRow;
 use rm_group::Assigns;
 use rm_model::{Place, State};
 use rm_val::Oid;
 
-impl<C: Columns> Controls<C> {
+impl<C: ControlRow> Controls<C> {
     /// How many rows are valid.
     pub fn count_valid(&self) -> usize
-        ensures value { result ≡ count_valid C.table (rows_before C.table C.set_to self.now) }
+        ensures value { result ≡ count_valid C.form.table (rows_before C.form.table C.form.set_to self.now) }
         ensures few { result ≤ 32 }
     {
         let _ = &self.rows;
@@ -28,11 +28,11 @@ impl<C: Columns> Controls<C> {
     /// The number, from 1, of the first binding of the status of a row that a Set makes valid and that wasn't. None where the
     /// Set makes no row valid: no more rows are then valid after it than before.
     pub fn first_activated<A: Assigns>(&self, set: &A, entry: &Oid, status: u32) -> Option<u32>
-        requires entry { entry.now ≡ C.table.entry }
-        requires status { status ≡ C.table.status }
+        requires entry { entry.now ≡ C.form.table.entry }
+        requires status { status ≡ C.form.table.status }
         ensures some { IfSome result (λ index. (place : ℕ) × (place < length (A.bindings set.now)) × (index ≡ place + 1)
-            × IsTrue (activates C.table (rows_before C.table C.set_to self.now) (A.bindings set.now) place)) }
-        ensures none { IfNone result (count_valid_after C.table (rows_before C.table C.set_to self.now) (A.bindings set.now) ≤ count_valid C.table (rows_before C.table C.set_to self.now)) }
+            × IsTrue (activates C.form.table (rows_before C.form.table C.form.set_to self.now) (A.bindings set.now) place)) }
+        ensures none { IfNone result (count_valid_after C.form.table (rows_before C.form.table C.form.set_to self.now) (A.bindings set.now) ≤ count_valid C.form.table (rows_before C.form.table C.form.set_to self.now)) }
     {
         for place in 0..set.count() {
             if self.activates(set, entry, status, place) {
@@ -44,10 +44,10 @@ impl<C: Columns> Controls<C> {
 
     // Whether the binding at a place is of the status of a row that a Set makes valid and that wasn't.
     fn activates<A: Assigns>(&self, set: &A, entry: &Oid, status: u32, place: usize) -> bool
-        requires entry { entry.now ≡ C.table.entry }
-        requires status { status ≡ C.table.status }
+        requires entry { entry.now ≡ C.form.table.entry }
+        requires status { status ≡ C.form.table.status }
         requires within { place < length (A.bindings set.now) }
-        ensures { result ≡ activates C.table (rows_before C.table C.set_to self.now) (A.bindings set.now) place }
+        ensures { result ≡ activates C.form.table (rows_before C.form.table C.form.set_to self.now) (A.bindings set.now) place }
     {
         let name = set.name(place);
         match place_under::<C>(&name, entry) {
@@ -60,9 +60,9 @@ impl<C: Columns> Controls<C> {
 
     // Whether a Set makes a row valid that wasn't.
     fn makes_valid<A: Assigns>(&self, set: &A, entry: &Oid, status: u32, row: u32) -> bool
-        requires entry { entry.now ≡ C.table.entry }
-        requires status { status ≡ C.table.status }
-        ensures { result ≡ makes_valid C.table (rows_before C.table C.set_to self.now) (A.bindings set.now) (row_index C.table row) }
+        requires entry { entry.now ≡ C.form.table.entry }
+        requires status { status ≡ C.form.table.status }
+        ensures { result ≡ makes_valid C.form.table (rows_before C.form.table C.form.set_to self.now) (A.bindings set.now) (row_index C.form.table row) }
     {
         let _ = &self.rows;
         let kind = self.kind;
@@ -83,7 +83,7 @@ fn is_valid(state: State) -> bool
 }
 
 // How many of some rows are valid.
-fn count_of_valid<C: Columns>(rows: &[Row<C>]) -> usize
+fn count_of_valid<C: ControlRow>(rows: &[Row<C>]) -> usize
     ensures { result ≡ length (filter (λ row. is_valid row.state) rows.now) }
 {
     rows.iter().filter(|row| is_valid(row.state)).count()

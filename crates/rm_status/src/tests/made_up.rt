@@ -1,9 +1,10 @@
 // The rows of a made-up control table, and Sets of it. Its entry is 1.3.6.1.4.1.9.5, its status column 7. Column 2 is 1 to 9 and
 // needed, column 3 is 1 to 3600, column 4 is 1 to 100 and may always be set.
 ghost use Rattle.std.specs.Prelude.{◌≡◌, [], ◌∷◌, None, refl};
-ghost use Rattle.rm_status.specs.MadeUp.{plain, ruled, second_at_first, set_to, with_value, blank_alike, ruled_alike, set_with};
+ghost use Rattle.rm_model.specs.Indexing.{one_number};
+ghost use Rattle.rm_status.specs.MadeUp.{plain, rules, ruled, second_at_first, set_to, with_value, blank_alike, ruled_alike, set_with};
 
-use rm_columns::{ControlRow, ControlSheet, index_of_one, is_one_number, one_number};
+use rm_columns::{ControlRow, ControlSheet, OneNumber, RowKeys};
 use rm_group::{Assignments, TableObjects};
 use rm_model::Setting::Number;
 use rm_model::{StatusKind, column, numbers};
@@ -46,6 +47,8 @@ impl Default for MadeUp {
 }
 
 impl ControlRow for MadeUp {
+    type Keys = OneNumber;
+
     ghost form = { record {
       table = plain;
       shown = 1 ∷ 2 ∷ 3 ∷ 4 ∷ 6 ∷ 7 ∷ [];
@@ -62,28 +65,10 @@ impl ControlRow for MadeUp {
 
     ghost default_is_blank = { λ columns is. is };
 
+    ghost keyed = { (refl, refl) };
+
     fn table() -> ControlSheet {
         TABLE
-    }
-
-    fn index(number: u32) -> Oid {
-        index_of_one(number)
-    }
-
-    fn number(name: &Oid, from: usize) -> Option<u32> {
-        one_number(name, from)
-    }
-
-    fn is_row(number: u32) -> bool {
-        is_one_number(number)
-    }
-
-    fn is_fixed(_index: u32, _column: u32) -> bool {
-        false
-    }
-
-    fn stays(_index: u32) -> bool {
-        false
     }
 
     fn blank(_index: u32) -> Self {
@@ -137,7 +122,38 @@ impl Default for Ruled {
     }
 }
 
+/// The keys of rows with rules.
+pub struct SixAndSeven;
+
+impl RowKeys for SixAndSeven {
+    ghost indexing = { one_number };
+
+    ghost rules = { rules };
+
+    fn index(number: u32) -> Oid {
+        OneNumber::index(number)
+    }
+
+    fn number(name: &Oid, from: usize) -> Option<u32> {
+        OneNumber::number(name, from)
+    }
+
+    fn is_row(number: u32) -> bool {
+        OneNumber::is_row(number)
+    }
+
+    fn is_fixed(row: u32, column: u32) -> bool {
+        row == 6 && column == 2
+    }
+
+    fn stays(row: u32) -> bool {
+        row == 7
+    }
+}
+
 impl ControlRow for Ruled {
+    type Keys = SixAndSeven;
+
     ghost form = { record {
       table = ruled;
       shown = 1 ∷ 2 ∷ 3 ∷ 4 ∷ 6 ∷ 7 ∷ [];
@@ -154,32 +170,14 @@ impl ControlRow for Ruled {
 
     ghost default_is_blank = { λ row is i. record { columns = is i } };
 
+    ghost keyed = { (refl, refl) };
+
     fn table() -> ControlSheet {
         ControlSheet {
             kind: StatusKind::RowStatus,
             most: 4,
             ..TABLE
         }
-    }
-
-    fn index(number: u32) -> Oid {
-        index_of_one(number)
-    }
-
-    fn number(name: &Oid, from: usize) -> Option<u32> {
-        one_number(name, from)
-    }
-
-    fn is_row(number: u32) -> bool {
-        is_one_number(number)
-    }
-
-    fn is_fixed(index: u32, column: u32) -> bool {
-        index == 6 && column == 2
-    }
-
-    fn stays(index: u32) -> bool {
-        index == 7
     }
 
     fn blank(index: u32) -> Self {

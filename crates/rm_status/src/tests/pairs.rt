@@ -3,12 +3,13 @@ ghost use Rattle.std.specs.Prelude.{◌≡◌, [], ◌∷◌, pos, None, refl};
 ghost use Rattle.rm_val.specs.Val.{int};
 ghost use Rattle.rm_val.specs.Spellable.{IsSpellable};
 ghost use Rattle.rm_status.specs.MadeUp.{set_to, with_value, set_with};
-ghost use Rattle.rm_status.specs.Pairs.{pair_number, is_small, paired, paired_alike};
+ghost use Rattle.rm_model.specs.ControlTable.{no_rules};
+ghost use Rattle.rm_status.specs.Pairs.{pairs, pair_number, is_small, paired, paired_alike};
 
 use crate::tests::made_up::{MadeUp, STATUS, Set};
 use crate::tests::sets::{FINE, apply};
 use crate::{Controls, OtherColumns, Row};
-use rm_columns::{ControlRow, ControlSheet};
+use rm_columns::{ControlRow, ControlSheet, RowKeys};
 use rm_group::TableObjects;
 use rm_model::{State, StatusKind, Verdict};
 use rm_val::{ErrorStatus, Oid, Value};
@@ -29,32 +30,13 @@ impl Default for Paired {
     }
 }
 
-impl ControlRow for Paired {
-    ghost form = { record {
-      table = paired;
-      shown = 1 ∷ 2 ∷ 7 ∷ [];
-      set_to = λ s n. set_to s.columns.second s.columns.third s.columns.fourth n;
-      blank = λ row. record { columns = record { second = None; third = None; fourth = None } };
-      with_column = λ s n value. record { columns = record { second = with_value 2 n value s.columns.second; third = with_value 3 n value s.columns.third; fourth = with_value 4 n value s.columns.fourth } };
-      blank_alike = λ row. paired_alike;
-      set_with = λ s n other value fine. set_with s.columns.second s.columns.third s.columns.fourth n other value fine;
-      sound = refl;
-      apart = refl;
-      rising = refl;
-      named = refl;
-    } };
+// Two numbers, each 1 to 8, of rows that are all alike.
+struct TwoNumbers;
 
-    ghost default_is_blank = { λ row is i. record { columns = is i } };
+impl RowKeys for TwoNumbers {
+    ghost indexing = { pairs };
 
-    fn table() -> ControlSheet {
-        ControlSheet {
-            objects: TableObjects {
-                entry: &[1, 3, 6, 1, 4, 1, 9, 5],
-                columns: &[1, 2, STATUS],
-            },
-            ..MadeUp::table()
-        }
-    }
+    ghost rules = { no_rules };
 
     fn index(number: u32) -> Oid {
         if number < 256 {
@@ -79,12 +61,44 @@ impl ControlRow for Paired {
         is_small(number / 16) && is_small(number % 16)
     }
 
-    fn is_fixed(_index: u32, _column: u32) -> bool {
+    fn is_fixed(_row: u32, _column: u32) -> bool {
         false
     }
 
-    fn stays(_index: u32) -> bool {
+    fn stays(_row: u32) -> bool {
         false
+    }
+}
+
+impl ControlRow for Paired {
+    type Keys = TwoNumbers;
+
+    ghost form = { record {
+      table = paired;
+      shown = 1 ∷ 2 ∷ 7 ∷ [];
+      set_to = λ s n. set_to s.columns.second s.columns.third s.columns.fourth n;
+      blank = λ row. record { columns = record { second = None; third = None; fourth = None } };
+      with_column = λ s n value. record { columns = record { second = with_value 2 n value s.columns.second; third = with_value 3 n value s.columns.third; fourth = with_value 4 n value s.columns.fourth } };
+      blank_alike = λ row. paired_alike;
+      set_with = λ s n other value fine. set_with s.columns.second s.columns.third s.columns.fourth n other value fine;
+      sound = refl;
+      apart = refl;
+      rising = refl;
+      named = refl;
+    } };
+
+    ghost default_is_blank = { λ row is i. record { columns = is i } };
+
+    ghost keyed = { (refl, refl) };
+
+    fn table() -> ControlSheet {
+        ControlSheet {
+            objects: TableObjects {
+                entry: &[1, 3, 6, 1, 4, 1, 9, 5],
+                columns: &[1, 2, STATUS],
+            },
+            ..MadeUp::table()
+        }
     }
 
     fn blank(_index: u32) -> Self {

@@ -3,7 +3,7 @@ ghost use Rattle.std.specs.Prelude.{◌≡◌, [], ◌∷◌};
 
 use crate::Controls;
 use crate::tests::made_up::{MadeUp, STATUS, Set, entry, give};
-use rm_columns::Columns;
+use rm_columns::ControlRow;
 use rm_model::{State, StatusKind, Verdict};
 use rm_val::ErrorStatus;
 use std::process::Abort;
@@ -215,9 +215,9 @@ fn numbers(rows: &Controls<MadeUp>, row: u32) -> Option<Numbers> {
 }
 
 /// Judges a Set in two passes, and acts on it where nothing is wrong.
-pub fn apply<C: Columns>(rows: &mut Controls<C>, set: &Set) -> Verdict
-    requires entry { C.table.entry ≡ 1 ∷ 3 ∷ 6 ∷ 1 ∷ 4 ∷ 1 ∷ 9 ∷ 5 ∷ [] }
-    requires status { C.table.status ≡ 7 }
+pub fn apply<C: ControlRow>(rows: &mut Controls<C>, set: &Set) -> Verdict
+    requires entry { C.form.table.entry ≡ 1 ∷ 3 ∷ 6 ∷ 1 ∷ 4 ∷ 1 ∷ 9 ∷ 5 ∷ [] }
+    requires status { C.form.table.status ≡ 7 }
 {
     let entry = entry();
     match rows.judge_alone(set, &entry, STATUS) {

@@ -9,7 +9,7 @@ use Rattle.rm_status.proofs.given.set_ask.Goals as goal
 
 pub returns-then-is_cell : goal.returns-then-is_cell
 returns-then-is_cell g c =
-    let t = g.C.Columns.table in
+    let t = g.C.ControlRow.form.table in
     let bs = g.A.Assigns.bindings c.args.set.now in
     let k = c.loop-place.place in
     let name : List ℕ = cell_name t.entry t.status (row_index t c.args.row) in
@@ -19,13 +19,13 @@ returns-then-is_cell g c =
 
 pub loop-place-preserved : goal.loop-place-preserved
 loop-place-preserved g c =
-    let t = g.C.Columns.table in
+    let t = g.C.ControlRow.form.table in
     let bs = g.A.Assigns.bindings c.args.set.now in
     let here : bytes_eq (name_at bs c.loop-place.place) (cell_name t.entry t.status (row_index t c.args.row)) ≡ false = rw (← c.requires.entry, ← c.requires.status, ← c.name-name.ensures.value) (sym c.if-is_cell.ensures) in
     below_more _ _ c.loop-place.invariant here
 
 pub returns : goal.returns
 returns g c =
-    let t = g.C.Columns.table in
+    let t = g.C.ControlRow.form.table in
     let bs = g.A.Assigns.bindings c.args.set.now in
     ask_none t bs c.args.row (find_never (λ a. bytes_eq a.name (cell_name t.entry t.status (row_index t c.args.row))) nothing_bound bs (λ j h. c.loop-place.invariant j (omega (arith, c.count-count.ensures.value))))

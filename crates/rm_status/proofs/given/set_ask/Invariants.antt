@@ -8,4 +8,4 @@ use Rattle.rm_status.proofs.given.set_ask.Given as goal
 -- no binding so far is the row's status
 abbrev pub invariant-loop-place : goal.invariant-loop-place
 invariant-loop-place g l =
-    (k : ℕ) → k < l.place → bytes_eq (name_at (g.A.Assigns.bindings l.set) k) (cell_name g.C.Columns.table.entry g.C.Columns.table.status (row_index g.C.Columns.table l.row)) ≡ false
+    (k : ℕ) → k < l.place → bytes_eq (name_at (g.A.Assigns.bindings l.set) k) (cell_name g.C.ControlRow.form.table.entry g.C.ControlRow.form.table.status (row_index g.C.ControlRow.form.table l.row)) ≡ false

@@ -6,7 +6,7 @@ use Rattle.rm_pool.proofs.pool.Pool.begin_each.Goals as goal
 
 pub loop-index-init : goal.loop-index-init
 loop-index-init g c = record {
-  begun = none_begun (valid_in c.args.rows.now) (g.B.Begin.begun c.args.how.now) c.args.self.now (not_first g.C.Columns.table c.args.rows.now c.len.ensures.rows.1) c.requires.used;
+  begun = none_begun (valid_in c.args.rows.now) (g.B.Begin.begun c.args.how.now) c.args.self.now (not_first g.C.ControlRow.form.table c.args.rows.now c.len.ensures.rows.1) c.requires.used;
   within = omega arith;
 }
 
@@ -16,7 +16,7 @@ loop-index-preserved g c = record {
       (none_between c.args.rows.now c.loop-index.last c.in-Some.index c.in-Some.ensures.least)
       c.begin_of.ensures.begun c.begin_of.ensures.stays c.begin_of.ensures.idle c.begin_of.ensures.others c.begin_of.ensures.size;
   within =
-      let fits = (row_fits g.C.Columns.table c.args.rows.now c.in-Some.index c.in-Some.ensures.least.1.0 c.len.ensures.rows.1 c.in-Some.ensures.least.1.1).1 in
+      let fits = (row_fits g.C.ControlRow.form.table c.args.rows.now c.in-Some.index c.in-Some.ensures.least.1.0 c.len.ensures.rows.1 c.in-Some.ensures.least.1.1).1 in
       omega (arith, fits);
 }
 

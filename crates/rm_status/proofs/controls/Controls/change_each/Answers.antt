@@ -9,7 +9,7 @@ pub invariant_of-self : goal.invariant_of-self
 invariant_of-self g c =
     let f = changed_row (g.V.Change.changed c.args.how.now) in
     let items = c.self.inside.rows.items in
-    (c.self.invariant.0, subst (AreControlRows g.C.Columns.table) (sym c.change_all.ensures) (rising-map f (λ r. refl) items c.self.invariant.1.0, there-map f (λ r. refl) g.C.Columns.table (λ r. refl) items c.self.invariant.1.1))
+    (c.self.invariant.0, subst (AreControlRows g.C.ControlRow.form.table) (sym c.change_all.ensures) (rising-map f (λ r. refl) items c.self.invariant.1.0, there-map f (λ r. refl) g.C.ControlRow.form.table (λ r. refl) items c.self.invariant.1.1))
 
 pub returns : goal.returns
 returns g c = λ i.

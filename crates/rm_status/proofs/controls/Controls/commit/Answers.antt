@@ -7,11 +7,11 @@ use Rattle.rm_status.proofs.controls.Controls.commit.Goals as goal
 
 pub make_at-requires : goal.make_at-requires
 make_at-requires g c =
-    let C = g.C.Columns in
+    let C = g.C.ControlRow.form in
     let bs = g.A.Assigns.bindings c.args.set.now in
     let k = c.loop-place.place in
     let within : k < length bs = omega (arith, c.count-count.ensures.value) in
-    let ordered : AreControlRows g.C.Columns.table c.args.self.now = subst (AreControlRows g.C.Columns.table) c.self.view_is c.self.invariant.1 in (
+    let ordered : AreControlRows g.C.ControlRow.form.table c.args.self.now = subst (AreControlRows g.C.ControlRow.form.table) c.self.view_is c.self.invariant.1 in (
       search rules,
       (
         c.requires.entry,
@@ -22,7 +22,7 @@ make_at-requires g c =
             (
               c.requires.fine k within,
               λ i is asks gone.
-                  room_at C.table C.with_column C.blank_row bs c.args.self.now C.set_to ordered c.requires.fine c.loop-place.self k i within c.loop-place.invariant.rows c.loop-place.invariant.few (c.requires.together k within) is asks gone,
+                  room_at C.table C.with_column C.blank bs c.args.self.now C.set_to ordered c.requires.fine c.loop-place.self k i within c.loop-place.invariant.rows c.loop-place.invariant.few (c.requires.together k within) is asks gone,
             ),
           ),
         ),
@@ -31,34 +31,34 @@ make_at-requires g c =
 
 pub loop-place-init : goal.loop-place-init
 loop-place-init g c =
-    let C = g.C.Columns in
-    record { rows = made_none C.table C.with_column C.blank_row (g.A.Assigns.bindings c.args.set.now) c.args.self.now; few = omega arith }
+    let C = g.C.ControlRow.form in
+    record { rows = made_none C.table C.with_column C.blank (g.A.Assigns.bindings c.args.set.now) c.args.self.now; few = omega arith }
 
 pub loop-place-preserved : goal.loop-place-preserved
 loop-place-preserved g c =
-    let C = g.C.Columns in
+    let C = g.C.ControlRow.form in
     let bs = g.A.Assigns.bindings c.args.set.now in
     let k = c.loop-place.place in
     let within : k < length bs = omega (arith, c.count-count.ensures.value) in
     record {
-      rows = made_more C.table C.with_column C.blank_row bs c.args.self.now c.loop-place.self c.make_at.new.self k within c.loop-place.invariant.rows c.make_at.ensures.rows;
-      few = few_more C.table C.with_column C.blank_row bs c.args.self.now c.loop-place.self c.make_at.new.self k c.loop-place.invariant.rows c.loop-place.invariant.few c.make_at.ensures.few;
+      rows = made_more C.table C.with_column C.blank bs c.args.self.now c.loop-place.self c.make_at.new.self k within c.loop-place.invariant.rows c.make_at.ensures.rows;
+      few = few_more C.table C.with_column C.blank bs c.args.self.now c.loop-place.self c.make_at.new.self k c.loop-place.invariant.rows c.loop-place.invariant.few c.make_at.ensures.few;
     }
 
 pub invariant_of-self : goal.invariant_of-self
 invariant_of-self g c =
-    let C = g.C.Columns in
+    let C = g.C.ControlRow.form in
     let bs = g.A.Assigns.bindings c.args.set.now in
     let items = c.self-2.inside.rows.items in
-    let is : c.settle_rows.new.rows.items ≡ filter_map (settle_row C.table C.with_column C.blank_row bs) (map (write_row C.table C.with_column C.blank_row bs) items) = c.settle_rows.ensures ∙ ap (filter_map (settle_row C.table C.with_column C.blank_row bs)) c.write_all.ensures in
-    (c.self-2.invariant.0, subst (AreControlRows g.C.Columns.table) (sym is) (rows_then C.table C.with_column C.blank_row bs items c.self-2.invariant.1))
+    let is : c.settle_rows.new.rows.items ≡ filter_map (settle_row C.table C.with_column C.blank bs) (map (write_row C.table C.with_column C.blank bs) items) = c.settle_rows.ensures ∙ ap (filter_map (settle_row C.table C.with_column C.blank bs)) c.write_all.ensures in
+    (c.self-2.invariant.0, subst (AreControlRows g.C.ControlRow.form.table) (sym is) (rows_then C.table C.with_column C.blank bs items c.self-2.invariant.1))
 
 pub returns : goal.returns
 returns g c = λ i.
-    let C = g.C.Columns in
+    let C = g.C.ControlRow.form in
     let bs = g.A.Assigns.bindings c.args.set.now in
     let items = c.self-2.inside.rows.items in
-    let is : c.settle_rows.new.rows.items ≡ filter_map (settle_row C.table C.with_column C.blank_row bs) (map (write_row C.table C.with_column C.blank_row bs) items) = c.settle_rows.ensures ∙ ap (filter_map (settle_row C.table C.with_column C.blank_row bs)) c.write_all.ensures in
+    let is : c.settle_rows.new.rows.items ≡ filter_map (settle_row C.table C.with_column C.blank bs) (map (write_row C.table C.with_column C.blank bs) items) = c.settle_rows.ensures ∙ ap (filter_map (settle_row C.table C.with_column C.blank bs)) c.write_all.ensures in
     let all : c.loop-place.place ≡ length bs = omega (arith, c.count-count.ensures.value) in
-    let made : (k : ℕ) → row_in items k ≡ made_first C.table C.with_column C.blank_row bs c.args.self.now (length bs) k = λ k. ap (λ l. row_in l k) c.self-2.view_is ∙ c.loop-place.invariant.rows k ∙ ap (λ n. made_first C.table C.with_column C.blank_row bs c.args.self.now n k) all in
-    ap (λ l. row_in l i) is ∙ committed C.table C.with_column C.blank_row bs c.args.self.now items c.self-2.invariant.1 made i
+    let made : (k : ℕ) → row_in items k ≡ made_first C.table C.with_column C.blank bs c.args.self.now (length bs) k = λ k. ap (λ l. row_in l k) c.self-2.view_is ∙ c.loop-place.invariant.rows k ∙ ap (λ n. made_first C.table C.with_column C.blank bs c.args.self.now n k) all in
+    ap (λ l. row_in l i) is ∙ committed C.table C.with_column C.blank bs c.args.self.now items c.self-2.invariant.1 made i

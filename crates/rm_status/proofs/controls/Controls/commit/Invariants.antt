@@ -6,8 +6,8 @@ use Rattle.rm_status.proofs.controls.Controls.commit.Given as goal
 
 abbrev pub invariant-loop-place : goal.invariant-loop-place
 invariant-loop-place g l =
-    let C = g.C.Columns in
+    let C = g.C.ControlRow.form in
     record {
-      rows : (i : ℕ) → row_in l.self i ≡ made_first C.table C.with_column C.blank_row (g.A.Assigns.bindings l.set) l.initial.self l.place i;
+      rows : (i : ℕ) → row_in l.self i ≡ made_first C.table C.with_column C.blank (g.A.Assigns.bindings l.set) l.initial.self l.place i;
       few : length l.self ≤ length l.initial.self + count_made C.table (state_in l.initial.self) (g.A.Assigns.bindings l.set) l.place;
     }

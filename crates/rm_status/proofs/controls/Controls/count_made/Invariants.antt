@@ -6,5 +6,5 @@ use Rattle.rm_status.proofs.controls.Controls.count_made.Given as goal
 abbrev pub invariant-loop-place : goal.invariant-loop-place
 invariant-loop-place g l = record {
   few : l.made ≤ l.place;
-  value : l.made ≡ count_made g.C.Columns.table (state_in l.self) (g.A.Assigns.bindings l.set) l.place;
+  value : l.made ≡ count_made g.C.ControlRow.form.table (state_in l.self) (g.A.Assigns.bindings l.set) l.place;
 }

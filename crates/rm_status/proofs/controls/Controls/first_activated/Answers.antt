@@ -8,5 +8,5 @@ loop-place-preserved g c = below_more _ _ c.loop-place.invariant (sym c.if-activ
 
 pub returns-clause-none : goal.returns-clause-none
 returns-clause-none g c =
-    let C = g.C.Columns in
+    let C = g.C.ControlRow.form in
     none_activated C.table (rows_before C.table C.set_to c.args.self.now) (g.A.Assigns.bindings c.args.set.now) (λ k under. c.loop-place.invariant k (omega (arith, under, c.count-place-end.ensures.value)))

@@ -12,16 +12,16 @@ use Rattle.rm_status.proofs.controls.Controls.is_ready_with.Goals as goal
 
 pub returns-in-None : goal.returns-in-None
 returns-in-None g c =
-    let C = g.C.Columns in
+    let C = g.C.ControlRow.form in
     let given : ℕ → Option Val = λ column. value_given (g.A.Assigns.bindings c.args.set.now) (cell_name C.table.entry column (row_index C.table c.args.row)) in
     let rows = c.args.self.now in
     c.is_ready_after.ensures ∙ ap (λ x. is_ready C.table (of_columns C.table (λ column. option_or (given column) (C.set_to x column)))) c.blank.ensures
-    ∙ ready_alike C.table (C.set_to (C.blank_row c.args.row)) (C.table.rules.first (row_index C.table c.args.row)) given (g.met.C.Columns.blank_alike c.args.row)
+    ∙ ready_alike C.table (C.set_to (C.blank c.args.row)) (C.table.rules.first (row_index C.table c.args.row)) given (g.C.ControlRow.form.blank_alike c.args.row)
     ∙ same_ready C.table given (C.table.rules.first (row_index C.table c.args.row)) (set_before C.table (rows_before C.table C.set_to rows) (row_index C.table c.args.row)) (set_not_held C.table C.set_to rows c.args.row c.in-None.ensures.value)
 
 pub returns-in-Some : goal.returns-in-Some
 returns-in-Some g c =
-    let C = g.C.Columns in
+    let C = g.C.ControlRow.form in
     let given : ℕ → Option Val = λ column. value_given (g.A.Assigns.bindings c.args.set.now) (cell_name C.table.entry column (row_index C.table c.args.row)) in
     let rows = c.args.self.now in
     c.is_ready_after-in-Some.ensures ∙ same_ready C.table given (C.set_to c.bare.result) (C.set_to c.in-Some.found.now.columns) c.bare.ensures

@@ -18,13 +18,13 @@ no_row f (Some x) h = cc
 
 pub insert-requires : goal.insert-requires
 insert-requires g c =
-    let t = g.C.Columns.table in
+    let t = g.C.ControlRow.form.table in
     let bs = g.A.Assigns.bindings c.args.set.now in
     let k = c.args.place in
     let row = c.in-Cell.row in
     let at : place_of t (name_at bs k) ≡ Cell c.in-Cell.column row = rw (← c.requires.entry, ← c.name-name.ensures.value) (sym c.in-Cell.ensures) in
-    let made : is_made Absent (set_ask t bs (row_index g.C.Columns.table row)) ≡ true = rw (← c.set_ask-asked.ensures) (sym c.if-is_made.ensures) in
-    let there : is_absent c.next_state.result ≡ false = ap is_absent (c.next_state.ensures ∙ ap (λ x. next_state x Absent) c.set_ask-asked.ensures) ∙ made_there (set_ask t bs (row_index g.C.Columns.table row)) made in
+    let made : is_made Absent (set_ask t bs (row_index g.C.ControlRow.form.table row)) ≡ true = rw (← c.set_ask-asked.ensures) (sym c.if-is_made.ensures) in
+    let there : is_absent c.next_state.result ≡ false = ap is_absent (c.next_state.ensures ∙ ap (λ x. next_state x Absent) c.set_ask-asked.ensures) ∙ made_there (set_ask t bs (row_index g.C.ControlRow.form.table row)) made in
     let gone : row_in c.args.self.now row ≡ None = sym c.find.ensures ∙ no_row (λ x. x.now) c.find.result (sym c.if-is_none.ensures) in
     let column : c.in-Cell.column ≡ t.status = c.if-column-status.true ∙ c.requires.status in
     let here : is_cell t.status row (place_of t (name_at bs k)) ≡ true = ap (is_cell t.status row) at ∙ rw (column, eq_itself row, eq_itself t.status) refl in

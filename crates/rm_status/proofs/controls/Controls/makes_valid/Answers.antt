@@ -7,7 +7,7 @@ use Rattle.rm_status.proofs.controls.Controls.makes_valid.Goals as goal
 
 pub returns-then-is_valid : goal.returns-then-is_valid
 returns-then-is_valid g c =
-    let C = g.C.Columns in
+    let C = g.C.ControlRow.form in
     let bs = g.A.Assigns.bindings c.args.set.now in
     let s = c.state-state.result in
     let yes_valid : is_valid (next_state c.set_ask-asked.result s) ≡ true = ap is_valid (sym c.next_state.ensures) ∙ sym c.is_valid.ensures ∙ c.if-is_valid.true in
@@ -21,7 +21,7 @@ returns-then-is_valid g c =
 
 pub returns-else-is_valid : goal.returns-else-is_valid
 returns-else-is_valid g c =
-    let C = g.C.Columns in
+    let C = g.C.ControlRow.form in
     let bs = g.A.Assigns.bindings c.args.set.now in
     let s = c.state-state.result in
     let valid : is_valid (next_state c.set_ask-asked.result s) ≡ c.is_valid.result = ap is_valid (sym c.next_state.ensures) ∙ sym c.is_valid.ensures in

@@ -8,7 +8,7 @@ use Rattle.rm_status.proofs.controls.Controls.second_fault.Goals as goal
 
 pub returns-in-Cell : goal.returns-in-Cell
 returns-in-Cell g c =
-    let C = g.C.Columns in
+    let C = g.C.ControlRow.form in
     let bs = g.A.Assigns.bindings c.args.set.now in
     let at : Cell c.in-Cell.column c.in-Cell.row ≡ place_of C.table (name_at bs c.args.place) = rw (← c.requires.entry, ← c.name-name.ensures.value) c.in-Cell.ensures in
     c.row_fault.ensures

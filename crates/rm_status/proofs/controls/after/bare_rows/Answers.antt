@@ -6,7 +6,7 @@ use Rattle.rm_status.proofs.controls.after.bare_rows.Goals as goal
 
 pub loop-row-preserved : goal.loop-row-preserved
 loop-row-preserved g c =
-    let set_to = g.C.Columns.set_to in
+    let set_to = g.C.ControlRow.form.set_to in
     let rows = c.as_slice-row-items.result.now in
     let k = c.loop-row.row-index in
     let x = c.row-item.result in

@@ -8,7 +8,7 @@ use Rattle.rm_status.proofs.indexes.ControlsRowIndexes.after.Goals as goal
 
 pub returns-in_err-row-clause-least : goal.returns-in_err-row-clause-least
 returns-in_err-row-clause-least g c =
-    let t = g.C.Columns.table in
+    let t = g.C.ControlRow.form.table in
     let rows = c.args.self.now in
     subst (λ (o : Option (List ℕ)). IsLeastAbove (is_index_in t rows) c.args.index.now o)
     (ap (option_map (λ r. row_index t r.index)) (sym c.first_behind.ensures.value ∙ ap option_copied c.in_err-row.was) ∙ sym c.from_residual.ensures)
@@ -16,7 +16,7 @@ returns-in_err-row-clause-least g c =
 
 pub returns-clause-least : goal.returns-clause-least
 returns-clause-least g c =
-    let t = g.C.Columns.table in
+    let t = g.C.ControlRow.form.table in
     let rows = c.args.self.now in
     subst (λ (o : Option (List ℕ)). IsLeastAbove (is_index_in t rows) c.args.index.now o)
     (ap (option_map (λ r. row_index t r.index)) (sym c.first_behind.ensures.value ∙ ap option_copied c.in_ok-row.was) ∙ ap Some (sym c.index.ensures))
@@ -24,6 +24,6 @@ returns-clause-least g c =
 
 pub returns-clause-fits : goal.returns-clause-fits
 returns-clause-fits g c =
-    let t = g.C.Columns.table in
+    let t = g.C.ControlRow.form.table in
     subst (λ (l : List ℕ). length l ≤ t.indexing.longest) (sym c.index.ensures)
     (first_fits t c.args.index.now c.args.self.now c.first_behind.ensures.rows c.in_ok-row.row.now (sym c.first_behind.ensures.value ∙ ap option_copied c.in_ok-row.was))

@@ -1,6 +1,6 @@
 use Rattle.std.proofs.Common.{◌≡◌, ℕ, List, [], ◌∷◌, length, None, refl, drop, length-drop, sym, ap, ◌∙◌, ◌-◌, arith}
 use Rattle.rm_status.specs.Pairs.{pair_number}
-use Rattle.rm_status.proofs.tests.pairs.PairedControlRow.number.Goals as goal
+use Rattle.rm_status.proofs.tests.pairs.TwoNumbersRowKeys.number.Goals as goal
 
 -- a list that is neither one number long nor two
 none_of : (index : List ℕ) → (length index ≡ 1 → ⊥) → (length index ≡ 2 → ⊥) → None ≡ pair_number index

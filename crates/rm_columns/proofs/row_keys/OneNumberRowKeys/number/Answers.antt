@@ -1,6 +1,6 @@
 use Rattle.std.proofs.Common.{drop, length-drop, sym, ap, ◌∙◌, ◌-◌}
 use Rattle.rm_columns.proofs.NumberLemmas.{none_of}
-use Rattle.rm_columns.proofs.numbers.one_number.Goals as goal
+use Rattle.rm_columns.proofs.row_keys.OneNumberRowKeys.number.Goals as goal
 
 pub returns-else-len-from-eq1 : goal.returns-else-len-from-eq1
 returns-else-len-from-eq1 c = none_of (drop c.args.from c.args.name.now) (λ one.
