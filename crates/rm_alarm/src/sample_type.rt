@@ -7,9 +7,9 @@ use rm_columns::Numbered;
 #[derive(Clone, Copy, Debug, PartialEq, Eq)]
 pub enum SampleType {
     /// absoluteValue: what the variable reads.
-    Absolute,
+    Absolute = 1,
     /// deltaValue: the difference from the reading before.
-    Delta,
+    Delta = 2,
 }
 
 impl Numbered for SampleType {
@@ -18,10 +18,7 @@ impl Numbered for SampleType {
     ghost variant = { variant };
 
     fn number(self) -> i32 {
-        match self {
-            SampleType::Absolute => 1,
-            SampleType::Delta => 2,
-        }
+        self as i32
     }
 
     fn numbered(number: u32) -> SampleType {

@@ -7,11 +7,11 @@ use rm_columns::Numbered;
 #[derive(Clone, Copy, Debug, PartialEq, Eq)]
 pub enum StartupAlarm {
     /// risingAlarm
-    Rising,
+    Rising = 1,
     /// fallingAlarm
-    Falling,
+    Falling = 2,
     /// risingOrFallingAlarm
-    RisingOrFalling,
+    RisingOrFalling = 3,
 }
 
 impl Numbered for StartupAlarm {
@@ -20,11 +20,7 @@ impl Numbered for StartupAlarm {
     ghost variant = { variant };
 
     fn number(self) -> i32 {
-        match self {
-            StartupAlarm::Rising => 1,
-            StartupAlarm::Falling => 2,
-            StartupAlarm::RisingOrFalling => 3,
-        }
+        self as i32
     }
 
     fn numbered(number: u32) -> StartupAlarm {

@@ -8,10 +8,10 @@ use rm_columns::Numbered;
 /// What an event does where it fires (RFC 1757, eventType).
 #[derive(Clone, Copy, Debug, PartialEq, Eq)]
 pub enum EventType {
-    None,
-    Log,
-    SnmpTrap,
-    LogAndTrap,
+    None = 1,
+    Log = 2,
+    SnmpTrap = 3,
+    LogAndTrap = 4,
 }
 
 impl Numbered for EventType {
@@ -20,12 +20,7 @@ impl Numbered for EventType {
     ghost variant = { numbered };
 
     fn number(self) -> i32 {
-        match self {
-            EventType::None => 1,
-            EventType::Log => 2,
-            EventType::SnmpTrap => 3,
-            EventType::LogAndTrap => 4,
-        }
+        self as i32
     }
 
     fn numbered(number: u32) -> EventType {
