@@ -8,9 +8,13 @@ use rm_columns::Numbered;
 /// What an event does where it fires (RFC 1757, eventType).
 #[derive(Clone, Copy, Debug, PartialEq, Eq)]
 pub enum EventType {
+    /// none: nothing.
     None = 1,
+    /// log: it adds an entry to the log.
     Log = 2,
+    /// snmp-trap: it sends a notification.
     SnmpTrap = 3,
+    /// log-and-trap: both.
     LogAndTrap = 4,
 }
 

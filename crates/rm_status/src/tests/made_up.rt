@@ -122,7 +122,7 @@ impl Default for Ruled {
     }
 }
 
-/// The keys of rows with rules.
+/// The keys of a table whose rows have one number as their index. Column 2 of row 6 can never be set, and row 7 stays.
 pub struct SixAndSeven;
 
 impl RowKeys for SixAndSeven {
