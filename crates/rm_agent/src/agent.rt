@@ -10,7 +10,7 @@ use crate::sampling::take;
 use crate::settings::Settings;
 use rm_group::{Due, MOST_FRAMES, Passing, pass_whole};
 use rm_pcap::Frame;
-use rm_pdu::{Bindings, read_message};
+use rm_pdu::{Places, read_message};
 use rm_proto::facts;
 use rm_reply::{MOST_REPLY, Request, respond};
 use rm_val::NoMemory;
@@ -109,7 +109,7 @@ impl Agent {
         ensures frames { frames_given self.new ≡ frames_given self.old }
     {
         self.last = now;
-        let mut bindings = Bindings::new();
+        let mut bindings = Places::new();
         let message = match read_message(datagram, &mut bindings) {
             Ok(message) => message,
             Err(fault) => return Answer::Drop(fault.into()),

@@ -7,7 +7,7 @@ use Rattle.rm_pdu.specs.Message.{Message as Meant}
 use Rattle.rm_pdu.specs.Parse.{Parse, IsParse, too_long, malformed, other_version, not_request, message}
 use Rattle.rm_pdu.specs.Reading.{IsTold}
 use Rattle.rm_pdu.specs.Answers.{IsAnswer, parse_of}
-use Rattle.rm_pdu.specs.declared.bindings.Offsets.{Offsets}
+use Rattle.rm_pdu.specs.declared.places.Offsets.{Offsets}
 use Rattle.rm_pdu.specs.declared.message.Fault.{Fault}
 use Rattle.rm_pdu.specs.declared.message.Message.{Message as Told}
 use Rattle.rm_decode.specs.Text.{binding_line}

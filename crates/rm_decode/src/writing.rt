@@ -4,7 +4,7 @@ ghost use Rattle.std.specs.Fmt.{signed_decimal};
 ghost use Rattle.rm_edge.specs.Outside.{Rose};
 ghost use Rattle.rm_pdu.specs.Message.{Binding};
 ghost use Rattle.rm_pdu.specs.Message.{Message as Meant};
-ghost use Rattle.rm_pdu.specs.declared.bindings.Offsets.{Offsets};
+ghost use Rattle.rm_pdu.specs.declared.places.Offsets.{Offsets};
 ghost use Rattle.rm_pdu.specs.Parse.{IsParse, Parse, message};
 ghost use Rattle.rm_pdu.specs.Placed.{AreKept};
 ghost use Rattle.rm_pdu.specs.Reading.{IsTold};
@@ -14,7 +14,7 @@ ghost use Rattle.rm_decode.specs.declared.writing.Unwritten.TheVariants.{Failed}
 
 use crate::line::{self, Text};
 use rm_edge::Sink;
-use rm_pdu::{Bindings, Message, one_parse, read_any};
+use rm_pdu::{Message, Places, one_parse, read_any};
 use rm_val::NoMemory;
 use std::alloc::Global;
 
@@ -51,7 +51,7 @@ pub fn decode<K: Sink>(alloc: Global, octets: &[u8], out: &mut K) -> Result<(), 
 fn text_of(alloc: Global, octets: &[u8]) -> Result<Text, NoMemory>
     ensures text { (v : Parse) × IsParse false octets.now v × IfOk result (λ text. text.items ≡ text_of v) }
 {
-    let mut bindings = Bindings::new();
+    let mut bindings = Places::new();
     let mut text = Vec::new(alloc);
     match read_any(octets, &mut bindings) {
         Ok(message) => push_message(&mut text, octets, &message, &bindings)?,
@@ -65,7 +65,7 @@ fn push_message(
     text: &mut Text,
     octets: &[u8],
     header: &Message<'_>,
-    bindings: &Bindings,
+    bindings: &Places,
 ) -> Result<(), NoMemory>
     requires { (m : Meant) × IsTold octets.now header.now bindings.now m }
     ensures { (m : Meant) → IsTold octets.now header.now bindings.now m → OnOk result (text.new.items ≡ text.old.items ++ text_of (message m)) }
@@ -97,7 +97,7 @@ fn push_numbers(text: &mut Text, header: &Message<'_>) -> Result<(), NoMemory>
 }
 
 // Appends the lines of bindings, which stand in the octets.
-fn push_bindings(text: &mut Text, octets: &[u8], bindings: &Bindings) -> Result<(), NoMemory>
+fn push_bindings(text: &mut Text, octets: &[u8], bindings: &Places) -> Result<(), NoMemory>
     requires { (all : List Binding) × AreKept octets.now bindings.now all }
     ensures { (all : List Binding) → AreKept octets.now bindings.now all
         → OnOk result (text.new.items ≡ text.old.items ++ flat_map binding_line (take 128 all)) }

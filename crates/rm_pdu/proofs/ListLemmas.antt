@@ -7,7 +7,7 @@ use Rattle.rm_pdu.specs.Message.{Binding}
 use Rattle.rm_pdu.specs.Spells.{AreBindings}
 use Rattle.rm_pdu.specs.Placed.{IsPlaced, AreKept}
 use Rattle.rm_pdu.specs.Reading.{OneBinding, AllBindings}
-use Rattle.rm_pdu.specs.declared.bindings.Offsets.{Offsets}
+use Rattle.rm_pdu.specs.declared.places.Offsets.{Offsets}
 use Rattle.rm_pdu.proofs.PlacedLemmas.{placed_more, placed_enough}
 
 pub record InList (bytes first left : List ℕ) (offsets : List Offsets) (count : ℕ) : Type 0 where

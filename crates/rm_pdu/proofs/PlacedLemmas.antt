@@ -6,7 +6,7 @@ use Rattle.rm_val.specs.Val.{Val}
 use Rattle.rm_ber.specs.Grammar.{ValueFirst}
 use Rattle.rm_pdu.specs.Message.{Binding}
 use Rattle.rm_pdu.specs.Placed.{IsPlaced, ArePlaced}
-use Rattle.rm_pdu.specs.declared.bindings.Offsets.{Offsets}
+use Rattle.rm_pdu.specs.declared.places.Offsets.{Offsets}
 use Rattle.rm_pdu.specs.declared.message.Message.{Message as Told}
 use Rattle.rm_pdu.specs.Parse.{Parse, message}
 use Rattle.rm_pdu.specs.Answers.{IsAnswer}

@@ -2,7 +2,7 @@
 use Rattle.std.specs.Prelude.{◌≡◌, ℕ, List, Result, Ok, Err}
 use Rattle.rm_pdu.specs.Parse.{Parse, too_long, malformed, other_version, not_request, message}
 use Rattle.rm_pdu.specs.Reading.{IsTold}
-use Rattle.rm_pdu.specs.declared.bindings.Offsets.{Offsets}
+use Rattle.rm_pdu.specs.declared.places.Offsets.{Offsets}
 use Rattle.rm_pdu.specs.declared.message.Message.{Message as Told}
 use Rattle.rm_pdu.specs.declared.message.Fault.{Fault}
 use Rattle.rm_pdu.specs.declared.message.Fault.TheVariants.{TooLong, Malformed, Version, NotRequest}

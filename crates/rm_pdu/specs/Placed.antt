@@ -3,7 +3,7 @@ use Rattle.std.specs.Prelude.{◌≡◌, ℕ, List, [], ◌∷◌, length, drop,
 use Rattle.rm_val.specs.Val.{name}
 use Rattle.rm_ber.specs.Grammar.{ValueFirst}
 use Rattle.rm_pdu.specs.Message.{Binding}
-use Rattle.rm_pdu.specs.declared.bindings.Offsets.{Offsets}
+use Rattle.rm_pdu.specs.declared.places.Offsets.{Offsets}
 
 -- the name and the value of the binding stand at these offsets
 abbrev pub IsPlaced : List ℕ → Offsets → Binding → Type 0

@@ -5,7 +5,7 @@ use Rattle.rm_ber.specs.Grammar.{StandsFirst, ValueFirst, Left}
 use Rattle.rm_pdu.specs.Message.{Binding, Message}
 use Rattle.rm_pdu.specs.Spells.{IsBinding, AreBindings, Spells}
 use Rattle.rm_pdu.specs.Placed.{IsPlaced, AreKept}
-use Rattle.rm_pdu.specs.declared.bindings.Offsets.{Offsets}
+use Rattle.rm_pdu.specs.declared.places.Offsets.{Offsets}
 use Rattle.rm_pdu.specs.declared.message.Numbers.{Numbers}
 use Rattle.rm_pdu.specs.declared.message.Message.{Message as Told}
 use Rattle.rm_pdu.specs.Parse.{Awaited, Begins, is_read, IsMalformed, HasVersion, HasOtherPdu}

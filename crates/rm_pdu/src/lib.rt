@@ -2,14 +2,13 @@
 //! place, and a writer of canonical messages.
 #![tactic(auto)]
 
-mod bindings;
 mod draft;
 mod kind;
 mod laws;
 mod layout;
 mod message;
+mod places;
 
-pub use bindings::{Bindings, Offsets};
 pub use draft::{Draft, reads_back};
 pub use kind::Kind;
 pub use laws::{
@@ -17,3 +16,4 @@ pub use laws::{
     every_parse, index_128_is_longest, no_message_in_front, one_message, one_parse,
 };
 pub use message::{Fault, Message, read_any, read_message};
+pub use places::{Offsets, Places};

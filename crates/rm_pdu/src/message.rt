@@ -10,10 +10,10 @@ ghost use Rattle.rm_pdu.specs.Answers.{IsAnswer};
 ghost use Rattle.rm_pdu.specs.Reading.{IsAt, Fails, Envelope, AreNumbers, OneBinding, AllBindings, WholePdu, IsRead};
 ghost use Rattle.rm_pdu.specs.declared.message.Fault.TheVariants.{Malformed};
 
-use crate::bindings::{Bindings, Offsets};
 use crate::kind::Kind;
 use crate::laws::one_parse;
 use crate::layout::{SEQUENCE, VERSION};
+use crate::places::{Offsets, Places};
 use rm_ber::{Bad, Reader};
 
 #[cfg(test)]
@@ -184,7 +184,7 @@ fn read_binding(list: &mut Reader<'_>) -> Result<Offsets, Fault>
 }
 
 // Reads bindings to the end of their list, and answers how many there are.
-fn read_bindings(list: &mut Reader<'_>, into: &mut Bindings) -> Result<u32, Fault>
+fn read_bindings(list: &mut Reader<'_>, into: &mut Places) -> Result<u32, Fault>
     requires empty { into.old ≡ [] }
     requires few { end_of list.old < 2 ^ 32 }
     ensures part { (requests : Bool) (bytes : List ℕ) (outer : List (List ℕ)) → IsAt requests bytes binding outer list.old
@@ -210,7 +210,7 @@ struct Pdu {
 }
 
 // Reads the content of a PDU to its end.
-fn read_pdu(pdu: &mut Reader<'_>, into: &mut Bindings) -> Result<Pdu, Fault>
+fn read_pdu(pdu: &mut Reader<'_>, into: &mut Places) -> Result<Pdu, Fault>
     requires empty { into.old ≡ [] }
     requires few { end_of pdu.old < 2 ^ 32 }
     ensures part { (requests : Bool) (bytes : List ℕ) (outer : List (List ℕ)) → IsAt requests bytes request_id outer pdu.old
@@ -227,11 +227,7 @@ fn read_pdu(pdu: &mut Reader<'_>, into: &mut Bindings) -> Result<Pdu, Fault>
 }
 
 // Reads a message of 8192 octets at most.
-fn read_whole<'a>(
-    bytes: &'a [u8],
-    requests: bool,
-    into: &mut Bindings,
-) -> Result<Message<'a>, Fault>
+fn read_whole<'a>(bytes: &'a [u8], requests: bool, into: &mut Places) -> Result<Message<'a>, Fault>
     requires empty { into.old ≡ [] }
     requires few { length bytes.now ≤ 8192 }
     ensures { MatchResult result (λ told. IsRead requests bytes.entry.now told into.new) (Fails requests bytes.entry.now) }
@@ -254,7 +250,7 @@ fn read_whole<'a>(
 }
 
 // Reads a message, of requests alone or of any kind of PDU.
-fn read<'a>(bytes: &'a [u8], requests: bool, into: &mut Bindings) -> Result<Message<'a>, Fault>
+fn read<'a>(bytes: &'a [u8], requests: bool, into: &mut Places) -> Result<Message<'a>, Fault>
     ensures parse { (v : Parse) × IsParse requests bytes.entry.now v × IsAnswer bytes.entry.now v result into.new }
     ensures emptied { OnErr result (into.new ≡ []) }
 {
@@ -278,7 +274,7 @@ fn read<'a>(bytes: &'a [u8], requests: bool, into: &mut Bindings) -> Result<Mess
 /// The first fault in the order of the octets is told: `TooLong` where there are more than 8192, `Version` directly
 /// after another version, `NotRequest` at the tag of another PDU, whatever follows it, and `Malformed` with the offset
 /// of the tag of an element that breaks a rule or of the first octet that is left over.
-pub fn read_message<'a>(bytes: &'a [u8], into: &mut Bindings) -> Result<Message<'a>, Fault>
+pub fn read_message<'a>(bytes: &'a [u8], into: &mut Places) -> Result<Message<'a>, Fault>
     // The octets have one parse, and this is it.
     ensures parse { (v : Parse) × IsParse true bytes.entry.now v × IsAnswer bytes.entry.now v result into.new }
     ensures only { (v : Parse) → IsParse true bytes.entry.now v → IsAnswer bytes.entry.now v result into.new }
@@ -289,7 +285,7 @@ pub fn read_message<'a>(bytes: &'a [u8], into: &mut Bindings) -> Result<Message<
 }
 
 /// Reads a message with any kind of PDU, like `read_message`; `NotRequest` never comes.
-pub fn read_any<'a>(bytes: &'a [u8], into: &mut Bindings) -> Result<Message<'a>, Fault>
+pub fn read_any<'a>(bytes: &'a [u8], into: &mut Places) -> Result<Message<'a>, Fault>
     // The octets have one parse, and this is it.
     ensures parse { (v : Parse) × IsParse false bytes.entry.now v × IsAnswer bytes.entry.now v result into.new }
     ensures only { (v : Parse) → IsParse false bytes.entry.now v → IsAnswer bytes.entry.now v result into.new }

@@ -5,7 +5,7 @@ use Rattle.rm_pdu.specs.Message.{Message}
 use Rattle.rm_pdu.specs.Parse.{Parse, too_long, malformed, other_version, not_request, message, IsParse}
 use Rattle.rm_pdu.specs.Reading.{IsTold}
 use Rattle.rm_pdu.specs.Answers.{IsAnswer}
-use Rattle.rm_pdu.specs.declared.bindings.Offsets.{Offsets}
+use Rattle.rm_pdu.specs.declared.places.Offsets.{Offsets}
 use Rattle.rm_pdu.specs.declared.message.Message.{Message as Told}
 
 -- the octets are a message, and this is what was told of it

@@ -5,7 +5,7 @@ ghost use Rattle.rm_reply.specs.Replies.{counting};
 use crate::names::Names;
 use rm_ber::Room;
 use rm_group::Assignments;
-use rm_pdu::{Bindings, Draft, Kind, Message, bindings_lengthen, index_128_is_longest};
+use rm_pdu::{Draft, Kind, Message, Places, bindings_lengthen, index_128_is_longest};
 use rm_val::ErrorStatus;
 
 /// The most octets of a reply.
@@ -22,7 +22,7 @@ pub struct Request<'a> {
     /// What they tell of it.
     pub message: Message<'a>,
     /// Where its bindings stand in them.
-    pub bindings: Bindings,
+    pub bindings: Places,
 }
 
 impl<'a> Request<'a> {

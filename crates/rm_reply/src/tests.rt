@@ -2,7 +2,7 @@
 // the system group at 2000, which has sysDescr.0 and sysUpTime.0, and nothing that can be set.
 use crate::{MOST_REPLY, Request, respond};
 use rm_group::System;
-use rm_pdu::{Bindings, read_message};
+use rm_pdu::{Places, read_message};
 use std::alloc::Global;
 use std::test::Fail;
 
@@ -263,7 +263,7 @@ const LONG: [(Repeated, Repeated); 12] = [
 fn said(alloc: Global, datagram: &str) -> Result<String, Fail> {
     let decoded = hex::decode(alloc, datagram)?;
     let octets = decoded.as_slice();
-    let mut bindings = Bindings::new();
+    let mut bindings = Places::new();
     let message = match read_message(octets, &mut bindings) {
         Ok(message) if message.community.len() <= 127 => message,
         _ => return Ok(String::new(alloc)),

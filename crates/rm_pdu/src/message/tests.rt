@@ -1,6 +1,6 @@
 use crate::{
-    Bindings, Fault, Kind, Message, bindings_lengthen, every_parse, no_message_in_front,
-    one_message, one_parse, read_any, read_message,
+    Fault, Kind, Message, Places, bindings_lengthen, every_parse, no_message_in_front, one_message,
+    one_parse, read_any, read_message,
 };
 use rm_val::{Oid, Value};
 use std::cmp::Ordering;
@@ -66,7 +66,7 @@ fn each_kind_is_read(rt: HostRuntime) {
             told(b"public", Kind::Get, 1, 0, 0, 1),
         ),
     ];
-    let mut bindings = Bindings::new();
+    let mut bindings = Places::new();
     for (octets, message) in rows {
         assert_eq!(rt; read_any(octets, &mut bindings), Ok(message), "{octets:?}");
         assert_eq!(rt;
@@ -102,7 +102,7 @@ fn is_same(a: &Value<'_>, b: &Value<'_>) -> bool {
 // Whether the octets are a message whose binding at the place has this name and this value.
 #[tactic(auto, using(crate::proofs::PlacedLemmas::told_placed))]
 fn has_binding(octets: &[u8], place: usize, name: &Oid, value: &Value<'_>) -> bool {
-    let mut bindings = Bindings::new();
+    let mut bindings = Places::new();
     match read_any(octets, &mut bindings) {
         Ok(_) => {
             place < bindings.len()
@@ -238,7 +238,7 @@ fn faults_have_their_places(rt: HostRuntime) {
             Fault::Malformed(20),
         ),
     ];
-    let mut bindings = Bindings::new();
+    let mut bindings = Places::new();
     for (octets, fault) in rows {
         for requests in [true, false] {
             assert!(rt; read_any(&TRAP, &mut bindings).is_ok());
@@ -265,7 +265,7 @@ fn other_pdus_are_told_at_their_tags(rt: HostRuntime) {
         (b"\x30\x07\x02\x01\x01\x04\x00\xa8\x00", 0xa8, 9),
         (b"\x30\x07\x02\x01\x01\x04\x00\xa8\x01", 0xa8, 7),
     ];
-    let mut bindings = Bindings::new();
+    let mut bindings = Places::new();
     for (octets, tag, at) in rows {
         assert_eq!(rt;
             read_message(octets, &mut bindings),
@@ -307,7 +307,7 @@ fn a_cut_message_is_malformed(rt: HostRuntime) {
         (&[1, 14, 25, 27], 28, 38, 28),
         (&[1, 14, 25, 27], 38, 40, 38),
     ];
-    let mut bindings = Bindings::new();
+    let mut bindings = Places::new();
     for (lengths, from, until, at) in rows {
         for count in from..until {
             let octets = cut(lengths, count);
@@ -330,7 +330,7 @@ fn the_129th_binding_is_checked(rt: HostRuntime) {
         let at = 26 + 7 * place;
         octets[at..at + 7].copy_from_slice(b"\x30\x05\x06\x01\x2b\x05\x00");
     }
-    let mut bindings = Bindings::new();
+    let mut bindings = Places::new();
     assert_eq!(rt;
         read_message(&octets, &mut bindings),
         Ok(told(b"", Kind::Get, 1, 0, 0, 129))
@@ -356,7 +356,7 @@ fn more_than_8192_octets_are_too_many(rt: HostRuntime) {
     let mut more = [7; 8193];
     more[..11].copy_from_slice(b"\x30\x82\x1f\xfd\x02\x01\x01\x04\x82\x1f\xe9");
     more[8180..].copy_from_slice(pdu);
-    let mut bindings = Bindings::new();
+    let mut bindings = Places::new();
     let community = [7; 8168];
     assert_eq!(rt;
         read_message(&most, &mut bindings),

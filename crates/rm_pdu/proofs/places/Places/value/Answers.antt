@@ -1,7 +1,7 @@
 use Rattle.std.proofs.Common.{drop, subst, sym, arith}
 use Rattle.rm_val.specs.Spellable.{HasSpelling}
 use Rattle.rm_pdu.proofs.PlacedLemmas.{placed_one, stands_inside}
-use Rattle.rm_pdu.proofs.bindings.Bindings.value.Goals as goal
+use Rattle.rm_pdu.proofs.places.Places.value.Goals as goal
 
 pub value_at-requires : goal.value_at-requires
 value_at-requires c =

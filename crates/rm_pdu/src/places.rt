@@ -1,4 +1,4 @@
-// The bindings of a message, as the places where they stand.
+// The places of the bindings of a message.
 ghost use Rattle.std.specs.Prelude.{◌≡◌, ◌≤◌, ◌<◌, ◌++◌, ◌∷◌, [], ℕ, length, drop, List, IfSome, Some, slice_get};
 ghost use Rattle.rm_val.specs.Val.{Val, val_of, name};
 ghost use Rattle.rm_ber.specs.Grammar.{ValueFirst};
@@ -20,29 +20,29 @@ pub struct Offsets {
 
 /// The places of a message's first 128 bindings. The octets themselves stay with the caller.
 #[derive(Drop)]
-pub struct Bindings {
+pub struct Places {
     offsets: ArrayVec<Offsets, MOST_KEPT>,
 }
 
-impl Model for Bindings {
+impl Model for Places {
     ghost use Rattle.std.specs.Prelude.{List};
-    ghost use Rattle.rm_pdu.specs.declared.bindings.Offsets.{Offsets};
+    ghost use Rattle.rm_pdu.specs.declared.places.Offsets.{Offsets};
 
     ghost Value = { List Offsets };
 
     ghost view = { λ b. b.offsets.items };
 }
 
-impl Bindings {
+impl Places {
     ghost use Rattle.rm_val.specs.Spellable.{IsSpellable, HasSpelling};
     ghost use Rattle.rm_pdu.specs.Message.{Binding};
     ghost use Rattle.rm_pdu.specs.Placed.{ArePlaced};
 
     /// No binding.
-    pub fn new() -> Bindings
+    pub fn new() -> Places
         ensures { result ≡ [] }
     {
-        Bindings {
+        Places {
             offsets: ArrayVec::new(),
         }
     }

@@ -1,7 +1,7 @@
 use Rattle.std.proofs.Common.{ℕ, List, sym, subst, ◌∙◌}
 use Rattle.rm_ber.specs.Grammar.{ValueFirst}
 use Rattle.rm_pdu.proofs.PlacedLemmas.{from_here}
-use Rattle.rm_pdu.proofs.bindings.value_at.Goals as goal
+use Rattle.rm_pdu.proofs.places.value_at.Goals as goal
 
 pub returns-in-Ok : goal.returns-in-Ok
 returns-in-Ok c = λ v rest first.

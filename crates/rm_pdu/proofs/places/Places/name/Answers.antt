@@ -2,7 +2,7 @@ use Rattle.std.proofs.Common.{drop, subst, sym, arith}
 use Rattle.rm_val.specs.Val.{name}
 use Rattle.rm_val.specs.Spellable.{IsSpellable}
 use Rattle.rm_pdu.proofs.PlacedLemmas.{placed_one, stands_inside}
-use Rattle.rm_pdu.proofs.bindings.Bindings.name.Goals as goal
+use Rattle.rm_pdu.proofs.places.Places.name.Goals as goal
 
 pub name_at-requires : goal.name_at-requires
 name_at-requires c =

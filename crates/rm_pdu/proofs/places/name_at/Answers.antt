@@ -2,7 +2,7 @@ use Rattle.std.proofs.Common.{ℕ, List, sym, subst, ◌∙◌}
 use Rattle.rm_val.specs.Val.{name}
 use Rattle.rm_ber.specs.Grammar.{ValueFirst}
 use Rattle.rm_pdu.proofs.PlacedLemmas.{from_here, same_name}
-use Rattle.rm_pdu.proofs.bindings.name_at.Goals as goal
+use Rattle.rm_pdu.proofs.places.name_at.Goals as goal
 
 pub returns-in-Ok : goal.returns-in-Ok
 returns-in-Ok c = λ numbers rest first.
