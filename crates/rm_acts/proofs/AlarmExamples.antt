@@ -3,7 +3,7 @@ use Rattle.std.proofs.Common.{◌≡◌, ℕ, List, [], ◌∷◌, true, false, 
 use Rattle.std.specs.Prelude.{pos, negsuc, if◌then◌else◌}
 use Rattle.std.specs.Str.{bytes_eq}
 use Rattle.rm_val.specs.Val.{Val, int, name}
-use Rattle.rm_model.specs.Settings.{Settings}
+use Rattle.rm_model.specs.Counting.{Counting}
 use Rattle.rm_model.specs.Journal.{Act, Assignment, assigns, samples, Journal}
 use Rattle.rm_model.specs.ControlRows.{cell_name}
 use Rattle.rm_model.proofs.ExampleSettings.{plain}
@@ -16,7 +16,7 @@ abbrev pkts : List ℕ
 pkts = 1 ∷ 3 ∷ 6 ∷ 1 ∷ 2 ∷ 1 ∷ 16 ∷ 1 ∷ 1 ∷ 1 ∷ 5 ∷ 1 ∷ []
 
 -- it reads 4294967290, a Counter32, after every journal and at every moment; nothing else can be read
-abbrev settings : Settings
+abbrev settings : Counting
 settings = record plain {
   readings = λ journal now variable. if bytes_eq variable pkts then Some (record { value = pos 4294967290; counter = true }) else None;
 }

@@ -6,7 +6,7 @@ use Rattle.std.specs.Ordering.{nat_cmp}
 use Rattle.std.specs.declared.cmp.Ordering.{Ordering}
 use Rattle.std.specs.declared.cmp.Ordering.TheVariants.{Less, Equal, Greater}
 use borrow.Author.Tests.{eqb-true}
-use Rattle.rm_model.specs.Settings.{Settings}
+use Rattle.rm_model.specs.Counting.{Counting}
 use Rattle.rm_model.specs.Journal.{Assignment, Assignments, Frame, Journal, passes}
 use Rattle.rm_model.specs.Accepted.{with_assignment, placed, assignments_of}
 use Rattle.rm_model.specs.Cells.{behind, instance_left, is_of_column}
@@ -15,7 +15,7 @@ use Rattle.rm_model.specs.Judgement.{Bindings}
 use Rattle.rm_acts.specs.Channels.{channel_entry, channel_table, HasNoChannel}
 use Rattle.rm_acts.specs.Fired.{Fired, act_fires}
 
-pub no_channel_fires : (settings : Settings) (frame : Frame) (journal : Journal) (before : Fired) → HasNoChannel journal → act_fires settings (passes frame) journal before ≡ []
+pub no_channel_fires : (settings : Counting) (frame : Frame) (journal : Journal) (before : Fired) → HasNoChannel journal → act_fires settings (passes frame) journal before ≡ []
 no_channel_fires settings frame journal before none = rw none refl
 
 -- whether a name and an entry differ within both

@@ -4,7 +4,7 @@ use Rattle.std.specs.Prelude.{pos, length, replicate, if◌then◌else◌}
 use Rattle.std.specs.Option.{option_or}
 use Rattle.std.specs.Str.{bytes_eq}
 use Rattle.rm_val.specs.Val.{Val, int, name, counter}
-use Rattle.rm_model.specs.Settings.{Settings}
+use Rattle.rm_model.specs.Counting.{Counting}
 use Rattle.rm_model.specs.Journal.{Act, Assignment, passes, Journal, frames_in}
 use Rattle.rm_model.specs.Cells.{Cells, cells_of}
 use Rattle.rm_model.specs.ControlRows.{cell_name}
@@ -25,7 +25,7 @@ sampleable settings journal now variable =
     option_or (pkts_cell journal variable)
     (option_or (cells_of (channels_shown settings journal) variable) (cells_of (buffers_shown settings journal) variable))
 
-abbrev pub settings : Settings
+abbrev pub settings : Counting
 settings = sampling sampleable plain
 
 -- what a Set gives to a column of a row

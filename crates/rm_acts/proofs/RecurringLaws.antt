@@ -1,12 +1,12 @@
 -- That what alarms read by recursion is what the cells read, and that nothing else is.
 use Rattle.std.proofs.Common.{◌≡◌, ℕ, ◌≤◌, List, [], ◌∷◌, length, true, false, refl, sym, ap, ◌∙◌, nat_eq, arith}
 use Rattle.std.proofs.lemmas.Bool.Decides.{nat_tests}
-use Rattle.rm_model.specs.Settings.{Settings}
+use Rattle.rm_model.specs.Counting.{Counting}
 use Rattle.rm_model.specs.Journal.{Act, Journal}
 use Rattle.rm_model.specs.Readings.{Readings}
 use Rattle.rm_acts.specs.Recurring.{Sampleable, reading_of, read, with_readings, readings_before, readings_after, sampling, ReadAlikeBefore, ReadBefore}
 
-module _ (cells : Sampleable) (settings : Settings) (only_before : ReadBefore cells) where
+module _ (cells : Sampleable) (settings : Counting) (only_before : ReadBefore cells) where
   abbrev before : Journal → (Journal → ℕ → Readings)
   before = readings_before cells settings
 

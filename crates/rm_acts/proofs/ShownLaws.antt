@@ -2,7 +2,7 @@
 use Rattle.std.proofs.Common.{◌≡◌, ℕ, List, [], ◌∷◌, true, false, cond, Option, Some, None, refl, ap, ◌∙◌}
 use Rattle.std.specs.Prelude.{ℤ, filter}
 use Rattle.std.specs.Option.{option_or}
-use Rattle.rm_model.specs.Settings.{Settings}
+use Rattle.rm_model.specs.Counting.{Counting}
 use Rattle.rm_model.specs.Journal.{Act, Journal, passes, assigns, samples}
 use Rattle.rm_model.specs.Readings.{Readings}
 use Rattle.rm_model.specs.Cells.{cells_of, cell_at, instance_of}
@@ -15,11 +15,11 @@ use Rattle.rm_acts.specs.Recurring.{Sampleable, with_readings, ReadAlikeBefore, 
 use Rattle.rm_acts.specs.Shown.{row_of, channels_shown, buffers_shown, channel_shown, buffer_shown}
 use Rattle.rm_model.specs.declared.instance.Instance.{Instance}
 
-module _ (settings : Settings) (one other : Journal → ℕ → Readings) where
-  abbrev left : Settings
+module _ (settings : Counting) (one other : Journal → ℕ → Readings) where
+  abbrev left : Counting
   left = with_readings settings one
 
-  abbrev right : Settings
+  abbrev right : Counting
   right = with_readings settings other
 
   same_base : (journal : Journal) (alarm : ℕ) → ReadAlikeBefore one other journal → base_of left journal alarm ≡ base_of right journal alarm

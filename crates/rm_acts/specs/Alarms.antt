@@ -5,7 +5,7 @@ use Rattle.std.specs.Int.{int_rem_euclid, int_min, int_max}
 use Rattle.std.specs.Ordering.{int_eq}
 use Rattle.rm_val.specs.Val.{Val, int, name}
 pub use Rattle.rm_val.specs.Contents.{number_of, name_of}
-use Rattle.rm_model.specs.Settings.{Settings}
+use Rattle.rm_model.specs.Counting.{Counting}
 use Rattle.rm_model.specs.Journal.{Journal, passes, assigns, samples, moment_of}
 use Rattle.rm_model.specs.ControlTable.{Range, Column, ControlTable, number, any_name, up_from, plain_column, needed_column, owner_column, entry_table}
 use Rattle.rm_model.specs.ControlRows.{no_rows, is_valid, state_of, value_of, stays_valid, since, activated}
@@ -100,7 +100,7 @@ readings_of journal alarm = readings_in alarm (since alarm_table no_rows journal
 
 -- What its variable read when it became valid, after the acts before the one that made it so, and at the moment of that one.
 -- Nothing where it isn't valid.
-abbrev pub base_of : Settings → Journal → ℕ → Option Reading
+abbrev pub base_of : Counting → Journal → ℕ → Option Reading
 base_of settings [] alarm = None
 base_of settings (act ∷ earlier) alarm =
     if stays_valid alarm_table no_rows act earlier (alarm ∷ []) then base_of settings earlier alarm
@@ -134,7 +134,7 @@ base_number (Some reading) = reading.value
 base_number None = pos 0
 
 -- the values of its samples since it became valid, the newest first
-abbrev pub sample_values : Settings → Journal → ℕ → List ℤ
+abbrev pub sample_values : Counting → Journal → ℕ → List ℤ
 sample_values settings journal alarm =
     values_of_readings (is_delta journal alarm) (is_counted (base_of settings journal alarm)) (base_number (base_of settings journal alarm))
     (readings_of journal alarm)
@@ -144,11 +144,11 @@ abbrev pub saturated : ℤ → ℤ
 saturated value = int_max (negsuc 2147483647) (int_min value (pos 2147483647))
 
 -- alarmValue: the value of the last sample, 0 before the first
-abbrev pub alarm_value : Settings → Journal → ℕ → ℤ
+abbrev pub alarm_value : Counting → Journal → ℕ → ℤ
 alarm_value settings journal alarm = saturated (newest_or (pos 0) (sample_values settings journal alarm))
 
 -- What a sample comes to that an alarm takes after a journal, at a moment in milliseconds, and that reads this.
-abbrev pub sampled : Settings → Journal → (moment alarm : ℕ) → (reading : Option ℤ) → Sampled
+abbrev pub sampled : Counting → Journal → (moment alarm : ℕ) → (reading : Option ℤ) → Sampled
 sampled settings journal moment alarm None = Gone
 sampled settings journal moment alarm (Some reading) =
     crossing (bounds_of journal alarm) (sample_values settings (samples moment alarm (Some reading) ∷ journal) alarm)

@@ -1,7 +1,7 @@
 -- The control table of capture buffers (RFC 1757, section 5), and the packets that a buffer keeps.
 use Rattle.std.specs.Prelude.{ℕ, ◌+◌, ◌-◌, min, max, pos, negsuc, List, [], ◌∷◌, length, map, filter, reverse, take, drop, Bool, true, false, nat_eq, nat_le, nat_lt, if◌then◌else◌}
 use Rattle.rm_val.specs.Val.{Val, int}
-use Rattle.rm_model.specs.Settings.{Settings}
+use Rattle.rm_model.specs.Counting.{Counting}
 use Rattle.rm_model.specs.Journal.{Frame, Journal}
 use Rattle.rm_model.specs.Cells.{is_one_of}
 use Rattle.rm_model.specs.ControlTable.{ControlTable, number, up_from, plain_column, always_column, needed_column, owner_column, entry_table}
@@ -55,7 +55,7 @@ abbrev pub cost_of : (slice : ℕ) → Frame → ℕ
 cost_of slice frame = stored_size slice frame + 32
 
 -- whether a buffer accepts a frame: its channel is one of those that are on and accept it
-abbrev pub captures : Settings → (buffer : ℕ) → Seen → Bool
+abbrev pub captures : Counting → (buffer : ℕ) → Seen → Bool
 captures settings buffer seen =
     is_one_of (accepting settings seen.frame seen.before (fired settings seen.before)) (channel_captured seen.before buffer)
 
@@ -70,7 +70,7 @@ numbered [] = []
 numbered (frame ∷ earlier) = record { number = length earlier + 1; frame = frame } ∷ numbered earlier
 
 -- the packets that a buffer accepted since it became valid, the newest first
-abbrev pub accepted_by : Settings → Journal → (buffer : ℕ) → List Packet
+abbrev pub accepted_by : Counting → Journal → (buffer : ℕ) → List Packet
 accepted_by settings journal buffer =
     numbered (map (λ seen. seen.frame) (filter (captures settings buffer) (seen_since buffer_table no_rows journal (buffer ∷ []))))
 
@@ -85,13 +85,13 @@ abbrev pub kept_of : (does_wrap : Bool) → (cost : Packet → ℕ) → (most : 
 kept_of true cost most packets = longest_front cost most packets
 kept_of false cost most packets = reverse (longest_front cost most (reverse packets))
 
-abbrev pub kept_by : Settings → Journal → (buffer : ℕ) → List Packet
+abbrev pub kept_by : Counting → Journal → (buffer : ℕ) → List Packet
 kept_by settings journal buffer =
     kept_of (does_wrap journal buffer) (λ packet. cost_of (slice_of journal buffer) packet.frame) (granted_of journal buffer)
     (accepted_by settings journal buffer)
 
 -- bufferControlFullStatus: 2 exactly where a packet that was accepted isn't kept
-abbrev pub full_status : Settings → Journal → (buffer : ℕ) → ℕ
+abbrev pub full_status : Counting → Journal → (buffer : ℕ) → ℕ
 full_status settings journal buffer =
     if nat_lt (length (kept_by settings journal buffer)) (length (accepted_by settings journal buffer)) then 2 else 1
 

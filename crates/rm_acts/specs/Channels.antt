@@ -2,7 +2,7 @@
 use Rattle.std.specs.Prelude.{◌≡◌, ℕ, pos, List, [], ◌∷◌, length, Bool, ◌&&◌, not, nat_eq, if◌then◌else◌, filter}
 use Rattle.std.specs.List.{list_any}
 use Rattle.rm_val.specs.Val.{int}
-use Rattle.rm_model.specs.Settings.{Settings}
+use Rattle.rm_model.specs.Counting.{Counting}
 use Rattle.rm_model.specs.Journal.{Frame, Journal}
 use Rattle.rm_model.specs.ControlTable.{Column, ControlTable, number, up_from, plain_column, always_column, text_column, owner_column, entry_table}
 use Rattle.rm_model.specs.ControlRows.{no_rows}
@@ -48,19 +48,19 @@ abbrev pub event_of : Journal → (channel : ℕ) → ℕ
 event_of journal channel = number_in channel_table journal channel 7
 
 -- whether a valid filter of a channel matches a frame
-abbrev pub is_matched : Settings → Journal → (channel : ℕ) → Frame → Bool
+abbrev pub is_matched : Counting → Journal → (channel : ℕ) → Frame → Bool
 is_matched settings journal channel frame =
     list_any (λ each. nat_eq (channel_of journal each) channel && matches settings journal each frame) (valid_rows filter_table journal)
 
 -- Whether a channel accepts a frame of its interface after a journal: of acceptType 1 where a valid filter of it matches, of 2
 -- where none does.
-abbrev pub accepts : Settings → Journal → (channel : ℕ) → Frame → Bool
+abbrev pub accepts : Counting → Journal → (channel : ℕ) → Frame → Bool
 accepts settings journal channel frame =
     let matched = is_matched settings journal channel frame in
     nat_eq frame.interface (interface_of journal channel) && (if accepts_matched journal channel then matched else not matched)
 
 -- channelMatches: the frames since it became valid that it accepted, each by what was set when the frame came
-abbrev pub match_count : Settings → Journal → (channel : ℕ) → ℕ
+abbrev pub match_count : Counting → Journal → (channel : ℕ) → ℕ
 match_count settings journal channel =
     length (filter (λ seen. accepts settings seen.before channel seen.frame) (seen_since channel_table no_rows journal (channel ∷ [])))
 

@@ -1,7 +1,7 @@
 -- The control table of filters (RFC 1757, section 5), and the frames that a filter matches.
 use Rattle.std.specs.Prelude.{ℕ, ◌%◌, pos, List, [], ◌∷◌, Bool, ◌&&◌, drop}
 use Rattle.rm_val.specs.Val.{int, octets}
-use Rattle.rm_model.specs.Settings.{Settings}
+use Rattle.rm_model.specs.Counting.{Counting}
 use Rattle.rm_model.specs.Journal.{Frame, Journal}
 use Rattle.rm_model.specs.FrameFacts.{frame_facts}
 use Rattle.rm_model.specs.ControlTable.{Column, ControlTable, number, text, up_from, plain_column, needed_column, owner_column, entry_table}
@@ -38,11 +38,11 @@ passes_data journal filter frame =
     pass (test_of (text 4) (text 5) (text 6)) (drop (number_in filter_table journal filter 3) frame.octets)
 
 -- whether its status passes: of each number its three lowest bits count
-abbrev pub passes_status : Settings → Journal → (filter : ℕ) → Frame → Bool
+abbrev pub passes_status : Counting → Journal → (filter : ℕ) → Frame → Bool
 passes_status settings journal filter frame =
     let bits : ℕ → ℕ = λ column. number_in filter_table journal filter column % 8 in
     pass (record { wanted = bits 7; mask = bits 8; not_mask = bits 9 } ∷ []) ((frame_facts settings frame).status ∷ [])
 
 -- whether a filter matches a frame
-abbrev pub matches : Settings → Journal → (filter : ℕ) → Frame → Bool
+abbrev pub matches : Counting → Journal → (filter : ℕ) → Frame → Bool
 matches settings journal filter frame = passes_data journal filter frame && passes_status settings journal filter frame

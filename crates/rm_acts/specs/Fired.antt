@@ -4,7 +4,7 @@
 use Rattle.std.specs.Prelude.{ℕ, List, [], ◌∷◌, ◌++◌, map, filter, Bool, false, ◌&&◌, ◌||◌, nat_eq, if◌then◌else◌, Some, None}
 use Rattle.std.specs.Option.{option_map_or}
 use Rattle.rm_val.specs.Contents.{natural_in}
-use Rattle.rm_model.specs.Settings.{Settings}
+use Rattle.rm_model.specs.Counting.{Counting}
 use Rattle.rm_model.specs.Journal.{Act, Frame, Journal, passes, assigns, samples, moment_of, value_given}
 use Rattle.rm_model.specs.ControlTable.{default_of}
 use Rattle.rm_model.specs.ControlRows.{no_rows, is_absent, cell_name, stays_valid}
@@ -82,7 +82,7 @@ abbrev pub is_on : Journal → Fired → (channel : ℕ) → Bool
 is_on journal fired channel = nat_eq (present data_control journal fired channel) 1
 
 -- The valid channels that are on and accept a frame, in the order of their indexes. All judge the frame before any fires.
-abbrev pub accepting : Settings → Frame → Journal → Fired → List ℕ
+abbrev pub accepting : Counting → Frame → Journal → Fired → List ℕ
 accepting settings frame journal fired =
     filter (λ channel. is_on journal fired channel && accepts settings journal channel frame) (valid_rows channel_table journal)
 
@@ -102,7 +102,7 @@ abbrev pub by_sample : Journal → (event : ℕ) → List Firing
 by_sample journal event = if has_valid event_table journal event then record { event = event; channel = None } ∷ [] else []
 
 -- The firings of an act, by the journal before it and the firings of that. A frame fires in the order of the channels' indexes.
-abbrev pub act_fires : Settings → Act → Journal → Fired → List Firing
+abbrev pub act_fires : Counting → Act → Journal → Fired → List Firing
 act_fires settings (passes frame) earlier before =
     map (by_channel earlier) (filter (may_fire earlier before) (accepting settings frame earlier before))
 act_fires settings (assigns moment values) earlier before = []
@@ -110,7 +110,7 @@ act_fires settings (samples moment alarm reading) earlier before =
     by_sample earlier (event_asked earlier alarm (sampled settings earlier moment alarm reading))
 
 -- the firings of each act of a journal
-abbrev pub fired : Settings → Journal → Fired
+abbrev pub fired : Counting → Journal → Fired
 fired settings [] = []
 fired settings (act ∷ earlier) = act_fires settings act earlier (fired settings earlier) ∷ fired settings earlier
 
@@ -130,5 +130,5 @@ firings_of [] fired event = []
 firings_of (act ∷ earlier) fired event = firings_with act earlier event (of_newest fired) (firings_of earlier (of_earlier fired) event)
 
 -- the same by a journal
-abbrev pub firings : Settings → Journal → (event : ℕ) → List ℕ
+abbrev pub firings : Counting → Journal → (event : ℕ) → List ℕ
 firings settings journal event = firings_of journal (fired settings journal) event

@@ -1,7 +1,7 @@
 -- The variables of channelTable and of bufferControlTable, which alarms may sample.
 use Rattle.std.specs.Prelude.{ℕ, ◌/◌, ◌%◌, ◌^◌, pos, List, [], ◌∷◌, length, Bool, nat_eq, not, if◌then◌else◌}
 use Rattle.rm_val.specs.Val.{Val, int, counter, ticks}
-use Rattle.rm_model.specs.Settings.{Settings}
+use Rattle.rm_model.specs.Counting.{Counting}
 use Rattle.rm_model.specs.Journal.{Journal}
 use Rattle.rm_model.specs.Cells.{Table}
 use Rattle.rm_model.specs.ControlRows.{no_rows, is_absent, is_valid, state_of, value_of, activated, index_value, entry_status}
@@ -18,7 +18,7 @@ abbrev pub natural : ℕ → Val
 natural n = int (pos n)
 
 -- what a column of a channel shows
-abbrev pub channel_shown : Settings → Journal → (column : ℕ) → List ℕ → Val
+abbrev pub channel_shown : Counting → Journal → (column : ℕ) → List ℕ → Val
 channel_shown settings journal column index =
     if nat_eq column 1 then index_value index
     else if nat_eq column 4 then natural (present data_control journal (fired settings journal) (row_of index))
@@ -27,7 +27,7 @@ channel_shown settings journal column index =
     else if nat_eq column 12 then int (entry_status (state_of channel_table no_rows journal index))
     else value_of channel_table no_rows journal index column
 
-abbrev pub channels_shown : Settings → Journal → Table
+abbrev pub channels_shown : Counting → Journal → Table
 channels_shown settings journal = record {
   entry = channel_entry;
   columns = 1 ∷ 2 ∷ 3 ∷ 4 ∷ 5 ∷ 6 ∷ 7 ∷ 8 ∷ 9 ∷ 10 ∷ 11 ∷ 12 ∷ [];
@@ -40,7 +40,7 @@ abbrev pub while_valid : Bool → ℕ → ℕ
 while_valid is n = if is then n else 0
 
 -- what a column of a buffer shows
-abbrev pub buffer_shown : Settings → Journal → (column : ℕ) → List ℕ → Val
+abbrev pub buffer_shown : Counting → Journal → (column : ℕ) → List ℕ → Val
 buffer_shown settings journal column index =
     let valid = is_valid (state_of buffer_table no_rows journal index) in
     if nat_eq column 1 then index_value index
@@ -51,7 +51,7 @@ buffer_shown settings journal column index =
     else if nat_eq column 13 then int (entry_status (state_of buffer_table no_rows journal index))
     else value_of buffer_table no_rows journal index column
 
-abbrev pub buffers_shown : Settings → Journal → Table
+abbrev pub buffers_shown : Counting → Journal → Table
 buffers_shown settings journal = record {
   entry = buffer_entry;
   columns = 1 ∷ 2 ∷ 3 ∷ 4 ∷ 5 ∷ 6 ∷ 7 ∷ 8 ∷ 9 ∷ 10 ∷ 11 ∷ 12 ∷ 13 ∷ [];

@@ -4,7 +4,7 @@ use Rattle.std.proofs.Common.{◌≡◌, ℕ, List, [], ◌∷◌, Some, refl}
 use Rattle.std.specs.Prelude.{pos, false, codes}
 use Rattle.std.specs.Option.{option_map}
 use Rattle.rm_val.specs.Val.{Val, int, name, octets}
-use Rattle.rm_model.specs.Settings.{Settings as Counting}
+use Rattle.rm_model.specs.Counting.{Counting}
 use Rattle.rm_model.specs.Journal.{Assignment, Act, Journal, assigns, samples}
 use Rattle.rm_model.proofs.ExampleSettings.{plain}
 use Rattle.rm_acts.specs.Alarms.{alarm_entry}

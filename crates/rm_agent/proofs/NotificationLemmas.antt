@@ -4,7 +4,7 @@ use Rattle.std.specs.Prelude.{ℤ, pos, ◌↔◌, Result, Ok, Err, IsOk, OnOk, 
 use Rattle.std.specs.List.{sum_by}
 use Rattle.std.specs.Option.{option_map}
 use Rattle.rm_val.specs.Val.{Val, int, name, ticks, octets}
-use Rattle.rm_model.specs.Settings.{Settings as Counting}
+use Rattle.rm_model.specs.Counting.{Counting}
 use Rattle.rm_model.specs.Journal.{Act, Journal, samples}
 use Rattle.rm_acts.specs.Alarms.{alarm_entry, alarm_state, number_of, name_of, sampled}
 use Rattle.rm_model.specs.ControlRows.{cell_name, no_rows, is_absent, is_valid}

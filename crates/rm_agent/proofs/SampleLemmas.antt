@@ -1,7 +1,7 @@
 -- Lemmas on the samples of alarms, and on the events that they fire.
 use Rattle.std.proofs.Common.{◌≡◌, ℕ, ◌+◌, ◌%◌, ◌^◌, ◌≤◌, List, [], ◌∷◌, true, cond, ◌&&◌, Option, Some, None, refl, sym, subst, arith}
 use Rattle.std.specs.Prelude.{ℤ, is_some}
-use Rattle.rm_model.specs.Settings.{Settings as Counting}
+use Rattle.rm_model.specs.Counting.{Counting}
 use Rattle.rm_model.specs.Journal.{Act, Journal, samples}
 use Rattle.rm_acts.specs.Alarms.{alarm_state, sampled, due_of, IsNextDue}
 use Rattle.rm_model.specs.ControlRows.{is_valid}

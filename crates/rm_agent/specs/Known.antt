@@ -2,7 +2,7 @@
 use Rattle.std.specs.Prelude.{ℕ, Bool, ◌||◌, List}
 use Rattle.std.specs.Str.{bytes_eq}
 use Rattle.rm_model.specs.Readings.{nothing_read}
-use Rattle.rm_model.specs.Settings.{Settings as Counting}
+use Rattle.rm_model.specs.Counting.{Counting}
 use Rattle.rm_acts.specs.Recurring.{sampling}
 use Rattle.rm_agent.specs.declared.settings.Settings.{Settings}
 use Rattle.rm_agent.specs.Watched.{watched_cells}

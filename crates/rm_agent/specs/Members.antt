@@ -4,7 +4,7 @@ use Rattle.std.specs.Prelude.{◌||◌, ◌⊎◌, ℕ, ◌+◌, List, Bool, max
 use Rattle.std.specs.Option.{option_or}
 use Rattle.rm_val.specs.Val.{Val}
 use Rattle.rm_val.specs.declared.error.ErrorStatus.{ErrorStatus}
-use Rattle.rm_model.specs.Settings.{Settings}
+use Rattle.rm_model.specs.Counting.{Counting}
 use Rattle.rm_model.specs.Journal.{Journal}
 use Rattle.rm_acts.specs.Alarms.{alarm_table}
 use Rattle.rm_model.specs.Cells.{Cells, cells_of, is_of_column}
@@ -60,9 +60,9 @@ alarms_of groups = (watched_of groups).second
 -- A group of objects: what it keeps, and what it answers and refuses after a journal, by what the probe was set to.
 pub record OfObjects (Keeps : Type 0) : Type 1 where
   -- what it keeps is what the journal gives
-  pub stands : Keeps → Settings → Journal → Type 0
+  pub stands : Keeps → Counting → Journal → Type 0
   -- what the probe was set to is as it needs it beside another group
-  pub tied : Settings → Type 0
+  pub tied : Counting → Type 0
   -- the least moment at which it may be given a Set, in milliseconds
   pub clock : Keeps → ℕ
   -- it may be asked at a moment in milliseconds
@@ -72,7 +72,7 @@ pub record OfObjects (Keeps : Type 0) : Type 1 where
   -- it has the storage of one row of each of its tables whose rows take storage
   pub stocked : Keeps → Type 0
   -- its variables that have a value, at a moment in milliseconds
-  pub cells : Settings → Journal → ℕ → Cells
+  pub cells : Counting → Journal → ℕ → Cells
   -- something falls due next
   pub falls_due : Keeps → Due → Type 0
   -- a bound of how many are left to take up to a moment, in milliseconds
@@ -82,7 +82,7 @@ pub record OfObjects (Keeps : Type 0) : Type 1 where
   -- what is wrong with a binding alone
   pub alone : List ℕ → Val → Option ErrorStatus
   -- what is wrong with the binding at a place together with the others of its row, at a moment in milliseconds
-  pub together : Settings → Journal → ℕ → Bindings → ℕ → Option ErrorStatus
+  pub together : Counting → Journal → ℕ → Bindings → ℕ → Option ErrorStatus
   -- there may be no memory for the row that the binding with that number, from 1, makes valid
   pub reserves : Journal → Bindings → ℕ → Type 0
 

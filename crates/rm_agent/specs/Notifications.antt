@@ -2,7 +2,7 @@
 -- RFC 1905, section 4.2.6).
 use Rattle.std.specs.Prelude.{ℕ, ◌+◌, ◌%◌, ◌/◌, ◌^◌, pos, List, [], ◌∷◌, Bool, true, false, if◌then◌else◌, Option, Some, None, is_none, find}
 use Rattle.rm_val.specs.Val.{Val, name, ticks}
-use Rattle.rm_model.specs.Settings.{Settings as Counting}
+use Rattle.rm_model.specs.Counting.{Counting}
 use Rattle.rm_model.specs.Journal.{Act, passes, assigns, samples, Journal}
 use Rattle.rm_acts.specs.Alarms.{alarm_entry, sampled}
 use Rattle.rm_model.specs.ControlRows.{cell_name}

@@ -1,7 +1,7 @@
 -- The notification of a sample, as it is made.
 use Rattle.std.specs.Prelude.{◌≡◌, ℕ, pos, List, [], ◌∷◌, Some, None}
 use Rattle.rm_val.specs.Val.{int, name}
-use Rattle.rm_model.specs.Settings.{Settings as Counting}
+use Rattle.rm_model.specs.Counting.{Counting}
 use Rattle.rm_model.specs.Journal.{Journal, samples}
 use Rattle.rm_acts.specs.Alarms.{due_of, number_of, name_of, sampled}
 use Rattle.rm_alarm.specs.AlarmTable.{alarm_shown}

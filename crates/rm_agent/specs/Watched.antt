@@ -1,6 +1,6 @@
 -- The variables that alarms may sample, by what the probe was set to.
 use Rattle.std.specs.Prelude.{ℕ}
-use Rattle.rm_model.specs.Settings.{Settings as Counting}
+use Rattle.rm_model.specs.Counting.{Counting}
 use Rattle.rm_model.specs.Journal.{Journal}
 use Rattle.rm_model.specs.Cells.{Cells}
 use Rattle.rm_agent.specs.Members.{sources}

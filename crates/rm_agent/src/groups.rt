@@ -1,6 +1,6 @@
 // The groups of objects that the agent answers for. Only here is it said how they stand in one another.
 ghost use Rattle.std.specs.Prelude.{◌≡◌, ℕ, ◌≤◌, ◌<◌, [], ◌∷◌, Some, IfOk, OnOk};
-ghost use Rattle.rm_model.specs.Settings.{Settings};
+ghost use Rattle.rm_model.specs.Counting.{Counting};
 ghost use Rattle.rm_model.specs.Journal.{Act, Journal, samples, moment_of, last_moment};
 ghost use Rattle.rm_acts.specs.Alarms.{due_of, IsNextDue, sampled};
 ghost use Rattle.rm_acts.specs.Fired.{act_fires, fired};
@@ -29,7 +29,7 @@ type Sources = Both<Ether, History>;
 /// The groups of a probe with one interface before the first act, which stand in memory of their own. They take the storage of one
 /// row of each table whose rows take storage while they are valid. NoMemory where there is none.
 pub(crate) fn all_groups(alloc: Global) -> Result<Box<Groups>, NoMemory>
-    ensures stands { IfOk result (λ groups. (settings : Settings) → settings.interfaces ≡ 1 → GroupsStand groups.value (sampling watched_cells settings) []) }
+    ensures stands { IfOk result (λ groups. (settings : Counting) → settings.interfaces ≡ 1 → GroupsStand groups.value (sampling watched_cells settings) []) }
     ensures clock { IfOk result (λ groups. clock_of groups.value ≡ 0) }
     ensures frames { IfOk result (λ groups. frames_of groups.value ≡ 0) }
     ensures stocked { IfOk result (λ groups. AreStocked groups.value) }
@@ -44,7 +44,7 @@ pub(crate) fn all_groups(alloc: Global) -> Result<Box<Groups>, NoMemory>
 // The groups before they take storage. They are made in a frame of its own, which is large.
 #[inline(never)]
 fn first_groups() -> Groups
-    ensures stands { (settings : Settings) → settings.interfaces ≡ 1 → GroupsStand result (sampling watched_cells settings) [] }
+    ensures stands { (settings : Counting) → settings.interfaces ≡ 1 → GroupsStand result (sampling watched_cells settings) [] }
     ensures clock { clock_of result ≡ 0 }
     ensures frames { frames_of result ≡ 0 }
 {
@@ -66,7 +66,7 @@ fn first_groups() -> Groups
 
 // Takes the storage of one row of each table whose rows take storage.
 fn reserve(alloc: Global, groups: &mut Groups) -> Result<(), NoMemory>
-    ensures stands { (settings : Settings) → GroupsStand groups.old settings [] → GroupsStand groups.new settings [] }
+    ensures stands { (settings : Counting) → GroupsStand groups.old settings [] → GroupsStand groups.new settings [] }
     ensures clock { clock_of groups.new ≡ clock_of groups.old }
     ensures frames { frames_of groups.new ≡ frames_of groups.old }
     ensures stocked { OnOk result (AreStocked groups.new) }
@@ -94,7 +94,7 @@ pub(crate) fn alarms(groups: &Groups) -> &Alarms
 /// no alarm is valid.
 pub(crate) fn next_due(groups: &Groups) -> Option<Due>
     ensures next { IsNextDue (due_in (alarms_of groups.now)) (sample_in result) }
-    ensures journal { (settings : Settings) (journal : Journal) → GroupsStand groups.now settings journal
+    ensures journal { (settings : Counting) (journal : Journal) → GroupsStand groups.now settings journal
         → IsNextDue (due_of journal) (sample_in result) }
 {
     groups.next_due()
@@ -104,9 +104,9 @@ pub(crate) fn next_due(groups: &Groups) -> Option<Due>
 /// act, and its firings are to be taken.
 pub(crate) fn sample(groups: &mut Groups, index: u32, moment: u32) -> Sampled
     requires { due_in (alarms_of groups.old) index ≡ Some moment }
-    ensures under_way { (settings : Settings) (journal : Journal) → GroupsStand groups.old settings journal → last_moment journal ≤ moment
+    ensures under_way { (settings : Counting) (journal : Journal) → GroupsStand groups.old settings journal → last_moment journal ≤ moment
         → AreUnderWay groups.new settings (samples moment index (number_read settings journal moment index)) journal }
-    ensures result { (settings : Settings) (journal : Journal) → GroupsStand groups.old settings journal → last_moment journal ≤ moment
+    ensures result { (settings : Counting) (journal : Journal) → GroupsStand groups.old settings journal → last_moment journal ≤ moment
         → result ≡ sampled settings journal moment index (number_read settings journal moment index) }
     ensures events { events_of groups.new ≡ events_of groups.old }
     ensures clock { clock_of groups.new ≡ clock_of groups.old }
@@ -120,7 +120,7 @@ pub(crate) fn sample(groups: &mut Groups, index: u32, moment: u32) -> Sampled
 
 /// Takes the firings of an act that is under way at a moment, in milliseconds. Alarms take none.
 pub(crate) fn take_each(groups: &mut Groups, firings: &[Firing], moment: u32)
-    ensures stands { (settings : Settings) (act : Act) (earlier : Journal) → moment_of act ≡ moment → AreUnderWay groups.old settings act earlier
+    ensures stands { (settings : Counting) (act : Act) (earlier : Journal) → moment_of act ≡ moment → AreUnderWay groups.old settings act earlier
         → firings.now ≡ act_fires settings act earlier (fired settings earlier) → GroupsStand groups.new settings (act ∷ earlier) }
     ensures clock { clock_of groups.new ≡ clock_of groups.old }
     ensures frames { frames_of groups.new ≡ frames_of groups.old }

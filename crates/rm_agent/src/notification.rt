@@ -2,7 +2,7 @@
 ghost use Rattle.std.specs.Prelude.{◌≡◌, ℕ, ◌≤◌, ◌<◌, ◌%◌, ◌^◌, length};
 ghost use Rattle.std.specs.Option.{option_map};
 ghost use Rattle.rm_val.specs.Spellable.{IsSpellable};
-ghost use Rattle.rm_model.specs.Settings.{Settings};
+ghost use Rattle.rm_model.specs.Counting.{Counting};
 ghost use Rattle.rm_model.specs.Journal.{Journal, samples};
 ghost use Rattle.rm_alarm.specs.Watched.{number_read};
 ghost use Rattle.rm_pdu.specs.Draft.{drafted};
@@ -28,7 +28,7 @@ pub(crate) fn notification(
     id: u32,
 ) -> Option<Draft>
     requires { id < 2 ^ 31 }
-    ensures { (settings : Settings) (journal : Journal) (number : ℕ) → IsTaken settings journal moment alarm groups.now taken.now
+    ensures { (settings : Counting) (journal : Journal) (number : ℕ) → IsTaken settings journal moment alarm groups.now taken.now
         → number % 2 ^ 31 ≡ id
         → result ≡ option_map drafted (notification_numbered settings number (samples moment alarm (number_read settings journal moment alarm)) journal) }
 {

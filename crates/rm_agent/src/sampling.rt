@@ -2,7 +2,7 @@
 ghost use Rattle.std.specs.Prelude.{◌≡◌, ℕ, ◌≤◌, ◌<◌, [], ◌∷◌, true, Some, is_some};
 ghost use Rattle.rm_val.specs.Val.{int};
 ghost use Rattle.rm_val.specs.Contents.{natural_in};
-ghost use Rattle.rm_model.specs.Settings.{Settings};
+ghost use Rattle.rm_model.specs.Counting.{Counting};
 ghost use Rattle.rm_model.specs.Journal.{Act, Journal, moment_of, last_moment};
 ghost use Rattle.rm_model.specs.ControlRows.{is_valid};
 ghost use Rattle.rm_acts.specs.Alarms.{alarm_state, due_of};
@@ -33,7 +33,7 @@ pub(crate) struct Taken {
 /// Takes the sample of an alarm that is due at a moment, in milliseconds, and its firing. An event without a valid row doesn't fire.
 pub(crate) fn take(groups: &mut Groups, index: u32, moment: u32) -> Taken
     requires { due_in (alarms_of groups.old) index ≡ Some moment }
-    ensures taken { (settings : Settings) (journal : Journal) → GroupsStand groups.old settings journal → last_moment journal ≤ moment
+    ensures taken { (settings : Counting) (journal : Journal) → GroupsStand groups.old settings journal → last_moment journal ≤ moment
         → due_of journal index ≡ Some moment → IsTaken settings journal moment index groups.new result }
     ensures clock { clock_of groups.new ≡ clock_of groups.old }
     ensures frames { frames_of groups.new ≡ frames_of groups.old }
@@ -54,7 +54,7 @@ pub(crate) fn take(groups: &mut Groups, index: u32, moment: u32) -> Taken
 
 // Takes the firing of an act that is under way at a moment, in milliseconds, by the event that it asks for and what becomes of that.
 fn take_firing(groups: &mut Groups, event: u32, fired: Fired, moment: u32)
-    ensures stands { (settings : Settings) (act : Act) (earlier : Journal) → moment_of act ≡ moment → AreUnderWay groups.old settings act earlier
+    ensures stands { (settings : Counting) (act : Act) (earlier : Journal) → moment_of act ≡ moment → AreUnderWay groups.old settings act earlier
         → firings_by event fired ≡ act_fires settings act earlier (all_fired settings earlier) → GroupsStand groups.new settings (act ∷ earlier) }
     ensures clock { clock_of groups.new ≡ clock_of groups.old }
     ensures frames { frames_of groups.new ≡ frames_of groups.old }
@@ -73,7 +73,7 @@ fn take_firing(groups: &mut Groups, event: u32, fired: Fired, moment: u32)
 
 // The event that a sample of an alarm asks for, by what it comes to: 0 for none.
 fn event_asked(alarms: &Alarms, index: u32, comes: Sampled) -> u32
-    ensures { (settings : Settings) (journal : Journal) → AlarmsStand alarms.now settings journal
+    ensures { (settings : Counting) (journal : Journal) → AlarmsStand alarms.now settings journal
         → (is_some (trap_of comes) ≡ true → is_valid (alarm_state journal index) ≡ true)
         → result ≡ event_asked journal index comes }
 {

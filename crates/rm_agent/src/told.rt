@@ -24,7 +24,7 @@ pub(crate) struct Told {
 }
 
 impl Told {
-    ghost use Rattle.rm_model.specs.Settings.{Settings};
+    ghost use Rattle.rm_model.specs.Counting.{Counting};
     ghost use Rattle.rm_model.specs.Journal.{Journal};
     ghost use Rattle.rm_alarm.specs.ShownRow.{AreShown};
     ghost use Rattle.rm_agent.specs.Told.{told_of};
@@ -34,7 +34,7 @@ impl Told {
         requires index { alarm ≤ 65535 }
         requires spelling { IsSpellable (variable_kept row.now) }
         requires threshold { (threshold ≡ 7) ⊎ (threshold ≡ 8) }
-        ensures told { (settings : Settings) (journal : Journal) → AreShown settings journal alarm row.now
+        ensures told { (settings : Counting) (journal : Journal) → AreShown settings journal alarm row.now
             → result ≡ told_of settings journal alarm threshold }
         ensures spelling { IsSpellable result.variable }
     {

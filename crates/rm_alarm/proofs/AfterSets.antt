@@ -3,7 +3,7 @@ use Rattle.std.proofs.Common.{◌≡◌, ℕ, ◌+◌, ◌*◌, ◌<◌, List, [
 use Rattle.std.specs.Prelude.{pos, negsuc, unwrap_or}
 use Rattle.std.specs.Option.{option_or}
 use Rattle.rm_val.specs.Val.{Val, int, octets, null, name, ip, counter, gauge, ticks, opaque_octets, big, no_object, no_instance, end_of_view}
-use Rattle.rm_model.specs.Settings.{Settings}
+use Rattle.rm_model.specs.Counting.{Counting}
 use Rattle.rm_model.specs.Journal.{Act, Assignments, Journal, assigns, value_given}
 use Rattle.rm_model.specs.ControlTable.{default_of}
 use Rattle.rm_model.specs.ControlRows.{no_rows, cell_name, set_ask, next_state, is_absent, is_valid, set_value, stays_valid, activated}
@@ -48,7 +48,7 @@ there_is r m e =
       | false ↦ λ h. in_some r m h
     ] e
 
-not_valid_one : (settings : Settings) (journal : Journal) (i : ℕ) (s : State) (row : AlarmRow) (o : Option Course) → o ≡ None → IsKept settings journal i s row o → is_valid s ≡ false
+not_valid_one : (settings : Counting) (journal : Journal) (i : ℕ) (s : State) (row : AlarmRow) (o : Option Course) → o ≡ None → IsKept settings journal i s row o → is_valid s ≡ false
 not_valid_one settings journal i Valid row (Some c) e k = absurd (none_some c (sym e))
 not_valid_one settings journal i Valid row None e k = absurd k
 not_valid_one settings journal i UnderCreation row o e k = refl
@@ -71,7 +71,7 @@ with_given None (Some n) (Some m) e = let same : n ≡ m = cc in same
 with_given (Some v) None x e = absurd (cc)
 with_given (Some v) (Some n) x e = ap name_of (in_some (name n) v e)
 
-module _ (settings : Settings) (journal : Journal) (now : ℕ) (bs : Bindings) (values : Assignments)
+module _ (settings : Counting) (journal : Journal) (now : ℕ) (bs : Bindings) (values : Assignments)
     (gives : (name : List ℕ) → value_given values name ≡ value_given bs name)
     (alone : (k : ℕ) → k < length bs → first_pass alarm_table bs k ≡ None)
     (rows middle new : List (Row AlarmRow)) (held : AreControlRows alarm_table rows)

@@ -3,7 +3,7 @@ use Rattle.std.proofs.Common.{◌≡◌, ℕ, List, [], ◌∷◌, refl, sym, �
 use Rattle.std.specs.Prelude.{ℤ, pos, unwrap_or}
 use Rattle.std.specs.Option.{option_map_or}
 use Rattle.rm_val.specs.Val.{Val, int}
-use Rattle.rm_model.specs.Settings.{Settings}
+use Rattle.rm_model.specs.Counting.{Counting}
 use Rattle.rm_model.specs.Journal.{Journal}
 use Rattle.rm_model.specs.Cells.{cells_of, IsNext}
 use Rattle.rm_model.specs.ControlRows.{no_rows, is_valid}
@@ -31,18 +31,18 @@ newest_is : (values : List ℤ) → unwrap_or (newest values) (pos 0) ≡ newest
 newest_is [] = refl
 newest_is (value ∷ earlier) = refl
 
-no_values : (settings : Settings) (journal : Journal) (i : ℕ) → is_valid (alarm_state journal i) ≡ false → sample_values settings journal i ≡ []
+no_values : (settings : Counting) (journal : Journal) (i : ℕ) → is_valid (alarm_state journal i) ≡ false → sample_values settings journal i ≡ []
 no_values settings journal i idle =
     ap (λ l. values_of_readings (is_delta journal i) (is_counted (base_of settings journal i)) (base_number (base_of settings journal i)) (readings_in i l)) (since_idle alarm_table no_rows journal (i ∷ []) idle)
 
 -- the value that is kept
-pub value_is : (settings : Settings) (journal : Journal) (i : ℕ) (s : State) (row : AlarmRow) (o : Option Course) → s ≡ alarm_state journal i → IsKept settings journal i s row o → last_value o ≡ newest_or (pos 0) (sample_values settings journal i)
+pub value_is : (settings : Counting) (journal : Journal) (i : ℕ) (s : State) (row : AlarmRow) (o : Option Course) → s ≡ alarm_state journal i → IsKept settings journal i s row o → last_value o ≡ newest_or (pos 0) (sample_values settings journal i)
 value_is settings journal i Valid row (Some course) e k = ap (λ o. unwrap_or o (pos 0)) k.keeps.last ∙ newest_is (sample_values settings journal i)
 value_is settings journal i Valid row None e k = absurd k
 value_is settings journal i UnderCreation row o e k = ap last_value k ∙ sym (ap (newest_or (pos 0)) (no_values settings journal i (ap is_valid (sym e))))
 value_is settings journal i Absent row o e k = ap last_value k ∙ sym (ap (newest_or (pos 0)) (no_values settings journal i (ap is_valid (sym e))))
 
-module _ (rows : List (Row AlarmRow)) (held : AreControlRows alarm_table rows) (settings : Settings) (journal : Journal)
+module _ (rows : List (Row AlarmRow)) (held : AreControlRows alarm_table rows) (settings : Counting) (journal : Journal)
     (is : AreRowsAfter alarm_table no_rows set_to rows journal) (kept : AreKept rows settings journal) where
   same_other : (column i : ℕ) (row : Row AlarmRow) → row_in rows i ≡ Some row → with_index (kept_other rows) column (i ∷ []) ≡ with_index (alarm_other settings journal) column (i ∷ [])
   same_other column i row here =

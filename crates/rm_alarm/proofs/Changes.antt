@@ -4,7 +4,7 @@ use Rattle.std.specs.Prelude.{unwrap_or}
 use Rattle.std.specs.Option.{option_or}
 use Rattle.rm_val.specs.Val.{Val, name}
 use Rattle.rm_val.specs.Spellable.{IsSpellable, HasSpelling}
-use Rattle.rm_model.specs.Settings.{Settings}
+use Rattle.rm_model.specs.Counting.{Counting}
 use Rattle.rm_model.specs.Journal.{Journal, value_given}
 use Rattle.rm_model.specs.ControlRows.{cell_name}
 use Rattle.rm_model.specs.Judgement.{Bindings, first_pass}
@@ -32,7 +32,7 @@ use Rattle.rm_alarm.proofs.Samples.{Based}
 in_some : {A : Type 0} (x y : A) → Some x ≡ Some y → x ≡ y
 in_some x y e = cc
 
-kept_same : (settings : Settings) (journal : Journal) (i : ℕ) (s : State) (row other : AlarmRow) (o : Option Course) → other.thresholds ≡ row.thresholds → IsKept settings journal i s row o → IsKept settings journal i s other o
+kept_same : (settings : Counting) (journal : Journal) (i : ℕ) (s : State) (row other : AlarmRow) (o : Option Course) → other.thresholds ≡ row.thresholds → IsKept settings journal i s row o → IsKept settings journal i s other o
 kept_same settings journal i Valid row other (Some course) same k = record { due = k.due; keeps = subst (λ (t : Thresholds). Keeps course.hysteresis t (Rattle.rm_acts.specs.Alarms.sample_values settings journal i)) (sym same) k.keeps }
 kept_same settings journal i Valid row other None same k = k
 kept_same settings journal i UnderCreation row other o same k = k
@@ -43,14 +43,14 @@ module _ (change : ℕ → State → AlarmRow → AlarmRow) (sets : (index : ℕ
     (thresholds : (index : ℕ) (state : State) (row : AlarmRow) → (change index state row).thresholds ≡ row.thresholds)
     (courses : (index : ℕ) (state : State) (row : AlarmRow) → (change index state row).course ≡ row.course)
     (rows new : List (Row AlarmRow)) (changed : (i : ℕ) → row_in new i ≡ option_map (changed_row change) (row_in rows i)) where
-  pub kept_changed : (settings : Settings) (journal : Journal) → AreKept rows settings journal → AreKept new settings journal
+  pub kept_changed : (settings : Counting) (journal : Journal) → AreKept rows settings journal → AreKept new settings journal
   kept_changed settings journal kept i row here =
       let got = was_there (changed_row change) (row_in rows i) row (sym (changed i) ∙ here) in
       subst (λ (r : Row AlarmRow). IsKept settings journal i r.state r.columns r.columns.course) got.2
       (kept_same settings journal i got.0.state got.0.columns (change got.0.index got.0.state got.0.columns) (change got.0.index got.0.state got.0.columns).course (thresholds got.0.index got.0.state got.0.columns)
       (subst (IsKept settings journal i got.0.state got.0.columns) (sym (courses got.0.index got.0.state got.0.columns)) (kept i got.0 got.1)))
 
-  pub based_changed : (settings : Settings) (journal : Journal) → Based rows settings journal → Based new settings journal
+  pub based_changed : (settings : Counting) (journal : Journal) → Based rows settings journal → Based new settings journal
   based_changed settings journal based i row course here has =
       let got = was_there (changed_row change) (row_in rows i) row (sym (changed i) ∙ here) in
       based i got.0 course got.1 (sym (courses got.0.index got.0.state got.0.columns) ∙ ap (λ (r : Row AlarmRow). r.columns.course) got.2 ∙ has)

@@ -2,7 +2,7 @@
 use Rattle.std.proofs.Common.{◌≡◌, ℕ, ◌<◌, ◌≤◌, List, Option, Some, None, refl, sym, ap, subst, ◌∙◌, option_map, arith}
 use Rattle.std.specs.Option.{option_and_then}
 use Rattle.rm_model.specs.Indexing.{one_within}
-use Rattle.rm_model.specs.Settings.{Settings}
+use Rattle.rm_model.specs.Counting.{Counting}
 use Rattle.rm_model.specs.Journal.{Journal}
 use Rattle.rm_model.specs.ControlRows.{no_rows, is_valid}
 use Rattle.rm_acts.specs.Alarms.{alarm_table, alarm_state, due_of, IsNextDue, nearer}
@@ -26,7 +26,7 @@ due_none : (rows : List (Row AlarmRow)) (i : ℕ) → row_in rows i ≡ None →
 due_none rows i e = ap (option_and_then (λ (row : Row AlarmRow). option_map (λ course. course.due) row.columns.course)) e
 
 -- the rows that are kept are due when the journal says
-pub due_is : (rows : List (Row AlarmRow)) (settings : Settings) (journal : Journal) → AreRowsAfter alarm_table no_rows set_to rows journal → AreKept rows settings journal → (i : ℕ) → due_at rows i ≡ due_of journal i
+pub due_is : (rows : List (Row AlarmRow)) (settings : Counting) (journal : Journal) → AreRowsAfter alarm_table no_rows set_to rows journal → AreKept rows settings journal → (i : ℕ) → due_at rows i ≡ due_of journal i
 due_is rows settings journal is kept i = by_row (row_in rows i) refl
   where
     by_state : (s : State) (row : AlarmRow) (o : Option Course) → s ≡ alarm_state journal i → IsKept settings journal i s row o → option_map (λ course. course.due) o ≡ due_of journal i

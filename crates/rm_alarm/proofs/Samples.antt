@@ -4,7 +4,7 @@ use Rattle.std.specs.Prelude.{ℤ}
 use Rattle.std.specs.Option.{option_and_then}
 use borrow.Author.Tests.{eqb-true}
 use Rattle.rm_val.specs.Val.{Val}
-use Rattle.rm_model.specs.Settings.{Settings}
+use Rattle.rm_model.specs.Counting.{Counting}
 use Rattle.rm_model.specs.Journal.{Act, Frame, Journal, passes, samples}
 use Rattle.rm_model.specs.ControlRows.{no_rows, is_absent, is_valid, set_value, stays_valid}
 use Rattle.rm_model.specs.Alike.{HasSameColumns}
@@ -46,7 +46,7 @@ no_course : {A : Type 0} (o : Option A) (x : A) → o ≡ Some x → o ≡ None 
 no_course o x e f = cc
 
 -- an act that isn't an alarm's own sample and leaves its row
-module _ (settings : Settings) (journal : Journal) (act : Act) (i : ℕ) (same : alarm_state (act ∷ journal) i ≡ alarm_state journal i)
+module _ (settings : Counting) (journal : Journal) (act : Act) (i : ℕ) (same : alarm_state (act ∷ journal) i ≡ alarm_state journal i)
     (interval : interval_of (act ∷ journal) i ≡ interval_of journal i) (delta : is_delta (act ∷ journal) i ≡ is_delta journal i)
     (other : (acts : Journal) → readings_in i (act ∷ acts) ≡ readings_in i acts) where
   stays : alarm_state journal i ≡ Valid → stays_valid alarm_table no_rows act journal (i ∷ []) ≡ true
@@ -65,17 +65,17 @@ module _ (settings : Settings) (journal : Journal) (act : Act) (i : ℕ) (same :
   based_other course valid = still_based settings journal act i (stays valid) other course
 
 -- a row that keeps something of its samples is valid
-pub valid_one : (settings : Settings) (journal : Journal) (i : ℕ) (s : State) (row : AlarmRow) (o : Option Course) (course : Course) → o ≡ Some course → IsKept settings journal i s row o → (s ≡ Valid) × IsRunning settings journal i row course
+pub valid_one : (settings : Counting) (journal : Journal) (i : ℕ) (s : State) (row : AlarmRow) (o : Option Course) (course : Course) → o ≡ Some course → IsKept settings journal i s row o → (s ≡ Valid) × IsRunning settings journal i row course
 valid_one settings journal i Valid row (Some c) course e k = (refl, subst (IsRunning settings journal i row) (in_some c course e) k)
 valid_one settings journal i Valid row None course e k = absurd k
 valid_one settings journal i UnderCreation row o course e k = absurd (no_course o course e k)
 valid_one settings journal i Absent row o course e k = absurd (no_course o course e k)
 
-abbrev pub Based : List (Row AlarmRow) → Settings → Journal → Type 0
+abbrev pub Based : List (Row AlarmRow) → Counting → Journal → Type 0
 Based rows settings journal = (i : ℕ) (row : Row AlarmRow) (course : Course) → row_in rows i ≡ Some row → row.columns.course ≡ Some course → IsBased settings journal i course
 
 -- a frame
-module _ (settings : Settings) (journal : Journal) (frame : Frame) (rows : List (Row AlarmRow)) (is : AreRowsAfter alarm_table no_rows set_to rows journal) (kept : AreKept rows settings journal) where
+module _ (settings : Counting) (journal : Journal) (frame : Frame) (rows : List (Row AlarmRow)) (is : AreRowsAfter alarm_table no_rows set_to rows journal) (kept : AreKept rows settings journal) where
   pub kept_passes : AreKept rows settings (passes frame ∷ journal)
   kept_passes i row here = kept_other settings journal (passes frame) i refl refl refl (λ acts. refl) row.state row.columns row.columns.course (state_is rows journal is i row here) (kept i row here)
 
@@ -85,7 +85,7 @@ module _ (settings : Settings) (journal : Journal) (frame : Frame) (rows : List 
       based_other settings journal (passes frame) i refl refl refl (λ acts. refl) course (sym (state_is rows journal is i row here) ∙ one.0) (based i row course here has)
 
 -- a sample of the alarm with that index
-module _ (settings : Settings) (journal : Journal) (index moment : ℕ) (rows new : List (Row AlarmRow)) (held : AreControlRows alarm_table rows)
+module _ (settings : Counting) (journal : Journal) (index moment : ℕ) (rows new : List (Row AlarmRow)) (held : AreControlRows alarm_table rows)
     (is : AreRowsAfter alarm_table no_rows set_to rows journal) (kept : AreKept rows settings journal) (based : Based rows settings journal)
     (row : Row AlarmRow) (here : row_in rows index ≡ Some row) (course : Course) (has : row.columns.course ≡ Some course) (now : course.due ≡ moment) where
   is_running : (row.state ≡ Valid) × IsRunning settings journal index row.columns course

@@ -3,7 +3,7 @@ use Rattle.std.proofs.Common.{◌≡◌, ℕ, List, [], ◌∷◌, true, false, 
 use Rattle.std.specs.Prelude.{unwrap_or}
 use Rattle.std.specs.Option.{option_map}
 use Rattle.rm_val.specs.Val.{int, name}
-use Rattle.rm_model.specs.Settings.{Settings}
+use Rattle.rm_model.specs.Counting.{Counting}
 use Rattle.rm_model.specs.Journal.{Journal}
 use Rattle.rm_model.specs.ControlRows.{is_absent, is_valid}
 use Rattle.rm_model.specs.declared.row.State.{State}
@@ -18,7 +18,7 @@ use Rattle.rm_alarm.specs.Standing.{Stands}
 use Rattle.rm_alarm.proofs.Cells.{value_is}
 use Rattle.rm_alarm.proofs.RowFacts.{state_is, columns}
 
-module _ (alarms : Alarms) (settings : Settings) (journal : Journal) (stands : Stands alarms settings journal) (i : ℕ) (valid : is_valid (alarm_state journal i) ≡ true) where
+module _ (alarms : Alarms) (settings : Counting) (journal : Journal) (stands : Stands alarms settings journal) (i : ℕ) (valid : is_valid (alarm_state journal i) ≡ true) where
   -- a valid alarm has a row
   pub some_row : ◌≡◌ {A = Option (Row AlarmRow)} None (row_in alarms.rows i) → ⊥
   some_row none =

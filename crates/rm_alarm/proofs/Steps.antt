@@ -1,7 +1,7 @@
 -- What is kept of alarms after each act.
 use Rattle.std.proofs.Common.{◌≡◌, ℕ, ◌+◌, ◌*◌, List, [], ◌∷◌, true, cond, ◌&&◌, Some, refl, sym, ap, subst, ◌∙◌}
 use Rattle.std.specs.Prelude.{ℤ}
-use Rattle.rm_model.specs.Settings.{Settings}
+use Rattle.rm_model.specs.Counting.{Counting}
 use Rattle.rm_model.specs.Journal.{Act, Journal, samples}
 use Rattle.rm_model.specs.ControlRows.{no_rows, is_valid, stays_valid}
 use Rattle.rm_acts.specs.Crossings.{Bounds, is_in_force, rising_of, falling_of, crossing}
@@ -18,7 +18,7 @@ use Rattle.rm_alarm.specs.Taking.{Took}
 use Rattle.rm_alarm.specs.Standing.{IsRunning, IsBased}
 
 -- an act by which an alarm stays valid
-module _ (settings : Settings) (journal : Journal) (act : Act) (i : ℕ) (stays : stays_valid alarm_table no_rows act journal (i ∷ []) ≡ true) where
+module _ (settings : Counting) (journal : Journal) (act : Act) (i : ℕ) (stays : stays_valid alarm_table no_rows act journal (i ∷ []) ≡ true) where
   pub same_base : base_of settings (act ∷ journal) i ≡ base_of settings journal i
   same_base = rw stays refl
 
@@ -52,7 +52,7 @@ keeps_by kept thresholds others values same is = record {
 }
 
 -- an alarm's own sample
-module _ (settings : Settings) (journal : Journal) (i moment : ℕ) (number : ℤ) (valid : is_valid (alarm_state journal i) ≡ true) where
+module _ (settings : Counting) (journal : Journal) (i moment : ℕ) (number : ℤ) (valid : is_valid (alarm_state journal i) ≡ true) where
   abbrev own : Act
   own = samples moment i (Some number)
 

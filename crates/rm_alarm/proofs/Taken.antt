@@ -5,7 +5,7 @@ use Rattle.std.specs.Option.{option_and_then}
 use Rattle.std.specs.Str.{bytes_eq}
 use borrow.Author.Tests.{eqb-true}
 use Rattle.rm_val.specs.Spellable.{IsSpellable}
-use Rattle.rm_model.specs.Settings.{Settings}
+use Rattle.rm_model.specs.Counting.{Counting}
 use Rattle.rm_model.specs.Journal.{Act, Journal, samples}
 use Rattle.rm_model.specs.ControlRows.{no_rows, is_absent, next_state, set_value}
 use Rattle.rm_model.specs.Alike.{HasSameColumns}
@@ -91,7 +91,7 @@ module _ (rows new : List (Row AlarmRow)) (index : ℕ) (lacks : (i : ℕ) → r
   pub spelled_gone : AreSpelled rows → AreSpelled new
   spelled_gone spelled i r is_r = spelled i r (was_there i r is_r).1
 
-  module _ (settings : Settings) (journal : Journal) (moment : ℕ) (is : AreRowsAfter alarm_table no_rows set_to rows journal) where
+  module _ (settings : Counting) (journal : Journal) (moment : ℕ) (is : AreRowsAfter alarm_table no_rows set_to rows journal) where
     abbrev gone : Act
     gone = samples moment index None
 

@@ -6,7 +6,7 @@ use Rattle.rm_val.specs.Val.{Val, int}
 use Rattle.rm_val.specs.Spellable.{HasSpelling}
 use Rattle.rm_val.specs.declared.error.ErrorStatus.{ErrorStatus}
 use Rattle.rm_val.specs.declared.error.ErrorStatus.TheVariants.{InconsistentValue}
-use Rattle.rm_model.specs.Settings.{Settings}
+use Rattle.rm_model.specs.Counting.{Counting}
 use Rattle.rm_model.specs.Journal.{Journal, value_given}
 use Rattle.rm_model.specs.Cells.{cells_of}
 use Rattle.rm_model.specs.Finite.{AreFinite}
@@ -97,5 +97,5 @@ pub nothing_begins : (index : List ℕ) → false ≡ true → Contains [] index
 nothing_begins index is = absurd (cc)
 
 -- the cells are finitely many
-pub alarms_finite : (settings : Settings) (journal : Journal) → AreFinite (cells_of (alarms_table settings journal))
+pub alarms_finite : (settings : Counting) (journal : Journal) → AreFinite (cells_of (alarms_table settings journal))
 alarms_finite settings journal = table_finite (alarms_table settings journal) (indexes_of alarm_table [] journal) (row_listed alarm_table no_rows [] nothing_begins journal)

@@ -21,7 +21,7 @@ pub struct Alarms {
 }
 
 impl Alarms {
-    ghost use Rattle.rm_model.specs.Settings.{Settings};
+    ghost use Rattle.rm_model.specs.Counting.{Counting};
     ghost use Rattle.rm_model.specs.Journal.{Journal};
     ghost use Rattle.rm_model.specs.ControlRows.{is_valid};
     ghost use Rattle.rm_acts.specs.Alarms.{alarm_state};
@@ -31,7 +31,7 @@ impl Alarms {
 
     /// The columns of an alarm, by its number, as its cells show them. None where there is no such row.
     pub fn row(&self, index: u32) -> Option<&AlarmRow>
-        ensures shown { (settings : Settings) (journal : Journal) → Stands self.now settings journal
+        ensures shown { (settings : Counting) (journal : Journal) → Stands self.now settings journal
             → is_valid (alarm_state journal index) ≡ true → MatchOption result ⊥ (λ row. AreShown settings journal index row.now) }
         ensures index { IfSome result (λ row. index ≤ 65535) }
         ensures spelling { IfSome result (λ row. IsSpellable (variable_kept row.now)) }

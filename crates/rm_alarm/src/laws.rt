@@ -1,6 +1,6 @@
 // Laws of crossings, of what alarms read, and of alarms while frames pass. The bodies are empty.
 ghost use Rattle.std.specs.Prelude.{◌≡◌, ◌↔◌, ℤ, List, ◌∷◌, Bool, true, false};
-ghost use Rattle.rm_model.specs.Settings.{Settings};
+ghost use Rattle.rm_model.specs.Counting.{Counting};
 ghost use Rattle.rm_model.specs.Journal.{Journal, Frame, passes};
 ghost use Rattle.rm_alarm.specs.declared.alarms.Alarms.{Alarms};
 ghost use Rattle.rm_alarm.specs.Standing.{Stands, AreBased};
@@ -25,13 +25,13 @@ pub fn one_crossing()
 
 /// A law: where alarms sample the variables of a group, what they read by recursion on the journal is what these read.
 pub fn reads_cells<G: Readable>()
-    ensures { (settings : Settings) → ReadsFrom G.sampleable (sampling G.sampleable settings) }
+    ensures { (settings : Counting) → ReadsFrom G.sampleable (sampling G.sampleable settings) }
 {}
 
 /// A law: a frame makes no difference to alarms. Who stands for a journal stands for it with a frame in front.
 pub fn frames_pass()
-    ensures stands { (alarms : Alarms) (settings : Settings) (journal : Journal) (frame : Frame) → Stands alarms settings journal
+    ensures stands { (alarms : Alarms) (settings : Counting) (journal : Journal) (frame : Frame) → Stands alarms settings journal
         → Stands alarms settings (passes frame ∷ journal) }
-    ensures based { (alarms : Alarms) (settings : Settings) (journal : Journal) (frame : Frame) → Stands alarms settings journal
+    ensures based { (alarms : Alarms) (settings : Counting) (journal : Journal) (frame : Frame) → Stands alarms settings journal
         → AreBased alarms settings journal → AreBased alarms settings (passes frame ∷ journal) }
 {}

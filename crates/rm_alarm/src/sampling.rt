@@ -1,7 +1,7 @@
 // The samples of alarms.
 ghost use Rattle.std.specs.Prelude.{◌≡◌, ℕ, ◌<◌, ◌≤◌, [], ◌∷◌, Some};
 ghost use Rattle.std.specs.Option.{option_map};
-ghost use Rattle.rm_model.specs.Settings.{Settings};
+ghost use Rattle.rm_model.specs.Counting.{Counting};
 ghost use Rattle.rm_model.specs.Journal.{Journal, samples};
 ghost use Rattle.rm_acts.specs.Alarms.{variable_of, sampled};
 ghost use Rattle.rm_status.specs.declared.row.Row.{Row};
@@ -24,8 +24,8 @@ use rm_status::Controls;
 impl Alarms {
     /// No alarms.
     pub fn new() -> Alarms
-        ensures stands { (settings : Settings) → Stands result settings [] }
-        ensures based { (settings : Settings) → AreBased result settings [] }
+        ensures stands { (settings : Counting) → Stands result settings [] }
+        ensures based { (settings : Counting) → AreBased result settings [] }
     {
         Alarms {
             rows: Controls::new(StatusKind::EntryStatus),
@@ -37,15 +37,15 @@ impl Alarms {
     /// whose variable is gone is removed.
     pub fn sample<L: Look>(&mut self, index: u32, moment: u32, look: &L) -> Sampled
         requires { due_in self.old index ≡ Some moment }
-        ensures stands { (settings : Settings) (journal : Journal) → Stands self.old settings journal
+        ensures stands { (settings : Counting) (journal : Journal) → Stands self.old settings journal
             → AreBased self.old settings journal
             → let number = option_map (λ reading. reading.value) (L.readings look.now moment (variable_of journal index)) in
             Stands self.new settings (samples moment index number ∷ journal) }
-        ensures based { (settings : Settings) (journal : Journal) → Stands self.old settings journal
+        ensures based { (settings : Counting) (journal : Journal) → Stands self.old settings journal
             → AreBased self.old settings journal
             → let number = option_map (λ reading. reading.value) (L.readings look.now moment (variable_of journal index)) in
             AreBased self.new settings (samples moment index number ∷ journal) }
-        ensures result { (settings : Settings) (journal : Journal) → Stands self.old settings journal
+        ensures result { (settings : Counting) (journal : Journal) → Stands self.old settings journal
             → AreBased self.old settings journal
             → let number = option_map (λ reading. reading.value) (L.readings look.now moment (variable_of journal index)) in
             result ≡ sampled settings journal moment index number }

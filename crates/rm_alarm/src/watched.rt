@@ -1,6 +1,6 @@
 // A group, and the alarms that sample its variables.
 ghost use Rattle.std.specs.Prelude.{◌≡◌, ℕ, ◌<◌, ◌≤◌, [], ◌∷◌, Some};
-ghost use Rattle.rm_model.specs.Settings.{Settings};
+ghost use Rattle.rm_model.specs.Counting.{Counting};
 ghost use Rattle.rm_model.specs.Journal.{Journal, samples, last_moment};
 ghost use Rattle.rm_acts.specs.Alarms.{sampled};
 ghost use Rattle.rm_group.specs.Both.{StandAsOne};
@@ -26,12 +26,12 @@ pub fn take_sample<G: Readable + Unsampled>(
 ) -> Sampled
     requires { due_in group.old.second index ≡ Some moment }
     ensures watched { group.new.first ≡ group.old.first }
-    ensures under_way { (settings : Settings) (journal : Journal)
+    ensures under_way { (settings : Counting) (journal : Journal)
         → StandAsOne (G.stands group.old.first settings journal) (AreWhole group.old.second settings journal) (ReadsFrom G.sampleable settings)
         → last_moment journal ≤ moment → G.askable group.old.first moment
         → let act = samples moment index (number_read settings journal moment index) in
         StandAsOne (G.under_way group.new.first settings act journal []) (AreWhole group.new.second settings (act ∷ journal)) (ReadsFrom G.sampleable settings) }
-    ensures result { (settings : Settings) (journal : Journal)
+    ensures result { (settings : Counting) (journal : Journal)
         → StandAsOne (G.stands group.old.first settings journal) (AreWhole group.old.second settings journal) (ReadsFrom G.sampleable settings)
         → last_moment journal ≤ moment → G.askable group.old.first moment
         → result ≡ sampled settings journal moment index (number_read settings journal moment index) }

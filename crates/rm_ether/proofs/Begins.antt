@@ -2,7 +2,7 @@
 use Rattle.std.proofs.Common.{◌≡◌, ℕ, List, [], ◌∷◌, refl, sym, ap, ◌∙◌, subst, true, false, cond, Some, None, nat_eq, arith}
 use Rattle.std.specs.Option.{option_and_then}
 use Rattle.std.proofs.lemmas.Bool.Decides.{nat_tests}
-use Rattle.rm_model.specs.Settings.{Settings}
+use Rattle.rm_model.specs.Counting.{Counting}
 use Rattle.rm_model.specs.Alike.{HasSameColumns}
 use Rattle.rm_model.specs.ControlRows.{is_absent}
 use Rattle.rm_model.specs.declared.row.State.TheVariants.{Absent, Valid}
@@ -21,7 +21,7 @@ use Rattle.rm_ether.proofs.Steps.{no_sum}
 abbrev first_row : Row StatisticsRow
 first_row = record { index = 1; state = Valid; columns = monitor_row }
 
-module _ (settings : Settings) (one : settings.interfaces ≡ 1) (rows : List (Row StatisticsRow))
+module _ (settings : Counting) (one : settings.interfaces ≡ 1) (rows : List (Row StatisticsRow))
     (is : (i : ℕ) → row_in rows i ≡ cond (nat_eq 1 i) (Some first_row) None) where
   only_first : (i : ℕ) → is_of_monitor settings (i ∷ []) ≡ nat_eq 1 i
   only_first i = rw one (grind (arith, nat_tests))

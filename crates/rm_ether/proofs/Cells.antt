@@ -4,7 +4,7 @@ use Rattle.std.specs.Prelude.{pos}
 use Rattle.std.specs.Option.{option_map_or}
 use Rattle.std.proofs.Math.Pow.{mod-mod-pow}
 use Rattle.rm_val.specs.Val.{Val, int, counter}
-use Rattle.rm_model.specs.Settings.{Settings}
+use Rattle.rm_model.specs.Counting.{Counting}
 use Rattle.rm_model.specs.Journal.{Journal}
 use Rattle.rm_model.specs.Cells.{cells_of, IsNext}
 use Rattle.rm_status.specs.declared.row.Row.{Row}
@@ -22,7 +22,7 @@ use Rattle.rm_ether.specs.StatisticsRows.{set_to}
 use Rattle.rm_ether.specs.Shown.{kept_other, rows_table}
 use Rattle.rm_ether.specs.Group.{AreCounted}
 
-module _ (rows : List (Row StatisticsRow)) (held : AreControlRows ether_stats rows) (settings : Settings) (journal : Journal)
+module _ (rows : List (Row StatisticsRow)) (held : AreControlRows ether_stats rows) (settings : Counting) (journal : Journal)
     (is : AreRowsAfter ether_stats (ether_beginning settings) set_to rows journal) (sums : AreCounted rows settings journal) where
   same_other : (column i : ℕ) (row : Row StatisticsRow) → row_in rows i ≡ Some row → with_index (kept_other rows) column (i ∷ []) ≡ with_index (ether_other settings journal) column (i ∷ [])
   same_other column i row here =

@@ -2,7 +2,7 @@
 use Rattle.std.proofs.Common.{◌≡◌, ℕ, ◌+◌, List, [], ◌∷◌, map, refl, true, Option, Some, None}
 use Rattle.std.specs.Prelude.{pos, codes}
 use Rattle.rm_val.specs.Val.{Val, int, octets, name, counter}
-use Rattle.rm_model.specs.Settings.{Settings}
+use Rattle.rm_model.specs.Counting.{Counting}
 use Rattle.rm_model.specs.Journal.{Act, passes, assigns, Journal}
 use Rattle.rm_model.specs.Cells.{cells_of}
 use Rattle.rm_model.proofs.ExampleSettings.{plain}
@@ -12,7 +12,7 @@ use Rattle.rm_ether.specs.EtherStats.{ether_table, counter_sum}
 use Rattle.rm_ether.specs.Columns.{counter_numbered}
 
 -- short frames count as they were captured
-abbrev kept : Settings
+abbrev kept : Counting
 kept = record plain { keep_short = true }
 
 -- a frame with so many octets on the wire, without the check sequence
@@ -24,7 +24,7 @@ abbrev journal : Journal
 journal = frame 1 42 ∷ frame 2 60 ∷ frame 1 1514 ∷ frame 1 1515 ∷ frame 1 4294967292 ∷ []
 
 -- what row 1 counts in some counters
-abbrev sums : Settings → List Counter → List ℕ
+abbrev sums : Counting → List Counter → List ℕ
 sums settings counters = map (counter_sum settings journal (1 ∷ [])) counters
 
 -- a variable of etherStats, and what some columns of a row show after a journal
@@ -87,7 +87,7 @@ removed = refl
 
 -- With two interfaces there are two rows of the monitor from before the first act, and each counts the frames of its interface.
 
-abbrev two : Settings
+abbrev two : Counting
 two = record plain { interfaces = 2 }
 
 packets_of_interface_2 : counter_sum two journal (2 ∷ []) Pkts ≡ 1

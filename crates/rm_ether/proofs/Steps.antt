@@ -7,7 +7,7 @@ use Rattle.std.proofs.lemmas.Bool.{and_parts}
 use Rattle.std.proofs.Math.Nat.{mod-add-mod}
 use Rattle.rm_val.specs.Val.{name}
 use Rattle.rm_proto.specs.declared.known.Facts.{Facts}
-use Rattle.rm_model.specs.Settings.{Settings}
+use Rattle.rm_model.specs.Counting.{Counting}
 use Rattle.rm_model.specs.Journal.{Frame, Assignments, Journal, passes, assigns, frames_in, value_given}
 use Rattle.rm_model.specs.FrameFacts.{frame_facts}
 use Rattle.rm_model.specs.Interfaces.{interface_name, is_interface, frames_of}
@@ -49,14 +49,14 @@ was_there : (f : Row StatisticsRow → Row StatisticsRow) (o : Option (Row Stati
 was_there f None row e = absurd (cc)
 was_there f (Some old) row e = (old, refl, cc)
 
-abbrev of_frames : Settings → Counter → List Frame → ℕ
+abbrev of_frames : Counting → Counter → List Frame → ℕ
 of_frames settings each frames = sum_by (λ frame. counted each (frame_facts settings frame)) frames
 
 -- nothing was counted by a row that isn't valid
-idle_sum : (settings : Settings) (journal : Journal) (index : List ℕ) (each : Counter) → since ether_stats (ether_beginning settings) journal index ≡ [] → counter_sum settings journal index each ≡ 0
+idle_sum : (settings : Counting) (journal : Journal) (index : List ℕ) (each : Counter) → since ether_stats (ether_beginning settings) journal index ≡ [] → counter_sum settings journal index each ≡ 0
 idle_sum settings journal index each none = ap (λ acts. of_frames settings each (frames_of (ether_column settings journal index 2) (frames_in acts))) none
 
-module _ (settings : Settings) (rows : List (Row StatisticsRow)) (journal : Journal) (is : AreRowsAfter ether_stats (ether_beginning settings) set_to rows journal) (i : ℕ) (row : Row StatisticsRow) (here : row_in rows i ≡ Some row) where
+module _ (settings : Counting) (rows : List (Row StatisticsRow)) (journal : Journal) (is : AreRowsAfter ether_stats (ether_beginning settings) set_to rows journal) (i : ℕ) (row : Row StatisticsRow) (here : row_in rows i ≡ Some row) where
   state_is : row.state ≡ ether_state settings journal (i ∷ [])
   state_is = ap state_seen (sym here) ∙ is.alike.states i
 
@@ -69,7 +69,7 @@ module _ (settings : Settings) (rows : List (Row StatisticsRow)) (journal : Jour
     source_is = ap (λ o. unwrap_or (option_and_then (λ c. set_to c 2) (columns_seen o)) (default_of ether_stats 2)) (sym here) ∙ (is.alike.columns i shown_at).0.shown
 
 -- One more frame.
-module _ (settings : Settings) (journal : Journal) (frame : Frame) (facts : Facts) (known : facts ≡ frame_facts settings frame) (rows new : List (Row StatisticsRow))
+module _ (settings : Counting) (journal : Journal) (frame : Frame) (facts : Facts) (known : facts ≡ frame_facts settings frame) (rows new : List (Row StatisticsRow))
     (changed : (i : ℕ) → row_in new i ≡ option_map (changed_row (λ index state row. counting facts state row)) (row_in rows i))
     (is : AreRowsAfter ether_stats (ether_beginning settings) set_to rows journal) (sums : AreCounted rows settings journal) where
   abbrev longer : Journal
@@ -142,7 +142,7 @@ not_first : (a b : Bool) → b ≡ true → (a && b) ≡ false → a ≡ false
 not_first true b is h = absurd (cc)
 not_first false b is h = refl
 
-module _ (settings : Settings) (journal : Journal) (moment : ℕ) (bs : Bindings) (values : Assignments)
+module _ (settings : Counting) (journal : Journal) (moment : ℕ) (bs : Bindings) (values : Assignments)
     (gives : (name : List ℕ) → value_given values name ≡ value_given bs name)
     (fine : AllFine ether_stats bs)
     (rows middle new : List (Row StatisticsRow)) (held : AreControlRows ether_stats rows)

@@ -2,7 +2,7 @@
 use Rattle.std.specs.Prelude.{ℕ, ◌%◌, ◌^◌, List, [], ◌∷◌, Bool, false, ◌&&◌, nat_eq, nat_le, if◌then◌else◌, Option, Some, None, codes}
 use Rattle.std.specs.List.{sum_by}
 use Rattle.rm_val.specs.Val.{Val, name, octets, counter}
-use Rattle.rm_model.specs.Settings.{Settings}
+use Rattle.rm_model.specs.Counting.{Counting}
 use Rattle.rm_model.specs.Journal.{Frame, Journal, frames_in}
 use Rattle.rm_model.specs.Interfaces.{interface_name, frames_of}
 use Rattle.rm_model.specs.Cells.{Table}
@@ -26,7 +26,7 @@ abbrev pub ether_stats : ControlTable
 ether_stats = entry_table ether_entry 21 (source_column 2 ∷ owner_column 20 ∷ [])
 
 -- whether these numbers are the index of a row of the monitor: there is one for each interface, with its number
-abbrev pub is_of_monitor : Settings → List ℕ → Bool
+abbrev pub is_of_monitor : Counting → List ℕ → Bool
 is_of_monitor settings (number ∷ []) = nat_le 1 number && nat_le number settings.interfaces
 is_of_monitor settings others = false
 
@@ -39,34 +39,34 @@ monitor_set (number ∷ []) column =
 monitor_set others column = None
 
 -- the rows of the monitor are valid from before the first act
-abbrev pub ether_beginning : Settings → Beginning
+abbrev pub ether_beginning : Counting → Beginning
 ether_beginning settings = record {
   state = λ index. if is_of_monitor settings index then Valid else Absent;
   set = λ index column. if is_of_monitor settings index then monitor_set index column else None;
 }
 
 -- the state of a row
-abbrev pub ether_state : Settings → Journal → List ℕ → State
+abbrev pub ether_state : Counting → Journal → List ℕ → State
 ether_state settings journal index = state_of ether_stats (ether_beginning settings) journal index
 
 -- the value of a column of a row that can be set: 2 is the data source, 20 the owner
-abbrev pub ether_column : Settings → Journal → List ℕ → ℕ → Val
+abbrev pub ether_column : Counting → Journal → List ℕ → ℕ → Val
 ether_column settings journal index column = value_of ether_stats (ether_beginning settings) journal index column
 
 -- the frames that a row counts: those of its data source, since it became valid
-abbrev pub counted_frames : Settings → Journal → List ℕ → List Frame
+abbrev pub counted_frames : Counting → Journal → List ℕ → List Frame
 counted_frames settings journal index =
     frames_of (ether_column settings journal index 2) (frames_in (since ether_stats (ether_beginning settings) journal index))
 
 -- a counter of a row: the sum of what each of these frames adds to it
-abbrev pub counter_sum : Settings → Journal → List ℕ → Counter → ℕ
+abbrev pub counter_sum : Counting → Journal → List ℕ → Counter → ℕ
 counter_sum settings journal index each =
     sum_by (λ frame. counted each (frame_facts settings frame)) (counted_frames settings journal index)
 
 -- what the columns show beside the index that can't be set, which are counters; a Counter32 is shown modulo 2 ^ 32
-abbrev pub ether_other : Settings → Journal → ℕ → List ℕ → Val
+abbrev pub ether_other : Counting → Journal → ℕ → List ℕ → Val
 ether_other settings journal column index = counter (counter_sum settings journal index (counter_numbered column) % 2 ^ 32)
 
 -- the table after a journal
-abbrev pub ether_table : Settings → Journal → Table
+abbrev pub ether_table : Counting → Journal → Table
 ether_table settings journal = control_cells ether_stats (ether_beginning settings) ether_columns (with_index (ether_other settings journal)) journal

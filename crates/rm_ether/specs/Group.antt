@@ -2,7 +2,7 @@
 use Rattle.std.specs.Prelude.{◌≡◌, ℕ, ◌%◌, ◌^◌, List, [], ◌∷◌, length, Option, Some}
 use Rattle.rm_val.specs.Val.{Val}
 use Rattle.rm_val.specs.declared.error.ErrorStatus.{ErrorStatus}
-use Rattle.rm_model.specs.Settings.{Settings}
+use Rattle.rm_model.specs.Counting.{Counting}
 use Rattle.rm_model.specs.Journal.{Journal}
 use Rattle.rm_model.specs.Judgement.{Bindings, place_of, alone_fault, second_pass, IsFirstFault}
 use Rattle.rm_model.specs.declared.verdict.Verdict.TheVariants.{Fine}
@@ -28,13 +28,13 @@ abbrev pub last_given : Ether → ℕ
 last_given ether = ether.last
 
 -- each counter of each row is the sum that the journal gives, modulo 2 ^ 64
-abbrev pub AreCounted : List (Row StatisticsRow) → Settings → Journal → Type 0
+abbrev pub AreCounted : List (Row StatisticsRow) → Counting → Journal → Type 0
 AreCounted rows settings journal =
     (index : ℕ) (row : Row StatisticsRow) → row_in rows index ≡ Some row
     → (each : Counter) → counter_of row.columns.statistics each ≡ counter_sum settings journal (index ∷ []) each % 2 ^ 64
 
 -- The group stands for a journal: its rows are those after the journal, with the counters that the journal gives.
-pub record Stands (ether : Ether) (settings : Settings) (journal : Journal) : Type 0 where
+pub record Stands (ether : Ether) (settings : Counting) (journal : Journal) : Type 0 where
   pub rows : AreRowsAfter ether_stats (ether_beginning settings) set_to ether.rows journal
   pub counters : AreCounted ether.rows settings journal
 

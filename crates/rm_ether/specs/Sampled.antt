@@ -2,7 +2,7 @@
 use Rattle.std.specs.Prelude.{◌≡◌, ℕ, ◌%◌, ◌^◌, ℤ, List, [], ◌∷◌, Option, refl}
 use Rattle.std.specs.List.{sum_by}
 use Rattle.std.proofs.Common.{ap, sym, ◌∙◌}
-use Rattle.rm_model.specs.Settings.{Settings}
+use Rattle.rm_model.specs.Counting.{Counting}
 use Rattle.rm_model.specs.Journal.{Journal, samples}
 use Rattle.rm_model.specs.FrameFacts.{frame_facts}
 use Rattle.rm_model.specs.Interfaces.{frames_of}
@@ -14,7 +14,7 @@ use Rattle.rm_ether.specs.declared.counter.Counter.{Counter}
 use Rattle.rm_ether.specs.StatisticsRows.{set_to}
 use Rattle.rm_ether.specs.Group.{Stands}
 
-module _ (settings : Settings) (journal : Journal) (moment alarm : ℕ) (reading : Option ℤ) where
+module _ (settings : Counting) (journal : Journal) (moment alarm : ℕ) (reading : Option ℤ) where
   same_sum : (index : List ℕ) (each : Counter) → counter_sum settings (samples moment alarm reading ∷ journal) index each ≡ counter_sum settings journal index each
   same_sum index each =
       ap (λ frames. sum_by (λ frame. counted each (frame_facts settings frame)) (frames_of (ether_column settings journal index 2) frames))

@@ -9,12 +9,12 @@ use rm_status::Change;
 
 /// A frame is counted in each valid row whose data source is the interface of the frame.
 #[derive(Clone, Copy)]
-pub struct Counting<'a> {
+pub struct Adding<'a> {
     /// The facts of the frame.
     pub facts: &'a Facts,
 }
 
-impl Change<StatisticsRow> for Counting<'_> {
+impl Change<StatisticsRow> for Adding<'_> {
     ghost changed = { λ s index state row. counting s.facts.now state row };
 
     fn change(&self, _index: u32, state: State, columns: &mut StatisticsRow) {

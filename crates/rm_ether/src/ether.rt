@@ -2,7 +2,7 @@
 ghost use Rattle.std.specs.Prelude.{◌≡◌, ◌+◌, ◌<◌, ◌≤◌, [], ◌∷◌};
 
 use crate::cell::Counters;
-use crate::change::{Counting, Resting};
+use crate::change::{Adding, Resting};
 use crate::row::{ETHER_OBJECTS, STATUS, StatisticsRow};
 use rm_acts::Firing;
 use rm_columns::ControlRow;
@@ -34,14 +34,14 @@ pub struct Ether {
 }
 
 impl Ether {
-    ghost use Rattle.rm_model.specs.Settings.{Settings};
+    ghost use Rattle.rm_model.specs.Counting.{Counting};
     ghost use Rattle.rm_model.specs.Journal.{Journal, Frame, passes};
     ghost use Rattle.rm_model.specs.FrameFacts.{frame_facts};
     ghost use Rattle.rm_ether.specs.Group.{Stands, frames_given, last_given};
 
     /// The statistics of one interface before the first frame.
     pub fn new() -> Ether
-        ensures stands { (settings : Settings) → settings.interfaces ≡ 1 → Stands result settings [] }
+        ensures stands { (settings : Counting) → settings.interfaces ≡ 1 → Stands result settings [] }
         ensures frames { frames_given result ≡ 0 }
         ensures last { last_given result ≡ 0 }
     {
@@ -59,12 +59,12 @@ impl Ether {
     pub fn frame(&mut self, facts: &Facts, moment: u32)
         requires later { last_given self.old ≤ moment }
         requires room { frames_given self.old < MOST_FRAMES }
-        ensures stands { (settings : Settings) (journal : Journal) (frame : Frame) → Stands self.old settings journal → facts.now ≡ frame_facts settings frame
+        ensures stands { (settings : Counting) (journal : Journal) (frame : Frame) → Stands self.old settings journal → facts.now ≡ frame_facts settings frame
             → frame.moment ≡ moment → Stands self.new settings (passes frame ∷ journal) }
         ensures frames { frames_given self.new ≡ frames_given self.old + 1 }
         ensures last { last_given self.new ≡ moment }
     {
-        self.rows.change_each(&Counting { facts });
+        self.rows.change_each(&Adding { facts });
         self.frames += 1;
         self.last = moment;
     }

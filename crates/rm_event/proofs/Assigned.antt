@@ -2,7 +2,7 @@
 use Rattle.std.proofs.Common.{◌^◌, ◌≡◌, ℕ, ◌<◌, List, [], ◌∷◌, length, Bool, true, false, cond, ◌&&◌, Option, Some, None, refl, sym, ap, subst, ◌∙◌}
 use Rattle.std.specs.Prelude.{is_some}
 use Rattle.std.proofs.lemmas.Bool.{and_parts}
-use Rattle.rm_model.specs.Settings.{Settings}
+use Rattle.rm_model.specs.Counting.{Counting}
 use Rattle.rm_model.specs.Journal.{Assignments, Journal, assigns, value_given}
 use Rattle.rm_model.specs.ControlRows.{no_rows, cell_name, value_ask, set_ask, next_state, is_valid, stays_valid}
 use Rattle.rm_model.specs.Judgement.{Bindings, count_below, first_pass, second_pass}
@@ -39,7 +39,7 @@ not_first false b is h = refl
 pub valid_after : (bs : Bindings) (rows new : List (Row EventRow)) → ((i : ℕ) → row_in new i ≡ row_after event_table with_column new_row bs i (row_in rows i)) → count_below (valid_in new) (2 ^ 32) ≡ count_valid_after event_table (rows_before event_table set_to rows) bs
 valid_after bs rows new after = ap (λ p. count_below p (2 ^ 32)) (λ d i. (ap is_valid (ap state_seen (after i) ∙ state_then event_table with_column new_row bs i (row_in rows i))) d)
 
-module _ (settings : Settings) (journal : Journal) (moment : ℕ) (bs : Bindings) (values : Assignments)
+module _ (settings : Counting) (journal : Journal) (moment : ℕ) (bs : Bindings) (values : Assignments)
     (gives : (name : List ℕ) → value_given values name ≡ value_given bs name)
     (alone : (k : ℕ) → k < length bs → first_pass event_table bs k ≡ None)
     (rows new : List (Row EventRow)) (held : AreControlRows event_table rows)

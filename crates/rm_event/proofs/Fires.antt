@@ -3,7 +3,7 @@ use Rattle.std.proofs.Common.{◌≡◌, ℕ, List, [], ◌∷◌, ◌++◌, Boo
 use Rattle.std.specs.Prelude.{pos, unwrap_or}
 use Rattle.std.specs.Option.{option_and_then}
 use Rattle.rm_val.specs.Val.{Val, int, octets}
-use Rattle.rm_model.specs.Settings.{Settings}
+use Rattle.rm_model.specs.Counting.{Counting}
 use Rattle.rm_model.specs.Journal.{Act, Journal, moment_of}
 use Rattle.rm_model.specs.ControlTable.{default_of}
 use Rattle.rm_model.specs.ControlRows.{no_rows, is_valid, is_absent}
@@ -85,7 +85,7 @@ doesnt_fire UnderCreation type idle = refl
 doesnt_fire Valid type idle = absurd (cc)
 
 -- One event more that an act fires.
-module _ (settings : Settings) (act : Act) (earlier : Journal) (unset : is_set act ≡ false) (some : List Firing) (index : ℕ) (channel : Option ℕ) where
+module _ (settings : Counting) (act : Act) (earlier : Journal) (unset : is_set act ≡ false) (some : List Firing) (index : ℕ) (channel : Option ℕ) where
   abbrev firing : Firing
   firing = record { event = index; channel = channel }
 

@@ -4,7 +4,7 @@ use Rattle.std.specs.Prelude.{pos, slice_get, unwrap_or}
 use Rattle.std.specs.Option.{option_or, option_map_or}
 use Rattle.std.proofs.lemmas.Bool.Decides.{nat_tests}
 use Rattle.rm_val.specs.Val.{Val, int, octets, ticks, null}
-use Rattle.rm_model.specs.Settings.{Settings}
+use Rattle.rm_model.specs.Counting.{Counting}
 use Rattle.rm_model.specs.Journal.{Journal}
 use Rattle.rm_model.specs.Cells.{cells_of, cell_at, instance_of, IsNext}
 use Rattle.rm_model.specs.ControlRows.{no_rows, is_valid}
@@ -34,7 +34,7 @@ use Rattle.rm_event.specs.Moments.{idle_firings}
 use Rattle.rm_event.proofs.Fires.{description_is}
 
 -- eventTable
-module _ (rows : List (Row EventRow)) (held : AreControlRows event_table rows) (logs : List (Slot Log)) (settings : Settings) (journal : Journal)
+module _ (rows : List (Row EventRow)) (held : AreControlRows event_table rows) (logs : List (Slot Log)) (settings : Counting) (journal : Journal)
     (is : AreRowsAfter event_table no_rows set_to rows journal) (are : AreLogs logs journal (firings settings journal)) where
   -- when an event fired last
   sent_is : (i : ℕ) → sent_in logs i ≡ last_sent (firings settings journal i)

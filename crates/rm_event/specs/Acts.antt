@@ -1,6 +1,6 @@
 -- That the events take an act step by step.
 use Rattle.std.proofs.Common.{◌≡◌, false, sym, subst, [], ◌∷◌}
-use Rattle.rm_model.specs.Settings.{Settings}
+use Rattle.rm_model.specs.Counting.{Counting}
 use Rattle.rm_model.specs.Journal.{Act, Journal}
 use Rattle.rm_event.specs.declared.events.Events.{Events}
 use Rattle.rm_event.specs.EventTable.{event_state, type_of}
@@ -10,7 +10,7 @@ use Rattle.rm_pool.specs.Slots.{part_in}
 use Rattle.rm_event.specs.Standing.{Stands, IsUnderWay, IsLogOf}
 use Rattle.rm_event.specs.Moments.{nothing_with, same_state, same_type, same_rows_after}
 
-module _ (events : Events) (settings : Settings) (act : Act) (earlier : Journal) (unset : is_set act ≡ false) where
+module _ (events : Events) (settings : Counting) (act : Act) (earlier : Journal) (unset : is_set act ≡ false) where
   pub begun : Stands events settings earlier → IsUnderWay events settings act earlier []
   begun stands = record {
     rows = stands.rows;

@@ -3,7 +3,7 @@ use Rattle.std.proofs.Common.{◌≡◌, ℕ, ◌≤◌, List, [], ◌∷◌, Co
 use Rattle.std.specs.Prelude.{length}
 use Rattle.std.specs.Option.{option_or}
 use Rattle.std.proofs.lemmas.Bool.Decides.{nat_tests}
-use Rattle.rm_model.specs.Settings.{Settings}
+use Rattle.rm_model.specs.Counting.{Counting}
 use Rattle.rm_model.specs.Journal.{Journal}
 use Rattle.rm_model.specs.Cells.{cells_of}
 use Rattle.rm_model.specs.Finite.{AreFinite}
@@ -15,7 +15,7 @@ use Rattle.rm_event.specs.Tables.{events_table, log_of, is_shown, is_entry, log_
 within : (entries number : ℕ) → is_shown entries number ≡ true → number ≤ entries
 within entries number h = grind (arith, nat_tests)
 
-module _ (settings : Settings) (journal : Journal) where
+module _ (settings : Counting) (journal : Journal) where
   -- how many entries the log of an event has, and which of them are shown
   abbrev entries : ℕ → ℕ
   entries event = length (log_of settings journal event)
@@ -34,7 +34,7 @@ module _ (settings : Settings) (journal : Journal) where
   in_entries (event ∷ number ∷ next ∷ more) is = absurd (cc)
 
 -- the cells of both are finitely many
-pub event_finite : (settings : Settings) (journal : Journal) → AreFinite (λ name. option_or (cells_of (events_table settings journal) name) (cells_of (log_table settings journal) name))
+pub event_finite : (settings : Counting) (journal : Journal) → AreFinite (λ name. option_or (cells_of (events_table settings journal) name) (cells_of (log_table settings journal) name))
 event_finite settings journal =
     both_finite (cells_of (events_table settings journal)) (cells_of (log_table settings journal))
     (table_finite (events_table settings journal) (rows_of event_table journal) (in_rows event_table journal))

@@ -3,7 +3,7 @@ use Rattle.std.specs.Prelude.{ℕ, ◌≤◌, max, List, [], ◌∷◌, length, 
 use Rattle.std.specs.Option.{option_or}
 use Rattle.rm_val.specs.Val.{Val}
 use Rattle.rm_val.specs.declared.error.ErrorStatus.{ErrorStatus}
-use Rattle.rm_model.specs.Settings.{Settings}
+use Rattle.rm_model.specs.Counting.{Counting}
 use Rattle.rm_model.specs.Journal.{Journal}
 use Rattle.rm_model.specs.Cells.{Cells, cells_of}
 use Rattle.rm_model.specs.Judgement.{Bindings, first_pass, second_pass, IsFirstFault}
@@ -18,7 +18,7 @@ use Rattle.rm_event.specs.EventRows.{set_to}
 use Rattle.rm_event.specs.Tables.{events_table, log_entry, log_table}
 
 -- the cells of eventTable and logTable after a journal
-abbrev pub event_cells : Settings → Journal → Cells
+abbrev pub event_cells : Counting → Journal → Cells
 event_cells settings journal name =
     option_or (cells_of (events_table settings journal) name) (cells_of (log_table settings journal) name)
 

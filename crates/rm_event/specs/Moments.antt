@@ -2,7 +2,7 @@
 use Rattle.std.proofs.Common.{◌≡◌, ℕ, List, [], ◌∷◌, ◌++◌, Bool, true, false, cond, ◌&&◌, Some, None, refl, sym, ap, ◌∙◌, nat_eq}
 use Rattle.std.specs.Prelude.{map, filter}
 use Rattle.std.proofs.Math.Bool.{and-false, and_self}
-use Rattle.rm_model.specs.Settings.{Settings}
+use Rattle.rm_model.specs.Counting.{Counting}
 use Rattle.rm_model.specs.Journal.{Act, passes, assigns, samples, Journal, moment_of}
 use Rattle.rm_model.specs.ControlRows.{no_rows, is_valid, stays_valid}
 use Rattle.rm_status.specs.RowsAfter.{AreRowsAfter}
@@ -55,7 +55,7 @@ pub stays_as : (act : Act) (earlier : Journal) (index : List ℕ) → is_set act
 stays_as act earlier index unset = ap (λ s. is_valid (event_state earlier index) && is_valid s) (same_state act earlier index unset) ∙ and_self (is_valid (event_state earlier index))
 
 -- an event whose row isn't valid hasn't fired
-pub idle_firings : (settings : Settings) (journal : Journal) (event : ℕ) → is_valid (event_state journal (event ∷ [])) ≡ false → firings settings journal event ≡ []
+pub idle_firings : (settings : Counting) (journal : Journal) (event : ℕ) → is_valid (event_state journal (event ∷ [])) ≡ false → firings settings journal event ≡ []
 idle_firings settings [] event idle = refl
 idle_firings settings (act ∷ earlier) event idle =
     ap (λ b. cond b (moments_in (moment_of act) event (act_fires settings act earlier (fired settings earlier)) ++ firings settings earlier event) [])
@@ -70,7 +70,7 @@ module _ (act : Act) (earlier : Journal) (unset : is_set act ≡ false) (event :
   idle_with idle = ap (λ b. cond b (moments_in (moment_of act) event some ++ before) []) (stays_as act earlier (event ∷ []) unset ∙ idle)
 
 -- before an act has fired any event
-pub nothing_with : (settings : Settings) (act : Act) (earlier : Journal) (event : ℕ) → is_set act ≡ false → firings_with act earlier event [] (firings settings earlier event) ≡ firings settings earlier event
+pub nothing_with : (settings : Counting) (act : Act) (earlier : Journal) (event : ℕ) → is_set act ≡ false → firings_with act earlier event [] (firings settings earlier event) ≡ firings settings earlier event
 nothing_with settings act earlier event unset =
     elim (is_valid (event_state earlier (event ∷ []))) as (λ t. is_valid (event_state earlier (event ∷ [])) ≡ t → firings_with act earlier event [] (firings settings earlier event) ≡ firings settings earlier event) [
       | true ↦ λ valid. valid_with act earlier unset event [] (firings settings earlier event) valid

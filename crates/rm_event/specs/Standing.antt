@@ -1,7 +1,7 @@
 -- When what is kept of events is what a journal gives.
 use Rattle.std.specs.Prelude.{◌≡◌, ℕ, List, [], ◌∷◌, true, false, if◌then◌else◌, Option, Some, None}
 use Rattle.rm_val.specs.Val.{Val}
-use Rattle.rm_model.specs.Settings.{Settings}
+use Rattle.rm_model.specs.Counting.{Counting}
 use Rattle.rm_model.specs.Journal.{Act, Journal}
 use Rattle.rm_model.specs.ControlRows.{no_rows, is_valid, is_absent}
 use Rattle.rm_model.specs.declared.row.State.{State}
@@ -37,12 +37,12 @@ AreLogs logs journal moments =
     → IsLogOf (event_state journal (event ∷ [])) (type_of journal event) (moments event) (part_in logs event)
 
 -- The group stands for a journal: its rows are those after the journal, and its logs have the firings that the journal gives.
-pub record Stands (events : Events) (settings : Settings) (journal : Journal) : Type 0 where
+pub record Stands (events : Events) (settings : Counting) (journal : Journal) : Type 0 where
   pub rows : HasRows events journal
   pub logs : AreLogs events.logs journal (firings settings journal)
 
 -- The group is in an act, which is no Set, after a journal: these events were fired by it so far.
-pub record IsUnderWay (events : Events) (settings : Settings) (act : Act) (earlier : Journal) (some : List Firing) : Type 0 where
+pub record IsUnderWay (events : Events) (settings : Counting) (act : Act) (earlier : Journal) (some : List Firing) : Type 0 where
   pub rows : HasRows events earlier
   pub logs : AreLogs events.logs earlier (λ event. firings_with act earlier event some (firings settings earlier event))
 

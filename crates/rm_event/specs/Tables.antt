@@ -2,7 +2,7 @@
 use Rattle.std.specs.Prelude.{ℕ, pos, ◌+◌, ◌-◌, List, [], ◌∷◌, length, Bool, false, ◌&&◌, nat_eq, nat_le, nat_lt, slice_get, if◌then◌else◌}
 use Rattle.std.specs.Option.{option_map_or}
 use Rattle.rm_val.specs.Val.{Val, int, ticks, null}
-use Rattle.rm_model.specs.Settings.{Settings}
+use Rattle.rm_model.specs.Counting.{Counting}
 use Rattle.rm_model.specs.Journal.{Journal}
 use Rattle.rm_model.specs.Cells.{Table}
 use Rattle.rm_model.specs.ControlRows.{no_rows, is_valid}
@@ -15,11 +15,11 @@ use Rattle.rm_acts.specs.Fired.{firings}
 use Rattle.rm_event.specs.Firings.{last_sent, logged, tick_of, most_shown}
 
 -- what the column shows beside the index that can't be set: eventLastTimeSent
-abbrev pub event_other : Settings → Journal → ℕ → List ℕ → Val
+abbrev pub event_other : Counting → Journal → ℕ → List ℕ → Val
 event_other settings journal column index = ticks (last_sent (firings settings journal (row_number index)))
 
 -- eventTable after a journal
-abbrev pub events_table : Settings → Journal → Table
+abbrev pub events_table : Counting → Journal → Table
 events_table settings journal = control_cells event_table no_rows event_columns (with_index (event_other settings journal)) journal
 
 -- the identifier of logEntry
@@ -27,7 +27,7 @@ abbrev pub log_entry : List ℕ
 log_entry = 1 ∷ 3 ∷ 6 ∷ 1 ∷ 2 ∷ 1 ∷ 16 ∷ 9 ∷ 2 ∷ 1 ∷ []
 
 -- the moments of the entries of an event's log, the newest first
-abbrev pub log_of : Settings → Journal → ℕ → List ℕ
+abbrev pub log_of : Counting → Journal → ℕ → List ℕ
 log_of settings journal event = logged (type_of journal event) (firings settings journal event)
 
 -- whether a number is that of one of the last entries of a log with so many
@@ -39,13 +39,13 @@ abbrev pub time_at : List ℕ → ℕ → ℕ
 time_at moments number = option_map_or tick_of (slice_get moments (length moments - number)) 0
 
 -- whether these numbers are those of an event whose row is valid and of an entry of its log that is shown
-abbrev pub is_entry : Settings → Journal → List ℕ → Bool
+abbrev pub is_entry : Counting → Journal → List ℕ → Bool
 is_entry settings journal (event ∷ number ∷ []) =
     is_valid (event_state journal (event ∷ [])) && is_shown (length (log_of settings journal event)) number
 is_entry settings journal index = false
 
 -- what a column of an entry shows
-abbrev pub log_value : Settings → Journal → ℕ → ℕ → ℕ → Val
+abbrev pub log_value : Counting → Journal → ℕ → ℕ → ℕ → Val
 log_value settings journal event number column =
     if nat_eq column 1 then int (pos event)
     else if nat_eq column 2 then int (pos number)
@@ -53,12 +53,12 @@ log_value settings journal event number column =
     else event_set journal (event ∷ []) 2
 
 -- the same by the numbers of an index
-abbrev pub log_at : Settings → Journal → List ℕ → ℕ → Val
+abbrev pub log_at : Counting → Journal → List ℕ → ℕ → Val
 log_at settings journal (event ∷ number ∷ []) column = log_value settings journal event number column
 log_at settings journal index column = null
 
 -- logTable after a journal
-abbrev pub log_table : Settings → Journal → Table
+abbrev pub log_table : Counting → Journal → Table
 log_table settings journal = record {
   entry = log_entry;
   columns = log_columns;

@@ -1,6 +1,6 @@
 // What a Set makes of events.
 ghost use Rattle.std.specs.Prelude.{◌≡◌, ℕ, ◌<◌, ◌≤◌, List, ◌∷◌, length, OnOk, OnErr, IfErr, IfSome, IfNone};
-ghost use Rattle.rm_model.specs.Settings.{Settings};
+ghost use Rattle.rm_model.specs.Counting.{Counting};
 ghost use Rattle.rm_model.specs.Journal.{Assignments, Journal, assigns, value_given};
 ghost use Rattle.rm_model.specs.Reserves.{Reserves, count_valid_after};
 ghost use Rattle.rm_status.specs.Rows.{rows_before};
@@ -22,7 +22,7 @@ impl Events {
     pub(crate) fn make_room<A: Assigns>(&mut self, alloc: Global, set: &A) -> Result<(), Denied>
         requires fine { AreFine self.old (A.bindings set.now) }
         requires stocked { IsStocked self.old }
-        ensures stands { (settings : Settings) (journal : Journal) → Stands self.old settings journal → Stands self.new settings journal }
+        ensures stands { (settings : Counting) (journal : Journal) → Stands self.old settings journal → Stands self.new settings journal }
         ensures stocked { IsStocked self.new }
         ensures ready { OnOk result (IsPrepared self.new (A.bindings set.now)) }
         ensures released { OnErr result (IsReleased self.new) }
@@ -42,7 +42,7 @@ impl Events {
         requires fine { AreFine self.old (A.bindings set.now) }
         requires stocked { IsStocked self.old }
         ensures rows { self.new.rows ≡ self.old.rows }
-        ensures stands { (settings : Settings) (journal : Journal) → Stands self.old settings journal → Stands self.new settings journal }
+        ensures stands { (settings : Counting) (journal : Journal) → Stands self.old settings journal → Stands self.new settings journal }
         ensures more { length self.old.logs ≤ length self.new.logs }
         ensures room { IfNone result (HasRoom self.new (A.bindings set.now)) }
         ensures denied { IfSome result (λ denied. Reserves event_table (rows_before event_table set_to self.old.rows) (A.bindings set.now) denied.index) }
@@ -82,7 +82,7 @@ impl Events {
 
     /// Gives storage back, but for that of the valid rows, or of one row.
     pub(crate) fn give_back(&mut self)
-        ensures stands { (settings : Settings) (journal : Journal) → Stands self.old settings journal → Stands self.new settings journal }
+        ensures stands { (settings : Counting) (journal : Journal) → Stands self.old settings journal → Stands self.new settings journal }
         ensures stocked { IsStocked self.old → IsStocked self.new }
         ensures released { IsReleased self.new }
     {
@@ -94,7 +94,7 @@ impl Events {
     /// Does a Set for which all is ready. A row that becomes valid begins a new log.
     pub(crate) fn assign<A: Assigns>(&mut self, set: &A)
         requires ready { IsPrepared self.old (A.bindings set.now) }
-        ensures stands { (settings : Settings) (journal : Journal) (now : ℕ) (values : Assignments) → Stands self.old settings journal
+        ensures stands { (settings : Counting) (journal : Journal) (now : ℕ) (values : Assignments) → Stands self.old settings journal
             → ((name : List ℕ) → value_given values name ≡ value_given (A.bindings set.now) name)
             → Stands self.new settings (assigns now values ∷ journal) }
         ensures stocked { IsStocked self.old → IsStocked self.new }

@@ -2,7 +2,7 @@
 ghost use Rattle.std.specs.Prelude.{◌≡◌, ℕ, List, [], ◌∷◌, ◌++◌, ◌≤◌, length, true, false, OnOk, IfSome, IfNone, Option, Some, nat_eq};
 ghost use Rattle.std.specs.Option.{option_map};
 ghost use Rattle.rm_val.specs.Val.{octets};
-ghost use Rattle.rm_model.specs.Settings.{Settings};
+ghost use Rattle.rm_model.specs.Counting.{Counting};
 ghost use Rattle.rm_model.specs.Journal.{Act, Journal, moment_of};
 ghost use Rattle.rm_model.specs.ControlRows.{is_valid};
 ghost use Rattle.rm_status.specs.Rows.{state_in, columns_in};
@@ -30,7 +30,7 @@ use std::alloc::Global;
 impl Events {
     /// No events, and no storage.
     pub fn new() -> Events
-        ensures stands { (settings : Settings) → Stands result settings [] }
+        ensures stands { (settings : Counting) → Stands result settings [] }
         ensures released { IsReleased result }
     {
         Events {
@@ -42,7 +42,7 @@ impl Events {
     /// Takes the storage of one row. No variable changes. NoMemory where there is none for it.
     pub fn reserve(&mut self, alloc: Global) -> Result<(), NoMemory>
         ensures stocked { OnOk result (IsStocked self.new) }
-        ensures stands { (settings : Settings) (journal : Journal) → Stands self.old settings journal → Stands self.new settings journal }
+        ensures stands { (settings : Counting) (journal : Journal) → Stands self.old settings journal → Stands self.new settings journal }
         ensures released { IsReleased self.old → IsReleased self.new }
     {
         self.logs.reserve(alloc)
@@ -51,7 +51,7 @@ impl Events {
     /// Fires the event with that index at a moment, in milliseconds, and tells what became of it. Only an event with a valid row
     /// fires.
     pub fn fire(&mut self, index: u32, moment: u32) -> Fired
-        ensures under_way { (settings : Settings) (act : Act) (earlier : Journal) (some : List Firing) (by_channel : Option ℕ) → is_set act ≡ false
+        ensures under_way { (settings : Counting) (act : Act) (earlier : Journal) (some : List Firing) (by_channel : Option ℕ) → is_set act ≡ false
             → moment_of act ≡ moment
             → IsUnderWay self.old settings act earlier some
             → IsUnderWay self.new settings act earlier (some ++ record { event = index; channel = by_channel } ∷ []) }

@@ -1,6 +1,6 @@
 // Groups that take an act step by step.
 ghost use Rattle.std.specs.Prelude.{◌≡◌, ℕ, ℤ, ◌+◌, ◌≤◌, ◌<◌, List, [], ◌∷◌, ◌++◌, Option};
-ghost use Rattle.rm_model.specs.Settings.{Settings};
+ghost use Rattle.rm_model.specs.Counting.{Counting};
 ghost use Rattle.rm_model.specs.Journal.{Act, Frame, Journal, passes, samples, last_moment, moment_of};
 ghost use Rattle.rm_acts.specs.Fired.{act_fires, fired};
 ghost use Rattle.rm_acts.specs.declared.firing.Firing.{Firing as Fires};
@@ -19,14 +19,14 @@ use rm_acts::Firing;
 /// has ended where all were taken.
 pub trait Steps: Group {
     /// The group is in an act after a journal, of which it has taken these firings.
-    ghost under_way: { Self → Settings → Act → Journal → List Fires → Type 0 };
+    ghost under_way: { Self → Counting → Act → Journal → List Fires → Type 0 };
 
     /// A frame begins to pass, whose moment isn't below that of the last act. Fewer than `MOST_FRAMES` frames were given before.
     fn pass(&mut self, passing: &Passing<'_>)
         requires later { Self.Group.clock self.old ≤ passing.now.moment }
         requires room { Self.Group.frames self.old < MOST_FRAMES }
         requires length { passing.now.facts.length ≤ MOST_OCTETS }
-        ensures begins { (settings : Settings) (earlier : Journal) (frame : Frame)
+        ensures begins { (settings : Counting) (earlier : Journal) (frame : Frame)
             → IsOf settings frame passing.now.facts passing.now.octets.now passing.now.number passing.now.moment
             → Self.Group.stands self.old settings earlier → last_moment earlier ≤ passing.now.moment
             → under_way self.new settings (passes frame) earlier [] }
@@ -36,14 +36,14 @@ pub trait Steps: Group {
 
     /// Takes a firing of the act that is under way, at its moment in milliseconds.
     fn take(&mut self, firing: &Firing, moment: u32)
-        ensures under_way { (settings : Settings) (act : Act) (earlier : Journal) (some : List Fires) → moment_of act ≡ moment
+        ensures under_way { (settings : Counting) (act : Act) (earlier : Journal) (some : List Fires) → moment_of act ≡ moment
             → under_way self.old settings act earlier some → under_way self.new settings act earlier (some ++ firing.now ∷ []) }
         ensures clock { Self.Group.clock self.new ≡ Self.Group.clock self.old }
         ensures frames { Self.Group.frames self.new ≡ Self.Group.frames self.old }
         ensures stocked { Self.Group.stocked self.old → Self.Group.stocked self.new };
 
     /// An act has ended where all of its firings were taken.
-    ghost ends: { (s : Self) (settings : Settings) (act : Act) (earlier : Journal)
+    ghost ends: { (s : Self) (settings : Counting) (act : Act) (earlier : Journal)
         → under_way s settings act earlier (act_fires settings act earlier (fired settings earlier)) → Self.Group.stands s settings (act ∷ earlier) };
 }
 
@@ -51,7 +51,7 @@ pub trait Steps: Group {
 /// reads and crosses makes no difference to it; the firings that come of it may.
 pub trait Unsampled: Steps {
     /// The sample has begun.
-    ghost begins: { (s : Self) (settings : Settings) (earlier : Journal) (moment alarm : ℕ) (reading : Option ℤ)
+    ghost begins: { (s : Self) (settings : Counting) (earlier : Journal) (moment alarm : ℕ) (reading : Option ℤ)
         → Self.Group.stands s settings earlier → last_moment earlier ≤ moment
         → Self.Steps.under_way s settings (samples moment alarm reading) earlier [] };
 }
@@ -102,7 +102,7 @@ pub fn pass_whole<G: Steps>(group: &mut G, passing: &Passing<'_>, firings: &[Fir
     requires later { G.clock group.old ≤ passing.now.moment }
     requires room { G.frames group.old < MOST_FRAMES }
     requires length { passing.now.facts.length ≤ MOST_OCTETS }
-    ensures stands { (settings : Settings) (earlier : Journal) (frame : Frame)
+    ensures stands { (settings : Counting) (earlier : Journal) (frame : Frame)
         → IsOf settings frame passing.now.facts passing.now.octets.now passing.now.number passing.now.moment
         → G.stands group.old settings earlier → last_moment earlier ≤ passing.now.moment
         → firings.now ≡ act_fires settings (passes frame) earlier (fired settings earlier)
@@ -117,14 +117,14 @@ pub fn pass_whole<G: Steps>(group: &mut G, passing: &Passing<'_>, firings: &[Fir
 
 /// A law: the sample of an alarm begins at a moment, in milliseconds. It does nothing.
 pub fn sample_begins<G: Unsampled>(group: &G, moment: u32)
-    ensures { (settings : Settings) (earlier : Journal) (alarm : ℕ) (reading : Option ℤ)
+    ensures { (settings : Counting) (earlier : Journal) (alarm : ℕ) (reading : Option ℤ)
         → G.stands group.now settings earlier → last_moment earlier ≤ moment
         → G.under_way group.now settings (samples moment alarm reading) earlier [] }
 {}
 
 /// An act has begun at a moment, in milliseconds, and these are its firings.
 pub fn take_whole<G: Steps>(group: &mut G, firings: &[Firing], moment: u32)
-    ensures stands { (settings : Settings) (act : Act) (earlier : Journal) → moment_of act ≡ moment
+    ensures stands { (settings : Counting) (act : Act) (earlier : Journal) → moment_of act ≡ moment
         → G.under_way group.old settings act earlier [] → firings.now ≡ act_fires settings act earlier (fired settings earlier)
         → G.stands group.new settings (act ∷ earlier) }
     ensures clock { G.clock group.new ≡ G.clock group.old }
@@ -136,7 +136,7 @@ pub fn take_whole<G: Steps>(group: &mut G, firings: &[Firing], moment: u32)
 
 // Takes the firings of the act that is under way, one by one.
 fn take_all<G: Steps>(group: &mut G, firings: &[Firing], moment: u32)
-    ensures under_way { (settings : Settings) (act : Act) (earlier : Journal) (some : List Fires) → moment_of act ≡ moment
+    ensures under_way { (settings : Counting) (act : Act) (earlier : Journal) (some : List Fires) → moment_of act ≡ moment
         → G.under_way group.old settings act earlier some → G.under_way group.new settings act earlier (some ++ firings.now) }
     ensures clock { G.clock group.new ≡ G.clock group.old }
     ensures frames { G.frames group.new ≡ G.frames group.old }

@@ -1,7 +1,7 @@
 // A group beside another one, with which it is one group.
 ghost use Rattle.std.specs.Prelude.{◌≡◌, ℕ, ◌≤◌, List, ◌∷◌, length, Option, OnOk, OnErr, IfErr};
 ghost use Rattle.rm_val.specs.declared.error.ErrorStatus.{ErrorStatus as Fault};
-ghost use Rattle.rm_model.specs.Settings.{Settings};
+ghost use Rattle.rm_model.specs.Counting.{Counting};
 ghost use Rattle.rm_model.specs.Journal.{Assignments, Journal, assigns, last_moment, value_given};
 ghost use Rattle.rm_model.specs.Judgement.{Bindings, IsFirstFault};
 ghost use Rattle.rm_group.specs.Look.{Readings};
@@ -20,23 +20,23 @@ use std::alloc::Global;
 /// itself stands beside every other.
 pub trait Beside<G: Group>: Group {
     /// What the probe was set to is as the group needs it beside the first one.
-    ghost tied: { Settings → Type 0 };
+    ghost tied: { Counting → Type 0 };
 
     /// What is wrong with the binding at a place together with the others of its row, after a journal, at a moment in
     /// milliseconds and by what is read then.
-    ghost together_beside: { Settings → Journal → ℕ → Readings → Bindings → ℕ → Option Fault };
+    ghost together_beside: { Counting → Journal → ℕ → Readings → Bindings → ℕ → Option Fault };
 
     /// The group is ready to do a Set at a moment in milliseconds, beside the first one as it is before the Set.
     ghost ready: { Self → G → ℕ → Bindings → Type 0 };
 
     /// The group has begun the Set that is the last act of a journal: it is whole once it was completed.
-    ghost begun: { Self → Settings → Journal → Type 0 };
+    ghost begun: { Self → Counting → Journal → Type 0 };
 
     /// The second pass of a Set (`judge_rows`), beside the first group.
     fn judge_beside<A: Assigns, L: Look>(&self, first: &G, set: &A, now: u32, look: &L) -> Verdict
         requires alone { AreFineAlone Self.Group.alone (A.bindings set.now) }
         ensures accepted { result ≡ Verdict.Fine → Self.Group.accepts self.now now (L.readings look.now now) (A.bindings set.now) }
-        ensures verdict { let bindings = A.bindings set.now in (settings : Settings) (journal : Journal) → tied settings
+        ensures verdict { let bindings = A.bindings set.now in (settings : Counting) (journal : Journal) → tied settings
             → G.stands first.now settings journal → Self.Group.stands self.now settings journal → last_moment journal ≤ now
             → G.askable first.now now → Self.Group.askable self.now now
             → IsFirstFault (length bindings) (together_beside settings journal now (L.readings look.now now) bindings) result }
@@ -58,11 +58,11 @@ pub trait Beside<G: Group>: Group {
         ensures askable { (moment : ℕ) → Self.Group.askable self.old moment → Self.Group.askable self.new moment }
         ensures frames { Self.Group.frames self.new ≡ Self.Group.frames self.old }
         ensures stocked { Self.Group.stocked self.new }
-        ensures stands { (settings : Settings) (journal : Journal) → Self.Group.stands self.old settings journal
+        ensures stands { (settings : Counting) (journal : Journal) → Self.Group.stands self.old settings journal
             → Self.Group.stands self.new settings journal }
         ensures ready { OnOk result (ready self.new first.now now (A.bindings set.now)) }
         ensures released { OnErr result (Self.Group.released self.old → Self.Group.released self.new) }
-        ensures denied { IfErr result (λ denied. (settings : Settings) (journal : Journal) → Self.Group.stands self.old settings journal
+        ensures denied { IfErr result (λ denied. (settings : Counting) (journal : Journal) → Self.Group.stands self.old settings journal
             → Self.Group.reserves settings journal (A.bindings set.now) denied.index) }
         ensures within { IfErr result (λ denied. denied.index ≤ length (A.bindings set.now)) };
 
@@ -75,7 +75,7 @@ pub trait Beside<G: Group>: Group {
         ensures clock { Self.Group.clock self.new ≤ now }
         ensures frames { Self.Group.frames self.new ≡ Self.Group.frames self.old }
         ensures stocked { Self.Group.stocked self.new }
-        ensures begun { (settings : Settings) (journal : Journal) (values : Assignments) → tied settings
+        ensures begun { (settings : Counting) (journal : Journal) (values : Assignments) → tied settings
             → G.stands first.now settings journal → Self.Group.stands self.old settings journal → last_moment journal ≤ now
             → G.askable first.now now → Self.Group.askable self.old now
             → ((name : List ℕ) → value_given values name ≡ value_given (A.bindings set.now) name)
@@ -88,7 +88,7 @@ pub trait Beside<G: Group>: Group {
         ensures clock { Self.Group.clock self.new ≤ now }
         ensures frames { Self.Group.frames self.new ≡ Self.Group.frames self.old }
         ensures stocked { Self.Group.stocked self.old → Self.Group.stocked self.new }
-        ensures stands { (settings : Settings) (journal : Journal) → tied settings → G.stands first.now settings journal
+        ensures stands { (settings : Counting) (journal : Journal) → tied settings → G.stands first.now settings journal
             → last_moment journal ≡ now → begun self.old settings journal → Self.Group.stands self.new settings journal }
         ensures released { Self.Group.released self.old → Self.Group.released self.new };
 }

@@ -1,6 +1,6 @@
 // Groups that do a Set by themselves.
 ghost use Rattle.std.specs.Prelude.{◌≡◌, ℕ, ◌≤◌, List, ◌∷◌};
-ghost use Rattle.rm_model.specs.Settings.{Settings};
+ghost use Rattle.rm_model.specs.Counting.{Counting};
 ghost use Rattle.rm_model.specs.Journal.{Assignments, Journal, assigns, last_moment, value_given};
 
 use crate::assigns::Assigns;
@@ -17,7 +17,7 @@ pub trait Commits: Group {
         ensures clock { Self.Group.clock self.new ≤ now }
         ensures frames { Self.Group.frames self.new ≡ Self.Group.frames self.old }
         ensures stocked { Self.Group.stocked self.new }
-        ensures stands { (settings : Settings) (journal : Journal) (values : Assignments) → Self.Group.stands self.old settings journal
+        ensures stands { (settings : Counting) (journal : Journal) (values : Assignments) → Self.Group.stands self.old settings journal
             → last_moment journal ≤ now → Self.Group.askable self.old now
             → ((name : List ℕ) → value_given values name ≡ value_given (A.bindings set.now) name)
             → Self.Group.stands self.new settings (assigns now values ∷ journal) }

@@ -4,7 +4,7 @@ ghost use Rattle.std.specs.Option.{option_map};
 ghost use Rattle.rm_val.specs.Val.{Val, val_of};
 ghost use Rattle.rm_val.specs.declared.error.ErrorStatus.{ErrorStatus as Fault};
 ghost use Rattle.rm_val.specs.Spellable.{IsSpellable, HasSpelling};
-ghost use Rattle.rm_model.specs.Settings.{Settings};
+ghost use Rattle.rm_model.specs.Counting.{Counting};
 ghost use Rattle.rm_model.specs.Journal.{Journal, last_moment};
 ghost use Rattle.rm_model.specs.Cells.{Cells, IsNext};
 ghost use Rattle.rm_model.specs.Finite.{AreFinite};
@@ -25,7 +25,7 @@ use std::alloc::Global;
 /// group is given nothing else. A group commits it by itself (`Commits`), or beside another one (`Beside`).
 pub trait Group {
     /// What the group keeps is what a journal gives, by what the probe was set to.
-    ghost stands: { Self → Settings → Journal → Type 0 };
+    ghost stands: { Self → Counting → Journal → Type 0 };
 
     /// The least moment at which the group may be given a Set, in milliseconds.
     ghost clock: { Self → ℕ };
@@ -42,17 +42,17 @@ pub trait Group {
     ghost stocked: { Self → Type 0 };
 
     /// The group's cells after a journal, at a moment in milliseconds, by what the probe was set to.
-    ghost cells: { Settings → Journal → ℕ → Cells };
+    ghost cells: { Counting → Journal → ℕ → Cells };
 
     /// What is wrong with a binding alone.
     ghost alone: { List ℕ → Val → Option Fault };
 
     /// What is wrong with the binding at a place together with the others of its row, after a journal, at a moment in
     /// milliseconds and by what is read then.
-    ghost together: { Settings → Journal → ℕ → Readings → Bindings → ℕ → Option Fault };
+    ghost together: { Counting → Journal → ℕ → Readings → Bindings → ℕ → Option Fault };
 
     /// After a journal there may be no memory for the row that the binding with that number, from 1, makes valid.
-    ghost reserves: { Settings → Journal → Bindings → ℕ → Type 0 };
+    ghost reserves: { Counting → Journal → Bindings → ℕ → Type 0 };
 
     /// Both passes found nothing wrong with a Set at a moment in milliseconds, by what is read then.
     ghost accepts: { Self → ℕ → Readings → Bindings → Type 0 };
@@ -66,7 +66,7 @@ pub trait Group {
     /// The value of the variable with that name at a moment in milliseconds, which isn't below that of the last act, and at
     /// which the group may be asked. None where the group has no such variable.
     fn cell(&self, name: &Oid, now: u32) -> Option<Value<'_>>
-        ensures value { (settings : Settings) (journal : Journal) → stands self.now settings journal → last_moment journal ≤ now
+        ensures value { (settings : Counting) (journal : Journal) → stands self.now settings journal → last_moment journal ≤ now
             → askable self.now now → option_map val_of result ≡ cells settings journal now name.now }
         ensures spelling { IfSome result (λ value. HasSpelling (val_of value)) };
 
@@ -74,7 +74,7 @@ pub trait Group {
     /// milliseconds, which isn't below that of the last act, and at which the group may be asked. Its name is put into `out`.
     /// None where the group has no variable with a greater name; `out` is then as before.
     fn after(&self, name: &Oid, now: u32, out: &mut Oid) -> Option<Value<'_>>
-        ensures next { (settings : Settings) (journal : Journal) → stands self.now settings journal → last_moment journal ≤ now
+        ensures next { (settings : Counting) (journal : Journal) → stands self.now settings journal → last_moment journal ≤ now
             → askable self.now now → IsNext (cells settings journal now) name.now (option_map val_of result) out.new }
         ensures stays { IfNone result (out.new ≡ out.old) }
         ensures name_spelling { OnSome result (IsSpellable out.new) }
@@ -89,7 +89,7 @@ pub trait Group {
     fn judge_rows<A: Assigns, L: Look>(&self, set: &A, now: u32, look: &L) -> Verdict
         requires alone { AreFineAlone alone (A.bindings set.now) }
         ensures accepted { result ≡ Verdict.Fine → accepts self.now now (L.readings look.now now) (A.bindings set.now) }
-        ensures verdict { let bindings = A.bindings set.now in (settings : Settings) (journal : Journal) → stands self.now settings journal → last_moment journal ≤ now
+        ensures verdict { let bindings = A.bindings set.now in (settings : Counting) (journal : Journal) → stands self.now settings journal → last_moment journal ≤ now
             → askable self.now now → IsFirstFault (length bindings) (together settings journal now (L.readings look.now now) bindings) result }
         ensures within { IsWithin (length (A.bindings set.now)) result };
 
@@ -110,10 +110,10 @@ pub trait Group {
         ensures askable { (moment : ℕ) → askable self.old moment → askable self.new moment }
         ensures frames { frames self.new ≡ frames self.old }
         ensures stocked { stocked self.new }
-        ensures stands { (settings : Settings) (journal : Journal) → stands self.old settings journal → stands self.new settings journal }
+        ensures stands { (settings : Counting) (journal : Journal) → stands self.old settings journal → stands self.new settings journal }
         ensures ready { OnOk result (prepared self.new now (A.bindings set.now)) }
         ensures released { OnErr result (released self.old → released self.new) }
-        ensures denied { IfErr result (λ denied. (settings : Settings) (journal : Journal) → stands self.old settings journal
+        ensures denied { IfErr result (λ denied. (settings : Counting) (journal : Journal) → stands self.old settings journal
             → reserves settings journal (A.bindings set.now) denied.index) }
         ensures within { IfErr result (λ denied. denied.index ≤ length (A.bindings set.now)) };
 
@@ -123,9 +123,9 @@ pub trait Group {
         ensures askable { (moment : ℕ) → askable self.old moment → askable self.new moment }
         ensures frames { frames self.new ≡ frames self.old }
         ensures stocked { stocked self.old → stocked self.new }
-        ensures stands { (settings : Settings) (journal : Journal) → stands self.old settings journal → stands self.new settings journal }
+        ensures stands { (settings : Counting) (journal : Journal) → stands self.old settings journal → stands self.new settings journal }
         ensures released { released self.new };
 
     /// The cells are finitely many, after every journal and at every moment.
-    ghost finite: { (settings : Settings) (journal : Journal) (now : ℕ) → AreFinite (cells settings journal now) };
+    ghost finite: { (settings : Counting) (journal : Journal) (now : ℕ) → AreFinite (cells settings journal now) };
 }

@@ -3,7 +3,7 @@ ghost use Rattle.std.specs.Prelude.{◌≡◌, ℕ, List, Bool};
 ghost use Rattle.std.specs.List.{list_any};
 ghost use Rattle.rm_model.specs.Cells.{is_of_column};
 ghost use Rattle.rm_model.specs.Journal.{Journal};
-ghost use Rattle.rm_model.specs.Settings.{Settings};
+ghost use Rattle.rm_model.specs.Counting.{Counting};
 ghost use Rattle.rm_group.specs.Listed.{ListedTable, tables_of, is_listed, AreOfObjects, AreRefused};
 
 use crate::group::Group;
@@ -24,7 +24,7 @@ pub trait Objects: Group {
         ensures { result ≡ objects name.now };
 
     /// Each cell that the group shows has a name that begins with one of its objects.
-    ghost listed: { (settings : Settings) (journal : Journal) (now : ℕ) → AreOfObjects objects (Self.Group.cells settings journal now) };
+    ghost listed: { (settings : Counting) (journal : Journal) (now : ℕ) → AreOfObjects objects (Self.Group.cells settings journal now) };
 
     /// An object of the group that can't be set is notWritable (RFC 1905, section 4.2.5).
     ghost refused: { AreRefused objects settable Self.Group.alone };
@@ -53,7 +53,7 @@ pub trait Tables: Group {
         ensures { tables_of result.now ≡ tables };
 
     /// Each cell that the group shows has a name that begins with a column of one of them.
-    ghost shows_listed: { (settings : Settings) (journal : Journal) (now : ℕ) → AreOfObjects (is_listed tables) (Self.Group.cells settings journal now) };
+    ghost shows_listed: { (settings : Counting) (journal : Journal) (now : ℕ) → AreOfObjects (is_listed tables) (Self.Group.cells settings journal now) };
 
     /// A column of one of them that can't be set is notWritable (RFC 1905, section 4.2.5).
     ghost refuses_listed: { AreRefused (is_listed tables) can_be_set Self.Group.alone };

@@ -2,7 +2,7 @@
 ghost use Rattle.std.specs.Prelude.{◌≡◌, ℕ, ◌≤◌, List, Option, false, refl};
 ghost use Rattle.std.specs.Option.{option_map, option_or};
 ghost use Rattle.rm_val.specs.Val.{val_of};
-ghost use Rattle.rm_model.specs.Settings.{Settings};
+ghost use Rattle.rm_model.specs.Counting.{Counting};
 ghost use Rattle.rm_model.specs.Journal.{Journal, last_moment};
 ghost use Rattle.rm_model.specs.Cells.{Cells, cells_of};
 ghost use Rattle.rm_acts.specs.Recurring.{ReadBefore};
@@ -22,7 +22,7 @@ use rm_val::{Oid, Value};
 pub trait Readable: Group {
     /// Those of the group's cells that alarms may sample, after a journal and at a moment in milliseconds, by what the probe was set
     /// to.
-    ghost sampleable: { Settings → Journal → ℕ → Cells };
+    ghost sampleable: { Counting → Journal → ℕ → Cells };
 
     /// The same at a moment in milliseconds, by what the group keeps.
     ghost shown: { Self → ℕ → Cells };
@@ -35,7 +35,7 @@ pub trait Readable: Group {
     /// A law: what it shows at a moment, in milliseconds, at which it may be asked, is its cells after each journal that it
     /// stands for, whose last act isn't later. It does nothing.
     fn shows(&self, now: u32)
-        ensures { (settings : Settings) (journal : Journal) → Self.Group.stands self.now settings journal → last_moment journal ≤ now
+        ensures { (settings : Counting) (journal : Journal) → Self.Group.stands self.now settings journal → last_moment journal ≤ now
             → Self.Group.askable self.now now → (name : List ℕ) → shown self.now now name ≡ sampleable settings journal now name };
 
     /// They depend on what alarms read after earlier acts only.

@@ -4,7 +4,7 @@ use Rattle.std.specs.Prelude.{pos, is_some, unwrap_or}
 use Rattle.std.specs.Option.{option_and_then}
 use Rattle.std.proofs.lemmas.Bool.{and_from, and_left}
 use Rattle.rm_val.specs.Val.{Val, int, name}
-use Rattle.rm_model.specs.Settings.{Settings}
+use Rattle.rm_model.specs.Counting.{Counting}
 use Rattle.rm_model.specs.Journal.{Assignments, Journal, assigns, frames_in, last_moment, value_given}
 use Rattle.rm_model.specs.Interfaces.{interface_name, frames_of}
 use Rattle.rm_model.specs.ControlTable.{default_of}
@@ -54,7 +54,7 @@ module _ (rows : List (Row ControlColumns)) (journal : Journal) (is : AreRowsAft
   interval_is : int (pos row.columns.interval) ≡ control_set journal (i ∷ []) 5
   interval_is = ap (λ o. unwrap_or (option_and_then (λ c. set_to c 5) (columns_seen o)) (default_of history_control 5)) (sym here) ∙ (is.alike.columns i shown_at).1.1.0.shown
 
-module _ (settings : Settings) (journal : Journal) (now : ℕ) (bs : Bindings) (values : Assignments)
+module _ (settings : Counting) (journal : Journal) (now : ℕ) (bs : Bindings) (values : Assignments)
     (later : last_moment journal ≤ now)
     (gives : (name : List ℕ) → value_given values name ≡ value_given bs name)
     (fine : AllFine history_control bs)

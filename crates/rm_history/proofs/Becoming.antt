@@ -4,7 +4,7 @@ use Rattle.std.specs.Prelude.{is_some}
 use Rattle.std.proofs.Math.Nat.{mul-div-le, le-div_iff_mul-le, mul_comm}
 use Rattle.rm_proto.specs.declared.known.Facts.{Facts}
 use Rattle.rm_group.specs.declared.bounds.TheConstants.{MOST_FRAMES}
-use Rattle.rm_model.specs.Settings.{Settings}
+use Rattle.rm_model.specs.Counting.{Counting}
 use Rattle.rm_model.specs.Journal.{Frame, Journal, passes}
 use Rattle.rm_model.specs.FrameFacts.{frame_facts}
 use Rattle.rm_history.specs.declared.plan.Plan.{Plan}
@@ -71,7 +71,7 @@ still_held facts moment (Some run) None b = absurd b
 still_held facts moment (Some run) (Some new) b = refl
 
 -- The histories after one more frame.
-module _ (settings : Settings) (journal : Journal) (frame : Frame) (facts : Facts) (last frames : ℕ) (known : facts ≡ frame_facts settings frame) (later : last ≤ frame.moment) (row : ℕ) where
+module _ (settings : Counting) (journal : Journal) (frame : Frame) (facts : Facts) (last frames : ℕ) (known : facts ≡ frame_facts settings frame) (later : last ≤ frame.moment) (row : ℕ) where
   abbrev counts_it : Run → Run → Type 0
   counts_it = Counts facts frame.moment
 
@@ -85,7 +85,7 @@ module _ (settings : Settings) (journal : Journal) (frame : Frame) (facts : Fact
       one_frame run new settings journal row is frame here counts.plan counts.source counts.closed counts.buckets (new.room ∙ sym run.room)
       (subst (λ n. run.closed ≤ n) (sym counts.closed) (closed_by run.plan run.closed frame.moment run.some here))
 
-pub histories_count : (settings : Settings) (journal : Journal) (frame : Frame) (facts : Facts) (last frames : ℕ) → facts ≡ frame_facts settings frame → last ≤ frame.moment → (runs new : List (Slot Run))
+pub histories_count : (settings : Counting) (journal : Journal) (frame : Frame) (facts : Facts) (last frames : ℕ) → facts ≡ frame_facts settings frame → last ≤ frame.moment → (runs new : List (Slot Run))
     → ((row : ℕ) → Became (Counts facts frame.moment) (part_in runs row) (part_in new row)) → AllFit last frames runs → AreHistories runs settings journal → AreHistories new settings (passes frame ∷ journal)
 histories_count settings journal frame facts last frames known later runs new became fits are row =
     history_counts settings journal frame facts last frames known later row (part_in runs row) (part_in new row) (became row) (fits row) (are row)

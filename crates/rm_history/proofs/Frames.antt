@@ -3,7 +3,7 @@ use Rattle.std.proofs.Common.{◌≡◌, ℕ, ◌+◌, ◌-◌, ◌*◌, ◌/◌
 use Rattle.std.proofs.lemmas.Bool.Decides.{nat_tests}
 use Rattle.std.proofs.Math.Nat.{mul-div-le, lt-mul-div-succ, le-div_iff_mul-le, div-lt_iff_lt-mul, mul_comm}
 use Rattle.rm_val.specs.Val.{Val, name}
-use Rattle.rm_model.specs.Settings.{Settings}
+use Rattle.rm_model.specs.Counting.{Counting}
 use Rattle.rm_model.specs.Journal.{Frame, Journal, passes, frames_in}
 use Rattle.rm_model.specs.Interfaces.{interface_name, is_interface}
 use Rattle.rm_model.specs.FrameFacts.{frame_facts}
@@ -83,7 +83,7 @@ module _ (plan : Plan) (moment bucket : ℕ) (one : 1 ≤ bucket) (begun : plan.
         | false ↦ λ e. not_under_way (eq_isnt bucket (complete_at plan moment + 1) e)
       ] refl
 
-module _ (settings : Settings) (plan : Plan) (frames : List Frame) (frame : Frame) (bucket : ℕ) (each : Counter) (one : 1 ≤ bucket) (begun : plan.start ≤ frame.moment) (some : 1 ≤ plan.seconds) where
+module _ (settings : Counting) (plan : Plan) (frames : List Frame) (frame : Frame) (bucket : ℕ) (each : Counter) (one : 1 ≤ bucket) (begun : plan.start ≤ frame.moment) (some : 1 ≤ plan.seconds) where
   abbrev adds : ℕ
   adds = counted each (frame_facts settings frame)
 
@@ -100,7 +100,7 @@ module _ (settings : Settings) (plan : Plan) (frames : List Frame) (frame : Fram
       nothing true n = omega arith
       nothing false n = omega arith
 
-module _ (run new : Run) (settings : Settings) (journal : Journal) (row : ℕ) (is : IsRun run settings journal row) (frame : Frame) (reached : end_of run.plan run.closed ≤ frame.moment) where
+module _ (run new : Run) (settings : Counting) (journal : Journal) (row : ℕ) (is : IsRun run settings journal row) (frame : Frame) (reached : end_of run.plan run.closed ≤ frame.moment) where
   abbrev index : List ℕ
   index = row ∷ []
 

@@ -5,7 +5,7 @@ use Rattle.std.specs.Option.{option_or, option_and_then, option_map_or}
 use Rattle.std.proofs.lemmas.Bool.Decides.{nat_tests}
 use Rattle.std.proofs.Math.Nat.{le-div_iff_mul-le, mul_comm}
 use Rattle.rm_val.specs.Val.{Val, int, counter, ticks}
-use Rattle.rm_model.specs.Settings.{Settings}
+use Rattle.rm_model.specs.Counting.{Counting}
 use Rattle.rm_model.specs.Journal.{Journal, last_moment}
 use Rattle.rm_model.specs.Alike.{HasSameColumns}
 use Rattle.rm_model.specs.Cells.{cells_of, cell_at, instance_of, IsNext}
@@ -57,7 +57,7 @@ module _ (rows : List (Row ControlColumns)) (held : AreControlRows history_contr
   same_control = same_control_cells history_control no_rows set_to rows held journal is control_columns (with_index (kept_other rows)) (with_index (control_other journal)) (λ i row here. row_there history_control rows i row held here) same_other
 
 -- What a history shows, where it is that of a row after the journal.
-module _ (settings : Settings) (journal : Journal) (now : ℕ) (later : last_moment journal ≤ now) (row : ℕ) (run : Run) (is : IsRun run settings journal row) where
+module _ (settings : Counting) (journal : Journal) (now : ℕ) (later : last_moment journal ≤ now) (row : ℕ) (run : Run) (is : IsRun run settings journal row) where
   -- no bucket is closed that isn't complete
   closed_complete : run.closed ≤ complete_at run.plan now
   closed_complete = (le-div_iff_mul-le {x = run.closed} {y = now - run.plan.start} wide).1 (subst (λ n. n ≤ now - run.plan.start) (mul_comm (length_of run.plan) run.closed) ended)
@@ -97,7 +97,7 @@ module _ (settings : Settings) (journal : Journal) (now : ℕ) (later : last_mom
         (cond (nat_eq column 15) (int (pos (utilization (counts Pkts d) (counts Octets d) (is.plan d).seconds))) (counter (counts (counter_in column) d % 2 ^ 32)))))
 
 -- etherHistory
-module _ (runs : List (Slot Run)) (settings : Settings) (journal : Journal) (histories : AreHistories runs settings journal) (now : ℕ) (later : last_moment journal ≤ now) where
+module _ (runs : List (Slot Run)) (settings : Counting) (journal : Journal) (histories : AreHistories runs settings journal) (now : ℕ) (later : last_moment journal ≤ now) where
   abbrev shown_in : ℕ → ℕ → ℕ → Option Run → Option Val
   shown_in row bucket column o = cond (option_map_or (λ run. is_shown run.plan now bucket) o false) (Some (bucket_in row o bucket column)) None
 
@@ -134,7 +134,7 @@ module _ (runs : List (Slot Run)) (settings : Settings) (journal : Journal) (his
   same_samples name = sample_cell_at (instance_of sample_entry sample_columns name)
 
 -- both
-module _ (rows : List (Row ControlColumns)) (held : AreControlRows history_control rows) (runs : List (Slot Run)) (settings : Settings) (journal : Journal)
+module _ (rows : List (Row ControlColumns)) (held : AreControlRows history_control rows) (runs : List (Slot Run)) (settings : Counting) (journal : Journal)
     (is : AreRowsAfter history_control no_rows set_to rows journal) (histories : AreHistories runs settings journal) (now : ℕ) (later : last_moment journal ≤ now) where
   pub same_cells : (name : List ℕ) → cells_shown rows runs now name ≡ option_or (cells_of (control_table journal) name) (cells_of (sample_table settings journal now) name)
   same_cells name = λ d. option_or (same_control rows held journal is name d) (same_samples runs settings journal histories now later name d)

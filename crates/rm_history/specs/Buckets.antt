@@ -2,7 +2,7 @@
 -- each other from the moment on at which the history began. Moments and lengths are in milliseconds.
 use Rattle.std.specs.Prelude.{ℕ, ◌+◌, ◌-◌, ◌*◌, ◌/◌, min, List, Bool, ◌&&◌, nat_le, nat_lt, filter}
 use Rattle.std.specs.List.{sum_by}
-use Rattle.rm_model.specs.Settings.{Settings}
+use Rattle.rm_model.specs.Counting.{Counting}
 use Rattle.rm_model.specs.Journal.{Frame}
 use Rattle.rm_model.specs.FrameFacts.{frame_facts}
 use Rattle.rm_ether.specs.declared.counter.Counter.{Counter}
@@ -25,7 +25,7 @@ abbrev pub falls_in : Plan → ℕ → Frame → Bool
 falls_in plan bucket frame = nat_le (begin_of plan bucket) frame.moment && nat_lt frame.moment (end_of plan bucket)
 
 -- a counter of a bucket: the sum of what each of its frames adds to it
-abbrev pub bucket_sum : Settings → Plan → List Frame → ℕ → Counter → ℕ
+abbrev pub bucket_sum : Counting → Plan → List Frame → ℕ → Counter → ℕ
 bucket_sum settings plan frames bucket each =
     sum_by (λ frame. counted each (frame_facts settings frame)) (filter (falls_in plan bucket) frames)
 

@@ -1,7 +1,7 @@
 -- The table etherHistory (RFC 1757, section 5): the last complete buckets of each row of historyControl.
 use Rattle.std.specs.Prelude.{ℕ, pos, ◌/◌, ◌%◌, ◌^◌, List, [], ◌∷◌, Bool, false, ◌&&◌, nat_eq, if◌then◌else◌}
 use Rattle.rm_val.specs.Val.{Val, int, counter, ticks}
-use Rattle.rm_model.specs.Settings.{Settings}
+use Rattle.rm_model.specs.Counting.{Counting}
 use Rattle.rm_model.specs.Journal.{Journal}
 use Rattle.rm_model.specs.Cells.{Table}
 use Rattle.rm_model.specs.ControlRows.{is_valid}
@@ -22,13 +22,13 @@ is_sample journal now (row ∷ bucket ∷ []) =
 is_sample journal now index = false
 
 -- a counter of a bucket of a control row
-abbrev pub sample_sum : Settings → Journal → ℕ → ℕ → Counter → ℕ
+abbrev pub sample_sum : Counting → Journal → ℕ → ℕ → Counter → ℕ
 sample_sum settings journal row bucket each =
     bucket_sum settings (plan_of journal (row ∷ [])) (counted_frames journal (row ∷ [])) bucket each
 
 -- What a column of a bucket of a control row shows. It began at a moment in hundredths of a second, and a Counter32 is shown
 -- modulo 2 ^ 32; the utilization is that of the exact sums.
-abbrev pub sample_value : Settings → Journal → ℕ → ℕ → ℕ → Val
+abbrev pub sample_value : Counting → Journal → ℕ → ℕ → ℕ → Val
 sample_value settings journal row bucket column =
     if nat_eq column 1 then int (pos row)
     else if nat_eq column 2 then int (pos bucket)
@@ -37,12 +37,12 @@ sample_value settings journal row bucket column =
     else counter (sample_sum settings journal row bucket (counter_in column) % 2 ^ 32)
 
 -- the same by the numbers of an index
-abbrev pub sample_at : Settings → Journal → List ℕ → ℕ → Val
+abbrev pub sample_at : Counting → Journal → List ℕ → ℕ → Val
 sample_at settings journal (row ∷ bucket ∷ []) column = sample_value settings journal row bucket column
 sample_at settings journal index column = int (pos 0)
 
 -- the table after a journal, at a moment
-abbrev pub sample_table : Settings → Journal → ℕ → Table
+abbrev pub sample_table : Counting → Journal → ℕ → Table
 sample_table settings journal now = record {
   entry = sample_entry;
   columns = sample_columns;

@@ -2,7 +2,7 @@
 use Rattle.std.proofs.Common.{◌≡◌, ℕ, ◌+◌, ◌≤◌, List, [], ◌∷◌, Contains, Bool, true, ◌&&◌, nat_le, nat_lt, arith}
 use Rattle.std.specs.Option.{option_or}
 use Rattle.std.proofs.lemmas.Bool.Decides.{nat_tests}
-use Rattle.rm_model.specs.Settings.{Settings}
+use Rattle.rm_model.specs.Counting.{Counting}
 use Rattle.rm_model.specs.Journal.{Journal}
 use Rattle.rm_model.specs.Cells.{cells_of}
 use Rattle.rm_model.specs.Finite.{AreFinite}
@@ -39,10 +39,10 @@ module _ (journal : Journal) (now : ℕ) where
 pub control_finite : (journal : Journal) → AreFinite (cells_of (control_table journal))
 control_finite journal = table_finite (control_table journal) (rows_of history_control journal) (in_rows history_control journal)
 
-pub samples_finite : (settings : Settings) (journal : Journal) (now : ℕ) → AreFinite (cells_of (sample_table settings journal now))
+pub samples_finite : (settings : Counting) (journal : Journal) (now : ℕ) → AreFinite (cells_of (sample_table settings journal now))
 samples_finite settings journal now = table_finite (sample_table settings journal now) (buckets_of journal now) (in_buckets journal now)
 
 -- the cells of both are finitely many
-pub history_finite : (settings : Settings) (journal : Journal) (now : ℕ) → AreFinite (λ name. option_or (cells_of (control_table journal) name) (cells_of (sample_table settings journal now) name))
+pub history_finite : (settings : Counting) (journal : Journal) (now : ℕ) → AreFinite (λ name. option_or (cells_of (control_table journal) name) (cells_of (sample_table settings journal now) name))
 history_finite settings journal now =
     both_finite (cells_of (control_table journal)) (cells_of (sample_table settings journal now)) (control_finite journal) (samples_finite settings journal now)

@@ -2,7 +2,7 @@
 use Rattle.std.specs.Prelude.{ℕ, ◌≤◌, max, List, [], ◌∷◌, length, Option}
 use Rattle.rm_val.specs.Val.{Val}
 use Rattle.rm_val.specs.declared.error.ErrorStatus.{ErrorStatus}
-use Rattle.rm_model.specs.Settings.{Settings}
+use Rattle.rm_model.specs.Counting.{Counting}
 use Rattle.rm_model.specs.Journal.{Journal}
 use Rattle.rm_model.specs.ControlRows.{no_rows}
 use Rattle.rm_model.specs.Judgement.{Bindings, second_pass, IsFirstFault}
@@ -29,7 +29,7 @@ last_given history = history.last
 
 -- The group stands for a journal: its rows are those after the journal, and the histories that it keeps are those of the
 -- valid ones.
-pub record Stands (history : History) (settings : Settings) (journal : Journal) : Type 0 where
+pub record Stands (history : History) (settings : Counting) (journal : Journal) : Type 0 where
   pub rows : AreRowsAfter history_control no_rows set_to history.rows journal
   pub histories : AreHistories history.runs settings journal
 

@@ -1,7 +1,7 @@
 -- What is kept of the buckets of a history.
 use Rattle.std.specs.Prelude.{◌≡◌, ℕ, ◌+◌, ◌-◌, ◌<◌, ◌≤◌, List, nat_le, nat_eq, slice_get, if◌then◌else◌}
 use Rattle.std.specs.Option.{option_map_or}
-use Rattle.rm_model.specs.Settings.{Settings}
+use Rattle.rm_model.specs.Counting.{Counting}
 use Rattle.rm_model.specs.Journal.{Frame}
 use Rattle.rm_ether.specs.declared.counter.Counter.{Counter}
 use Rattle.rm_ether.specs.declared.statistics.Statistics.{Statistics}
@@ -22,7 +22,7 @@ abbrev pub kept_counter : Run → ℕ → Counter → ℕ
 kept_counter run bucket each = counter_in run.closed run.ring.items run.current bucket each
 
 -- what is kept of each bucket that isn't given up is what these frames give
-abbrev pub Keeps : Run → Settings → List Frame → Type 0
+abbrev pub Keeps : Run → Counting → List Frame → Type 0
 Keeps run settings frames =
     (bucket : ℕ) (each : Counter) → 1 ≤ bucket → run.closed < bucket + run.ring.capacity
     → kept_counter run bucket each ≡ bucket_sum settings run.plan frames bucket each

@@ -2,7 +2,7 @@
 use Rattle.std.proofs.Common.{◌≡◌, ℕ, ◌≤◌, List, [], ◌∷◌, refl, sym, ◌∙◌, ap, subst, Bool, true, false, cond, ◌&&◌, Option, Some, None}
 use Rattle.std.specs.Prelude.{ℤ}
 use Rattle.std.proofs.Math.Nat.{le_trans}
-use Rattle.rm_model.specs.Settings.{Settings}
+use Rattle.rm_model.specs.Counting.{Counting}
 use Rattle.rm_model.specs.Journal.{Frame, Journal, samples, moment_of, last_moment}
 use Rattle.rm_model.specs.Interfaces.{frames_of}
 use Rattle.rm_model.specs.ControlRows.{no_rows, is_valid, activated}
@@ -27,7 +27,7 @@ never_activated (act ∷ earlier) index idle =
     by_test true = refl
     by_test false = refl
 
-module _ (settings : Settings) (journal : Journal) (moment alarm : ℕ) (reading : Option ℤ) where
+module _ (settings : Counting) (journal : Journal) (moment alarm : ℕ) (reading : Option ℤ) where
   abbrev after : Journal
   after = samples moment alarm reading ∷ journal
 

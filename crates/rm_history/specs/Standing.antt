@@ -1,7 +1,7 @@
 -- When what is kept of a history is what a journal gives.
 use Rattle.std.specs.Prelude.{◌≡◌, ℕ, ◌≤◌, List, [], ◌∷◌, false, Option, Some, None}
 use Rattle.rm_val.specs.Val.{name}
-use Rattle.rm_model.specs.Settings.{Settings}
+use Rattle.rm_model.specs.Counting.{Counting}
 use Rattle.rm_model.specs.Journal.{Journal, last_moment}
 use Rattle.rm_model.specs.Interfaces.{interface_name}
 use Rattle.rm_model.specs.ControlRows.{is_valid}
@@ -15,7 +15,7 @@ use Rattle.rm_pool.specs.Slots.{part_in}
 
 -- A history is that of a row after a journal: the row is valid, its buckets have what the frames give that it counts, and none
 -- is closed that ends later than the last act.
-pub record IsRun (run : Run) (settings : Settings) (journal : Journal) (row : ℕ) : Type 0 where
+pub record IsRun (run : Run) (settings : Counting) (journal : Journal) (row : ℕ) : Type 0 where
   pub valid : control_state journal (row ∷ []) ≡ Valid
   pub plan : run.plan ≡ plan_of journal (row ∷ [])
   pub source : name (interface_name run.source) ≡ control_set journal (row ∷ []) 2
@@ -23,10 +23,10 @@ pub record IsRun (run : Run) (settings : Settings) (journal : Journal) (row : �
   pub reached : end_of run.plan run.closed ≤ last_moment journal
 
 -- what is kept of a row that there may be a history of: only one that isn't valid has none
-abbrev pub IsHistory : Settings → Journal → ℕ → Option Run → Type 0
+abbrev pub IsHistory : Counting → Journal → ℕ → Option Run → Type 0
 IsHistory settings journal row (Some run) = IsRun run settings journal row
 IsHistory settings journal row None = is_valid (control_state journal (row ∷ [])) ≡ false
 
 -- the histories that are kept are those of the valid rows
-abbrev pub AreHistories : List (Slot Run) → Settings → Journal → Type 0
+abbrev pub AreHistories : List (Slot Run) → Counting → Journal → Type 0
 AreHistories runs settings journal = (row : ℕ) → IsHistory settings journal row (part_in runs row)

@@ -1,6 +1,6 @@
 // What a Set makes of rows and histories.
 ghost use Rattle.std.specs.Prelude.{◌≡◌, ℕ, ◌≤◌, List, ◌∷◌};
-ghost use Rattle.rm_model.specs.Settings.{Settings};
+ghost use Rattle.rm_model.specs.Counting.{Counting};
 ghost use Rattle.rm_model.specs.Journal.{Assignments, Journal, assigns, last_moment, value_given};
 ghost use Rattle.rm_history.specs.Group.{Stands, IsPrepared, IsReleased, IsStocked, frames_given, last_given};
 
@@ -20,7 +20,7 @@ impl History {
         ensures last { last_given self.new ≡ now }
         ensures frames { frames_given self.new ≡ frames_given self.old }
         ensures stocked { IsStocked self.new }
-        ensures stands { (settings : Settings) (journal : Journal) (values : Assignments) → Stands self.old settings journal
+        ensures stands { (settings : Counting) (journal : Journal) (values : Assignments) → Stands self.old settings journal
             → last_moment journal ≤ now
             → ((name : List ℕ) → value_given values name ≡ value_given (A.bindings set.now) name)
             → Stands self.new settings (assigns now values ∷ journal) }

@@ -33,14 +33,14 @@ pub struct History {
 }
 
 impl History {
-    ghost use Rattle.rm_model.specs.Settings.{Settings};
+    ghost use Rattle.rm_model.specs.Counting.{Counting};
     ghost use Rattle.rm_model.specs.Journal.{Journal, Frame, passes};
     ghost use Rattle.rm_model.specs.FrameFacts.{frame_facts};
     ghost use Rattle.rm_history.specs.Group.{Stands, IsStocked, frames_given, last_given};
 
     /// The history before the first frame. It has no row, and no storage.
     pub fn new() -> History
-        ensures stands { (settings : Settings) → Stands result settings [] }
+        ensures stands { (settings : Counting) → Stands result settings [] }
         ensures frames { frames_given result ≡ 0 }
         ensures last { last_given result ≡ 0 }
     {
@@ -54,7 +54,7 @@ impl History {
 
     /// Takes the storage of one row, which a group needs before the first Set. No variable changes.
     pub fn reserve(&mut self, alloc: Global) -> Result<(), NoMemory>
-        ensures stands { (settings : Settings) (journal : Journal) → Stands self.old settings journal → Stands self.new settings journal }
+        ensures stands { (settings : Counting) (journal : Journal) → Stands self.old settings journal → Stands self.new settings journal }
         ensures stocked { OnOk result (IsStocked self.new) }
         ensures frames { frames_given self.new ≡ frames_given self.old }
         ensures last { last_given self.new ≡ last_given self.old }
@@ -68,7 +68,7 @@ impl History {
         requires later { last_given self.old ≤ moment }
         requires room { frames_given self.old < MOST_FRAMES }
         requires length { facts.now.length ≤ MOST_OCTETS }
-        ensures stands { (settings : Settings) (journal : Journal) (frame : Frame) → Stands self.old settings journal
+        ensures stands { (settings : Counting) (journal : Journal) (frame : Frame) → Stands self.old settings journal
             → facts.now ≡ frame_facts settings frame
             → frame.moment ≡ moment → Stands self.new settings (passes frame ∷ journal) }
         ensures frames { frames_given self.new ≡ frames_given self.old + 1 }

@@ -1,6 +1,6 @@
 // The storage that a Set needs.
 ghost use Rattle.std.specs.Prelude.{◌≡◌, ◌≤◌, length, OnOk, OnErr, IfErr};
-ghost use Rattle.rm_model.specs.Settings.{Settings};
+ghost use Rattle.rm_model.specs.Counting.{Counting};
 ghost use Rattle.rm_model.specs.Journal.{Journal};
 ghost use Rattle.rm_model.specs.ControlRows.{no_rows};
 ghost use Rattle.rm_model.specs.Judgement.{rows_after};
@@ -26,10 +26,10 @@ impl History {
         ensures last { last_given self.new ≡ last_given self.old }
         ensures frames { frames_given self.new ≡ frames_given self.old }
         ensures stocked { IsStocked self.new }
-        ensures stands { (settings : Settings) (journal : Journal) → Stands self.old settings journal → Stands self.new settings journal }
+        ensures stands { (settings : Counting) (journal : Journal) → Stands self.old settings journal → Stands self.new settings journal }
         ensures ready { OnOk result (IsPrepared self.new (A.bindings set.now)) }
         ensures released { OnErr result (IsReleased self.new) }
-        ensures denied { IfErr result (λ denied. (settings : Settings) (journal : Journal) → Stands self.old settings journal
+        ensures denied { IfErr result (λ denied. (settings : Counting) (journal : Journal) → Stands self.old settings journal
             → Reserves history_control (rows_after history_control no_rows journal) (A.bindings set.now) denied.index) }
         ensures within { IfErr result (λ denied. denied.index ≤ length (A.bindings set.now)) }
     {
@@ -56,7 +56,7 @@ impl History {
         ensures last { last_given self.new ≡ last_given self.old }
         ensures frames { frames_given self.new ≡ frames_given self.old }
         ensures stocked { IsStocked self.old → IsStocked self.new }
-        ensures stands { (settings : Settings) (journal : Journal) → Stands self.old settings journal → Stands self.new settings journal }
+        ensures stands { (settings : Counting) (journal : Journal) → Stands self.old settings journal → Stands self.new settings journal }
         ensures released { IsReleased self.new }
     {
         prove!(self.rows.len() <= 32);

@@ -1,6 +1,6 @@
 pub mod Journal
 pub mod Readings
-pub mod Settings
+pub mod Counting
 pub mod FrameFacts
 pub mod Names
 pub mod Numbers

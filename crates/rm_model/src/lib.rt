@@ -5,7 +5,7 @@
 //! `Names` and `Cells` what GetNext finds and the cells of a table, `Finite` that these are finitely many,
 //! `ControlTable` and `ControlRows` the rows of control tables after a journal, `Judgement` what is wrong with a Set,
 //! `Accepted` what one that is accepted gives, `Alike` when rows are alike to a Set, `Interfaces` the frames that a data
-//! source names, `Settings` what the probe was set to. No code keeps a journal.
+//! source names, `Counting` what the probe was set to. No code keeps a journal.
 #![tactic(auto)]
 
 mod instance;

@@ -1,7 +1,7 @@
 -- Replies that are being written.
 use Rattle.std.specs.Prelude.{◌≡◌, ◌≤◌, ◌<◌, ℕ, Bool, List, [], ◌∷◌, ◌++◌, length}
 use Rattle.rm_val.specs.Val.{val_of}
-use Rattle.rm_model.specs.Settings.{Settings}
+use Rattle.rm_model.specs.Counting.{Counting}
 use Rattle.rm_model.specs.Journal.{Journal, last_moment}
 use Rattle.rm_model.specs.Cells.{Cells}
 use Rattle.rm_pdu.specs.Message.{Binding, Message}
@@ -16,15 +16,15 @@ use Rattle.rm_reply.specs.Replies.{names_of, carrying, size_with}
 
 -- what holds of the cells by each journal that a group stands for, at a moment that isn't below its last act's and at which the
 -- group may be asked
-abbrev pub OfCells : (Settings → Journal → Type 0) → (askable : ℕ → Type 0) → (Settings → Journal → ℕ → Cells) → ℕ → (Cells → Type 0) → Type 0
+abbrev pub OfCells : (Counting → Journal → Type 0) → (askable : ℕ → Type 0) → (Counting → Journal → ℕ → Cells) → ℕ → (Cells → Type 0) → Type 0
 OfCells stands askable cells now Holds =
-    (settings : Settings) (journal : Journal) → stands settings journal → last_moment journal ≤ now → askable now → Holds (cells settings journal now)
+    (settings : Counting) (journal : Journal) → stands settings journal → last_moment journal ≤ now → askable now → Holds (cells settings journal now)
 
 -- Each journal that groups stood for, whose last act isn't above a moment at which they may be asked, leads on to a journal that they
 -- stand for, and something holds of both.
-abbrev pub LeadsOn : (stood stand : Settings → Journal → Type 0) → (askable : Type 0) → (moment : ℕ) → (Settings → Journal → Journal → Type 0) → Type 0
+abbrev pub LeadsOn : (stood stand : Counting → Journal → Type 0) → (askable : Type 0) → (moment : ℕ) → (Counting → Journal → Journal → Type 0) → Type 0
 LeadsOn stood stand askable moment Holds =
-    (settings : Settings) (journal : Journal) → stood settings journal → last_moment journal ≤ moment → askable
+    (settings : Counting) (journal : Journal) → stood settings journal → last_moment journal ≤ moment → askable
     → (after : Journal) × stand settings after × Holds settings journal after
 
 -- the binding that was found

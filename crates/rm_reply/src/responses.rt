@@ -1,6 +1,6 @@
 // The responses to requests of every kind.
 ghost use Rattle.std.specs.Prelude.{◌≡◌, ◌≤◌, true};
-ghost use Rattle.rm_model.specs.Settings.{Settings};
+ghost use Rattle.rm_model.specs.Counting.{Counting};
 ghost use Rattle.rm_model.specs.Journal.{Journal, last_moment};
 ghost use Rattle.rm_pdu.specs.Message.{Message};
 ghost use Rattle.rm_pdu.specs.Parse.{is_read};
@@ -27,7 +27,7 @@ pub fn respond<G: Commits + Objects>(
     requires asked { (m : Message) × IsAsked request.now m × (is_read true m.kind ≡ true) }
     requires later { G.clock groups.old ≤ now }
     requires stocked { G.stocked groups.old }
-    ensures reply { (settings : Settings) (journal : Journal) (m : Message) → G.stands groups.old settings journal
+    ensures reply { (settings : Counting) (journal : Journal) (m : Message) → G.stands groups.old settings journal
         → last_moment journal ≤ now → G.askable groups.old now → IsAsked request.now m
         → (after : Journal) × G.stands groups.new settings after × (last_moment after ≤ now)
         × DraftsOne (λ reply. IsReplyBy (G.cells settings journal now) G.objects G.alone (G.together settings journal now nothing_read) (G.reserves settings journal) may_write now journal m.kind m reply after) result }

@@ -1,4 +1,4 @@
-use Rattle.rm_model.specs.Settings.{Settings}
+use Rattle.rm_model.specs.Counting.{Counting}
 use Rattle.rm_model.specs.Journal.{Journal}
 use Rattle.rm_model.specs.ControlRows.{no_rows}
 use Rattle.rm_model.specs.Judgement.{rows_after}
@@ -16,6 +16,6 @@ returns-clause-denied g c =
     let bs = g.A.Assigns.bindings c.args.set.now in
     let before = rows_before event_table set_to c.args.self.now.rows in
     of_error (λ (denied : Denied). Reserves event_table before bs denied.index)
-    (λ (denied : Denied). (settings : Settings) (journal : Journal) → Stands c.args.self.now settings journal → Reserves event_table (rows_after event_table no_rows journal) bs denied.index)
+    (λ (denied : Denied). (settings : Counting) (journal : Journal) → Stands c.args.self.now settings journal → Reserves event_table (rows_after event_table no_rows journal) bs denied.index)
     (λ denied is settings journal stands. reserves_alike event_table before (rows_after event_table no_rows journal) stands.rows.alike.states bs denied.index is)
     c.make_room.result c.make_room.ensures.denied

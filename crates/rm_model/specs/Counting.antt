@@ -8,7 +8,7 @@ use Rattle.rm_model.specs.Readings.{Readings}
 -- counts as it was captured, though it is shorter than a frame on the wire can be. And what the variables that alarms may sample
 -- read after a journal, at a moment in milliseconds. An alarm samples variables of other groups, which its own definitions can't
 -- name.
-pub record Settings : Type 0 where
+pub record Counting : Type 0 where
   pub hosts : ℕ
   pub pairs : ℕ
   pub upper : ℕ
