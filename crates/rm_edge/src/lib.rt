@@ -1,6 +1,5 @@
 //! The outside of a probe: where files are read, lines are put, datagrams come and go, and the
-//! time is told. Each of the four has a form in memory, for tests, and files and standard output
-//! have an adapter over the real thing.
+//! time is told. Each of the four has a form in memory, for tests, and an adapter over the real thing.
 #![tactic(auto)]
 
 mod memory;
@@ -12,5 +11,5 @@ mod words;
 
 pub use memory::{ListClock, MemLink, MemShelf, MemSink};
 pub use outside::{Clock, Failed, Link, Peer, Shelf, Sink};
-pub use real::{FileShelf, StdSink};
+pub use real::{FileShelf, HostClock, StdSink, UdpLink};
 pub use words::Words;

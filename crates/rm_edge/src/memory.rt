@@ -1,5 +1,6 @@
 // The outside in memory, for tests. Each form tells all that it holds, and fails where it is to.
 mod clock;
+mod datagrams;
 mod link;
 mod shelf;
 mod sink;

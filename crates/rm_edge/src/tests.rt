@@ -1,6 +1,6 @@
 use crate::{
-    Clock, Failed, FileShelf, Link, ListClock, MemLink, MemShelf, MemSink, Peer, Shelf, Sink,
-    StdSink, Words,
+    Clock, Failed, FileShelf, HostClock, Link, ListClock, MemLink, MemShelf, MemSink, Peer, Shelf,
+    Sink, StdSink, UdpLink, Words,
 };
 use std::fs;
 use std::test::Fail;
@@ -85,10 +85,75 @@ fn a_link_in_memory_binds_sixteen_ports(rt: HostRuntime) {
 }
 
 #[test]
-fn a_clock_in_memory_tells_zero(rt: HostRuntime) {
+fn a_link_in_memory_gives_and_takes_datagrams(rt: HostRuntime) -> Result<(), Fail> {
+    let peer = Peer {
+        ip: [127, 0, 0, 1],
+        port: 5000,
+    };
+    let mut link = MemLink::new(rt.alloc());
+    link.add(peer, b"one")?;
+    link.add(peer, b"seven")?;
+    link.reserve(1)?;
+    link.fail(2)?;
+    let mut into = *b"....";
+    let receives = [
+        (Ok((peer, 3)), *b"one."),
+        (Err(Failed), *b"one."),
+        (Ok((peer, 4)), *b"seve"),
+        (Err(Failed), *b"seve"),
+    ];
+    for (answer, octets) in receives {
+        assert_eq!(rt; link.receive(&mut into), answer);
+        assert_eq!(rt; into, octets);
+    }
+    assert_eq!(rt; link.send(peer, &[0; 1473]), Err(Failed));
+    assert_eq!(rt; link.send(peer, b"two"), Ok(()));
+    assert_eq!(rt; link.send(peer, b"two"), Err(Failed));
+    assert_eq!(rt; link.sent(0), Some((peer, b"two".as_slice())));
+    assert_eq!(rt; link.sent(1), None);
+    Ok(())
+}
+
+#[test]
+fn a_socket_receives_what_another_one_sends(rt: HostRuntime) -> Result<(), Fail> {
+    let (mut link, mut other) = (UdpLink::new(rt), UdpLink::new(rt));
+    let mut into = *b"......";
+    assert_eq!(rt; link.receive(&mut into), Err(Failed));
+    let mut ports = 40_000..40_100;
+    let port = ports.find(|port| link.bind(*port).is_ok());
+    let from = ports.find(|port| other.bind(*port).is_ok());
+    let (Some(port), Some(from)) = (port, from) else {
+        return Err(Fail::new("no port is free"));
+    };
+    let local = |port| Peer {
+        ip: [127, 0, 0, 1],
+        port,
+    };
+    assert_eq!(rt; other.send(local(port), b"datagram"), Ok(()));
+    assert_eq!(rt; link.receive(&mut into), Ok((local(from), 6)));
+    assert_eq!(rt; into, *b"datagr");
+    Ok(())
+}
+
+#[test]
+fn a_clock_in_memory_tells_its_moments(rt: HostRuntime) -> Result<(), Fail> {
     let mut clock = ListClock::new(rt.alloc());
     assert_eq!(rt; clock.now(), 0);
-    assert_eq!(rt; clock.now(), 0);
+    clock.add(500)?;
+    clock.add(400)?;
+    for moment in [500, 400, 400] {
+        assert_eq!(rt; clock.now(), moment);
+    }
+    clock.add(7)?;
+    assert_eq!(rt; clock.now(), 7);
+    Ok(())
+}
+
+#[test]
+fn the_clock_of_the_machine_goes_on(rt: HostRuntime) {
+    let mut clock = HostClock::new(rt);
+    let first = clock.now();
+    assert!(rt; first <= clock.now());
 }
 
 #[test]
