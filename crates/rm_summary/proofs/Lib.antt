@@ -1,0 +1,4 @@
+pub mod CountLemmas
+pub mod ReadLemmas
+pub mod WriteLemmas
+pub mod EndLemmas

@@ -1,0 +1,69 @@
+// The one public call.
+ghost use Rattle.std.specs.Prelude.{◌≡◌, ◌≤◌, ℕ, List};
+ghost use Rattle.rm_summary.specs.Ends.{Ends, IsExact};
+
+use crate::reading::read;
+use crate::writing::write;
+use rm_edge::{Shelf, Sink};
+use rm_pcap::{PcapFault, every_reading, one_reading};
+use std::alloc::Global;
+
+/// Why a summary wasn't written whole.
+#[derive(Clone, Copy, Debug, PartialEq, Eq)]
+pub enum SummaryFault {
+    /// The capture can't be read to its end. Nothing was put.
+    Capture(PcapFault),
+    /// A put failed. A front of the text may have been put.
+    Put,
+}
+
+/// Writes the summary of a capture, whose first frame stands at the moment `lead` in milliseconds. A frame of fewer than 60 octets
+/// counts as padded to 60, unless `keep_short` is set.
+///
+/// It has ten lines of a word, a blank and a number: `frames`, `octets` (on the wire, the check sequence included), `good` (64 to 1518
+/// octets), `undersize`, `oversize`, `broadcast` and `multicast` (good frames only), `ip` (with a whole header of IPv4), and `first` and
+/// `last`, the moments of the first and the last frame in milliseconds, 0 where there is none. The eleventh is `end` or, where
+/// the file cuts a record short, `cut`, with the number of frames.
+///
+/// The capture is read to its end before the first line is put, and each line is put by itself. The faults of the capture are those of
+/// `Capture`; `Read` comes only where the shelf's count of that name has risen, and `Put` only where the sink's count has.
+pub fn summary<F: Shelf, K: Sink>(
+    alloc: Global,
+    lead: u32,
+    keep_short: bool,
+    capture: &str,
+    shelf: &mut F,
+    out: &mut K,
+) -> Result<(), SummaryFault>
+    ensures ends { Ends lead keep_short (record {
+      held = F.held shelf.old capture.now;
+      reads = F.faults shelf.old capture.now;
+      reads_after = F.faults shelf.new capture.now;
+      puts = K.faults out.old;
+      puts_after = K.faults out.new;
+      content = K.content out.old;
+      content_after = K.content out.new;
+    }) result }
+    ensures exact { IsExact lead keep_short (record {
+      held = F.held shelf.old capture.now;
+      reads = F.faults shelf.old capture.now;
+      reads_after = F.faults shelf.new capture.now;
+      puts = K.faults out.old;
+      puts_after = K.faults out.new;
+      content = K.content out.old;
+      content_after = K.content out.new;
+    }) result }
+    ensures constant { (each : List ℕ) → F.held shelf.new each ≡ F.held shelf.old each }
+    ensures reads_later { (each : List ℕ) → F.faults shelf.old each ≤ F.faults shelf.new each }
+    ensures puts_later { K.faults out.old ≤ K.faults out.new }
+{
+    one_reading();
+    let summary = match read(alloc, lead, keep_short, capture, shelf) {
+        Ok(summary) => summary,
+        Err(fault) => return Err(SummaryFault::Capture(fault)),
+    };
+    match write(&summary, out) {
+        Ok(()) => Ok(()),
+        Err(_) => Err(SummaryFault::Put),
+    }
+}

@@ -1,0 +1,13 @@
+//! The summary of a capture: how many frames it has of each kind, and when the first and the last came.
+#![tactic(auto)]
+
+mod counts;
+mod entry;
+mod figure;
+mod line;
+mod reading;
+#[cfg(test)]
+mod tests;
+mod writing;
+
+pub use entry::{SummaryFault, summary};

@@ -1,0 +1,69 @@
+// The frames of a capture, which are counted before anything is written.
+ghost use Rattle.std.specs.Prelude.{◌≡◌, ◌≤◌, ℕ, List, IfOk, IfErr, length};
+ghost use Rattle.rm_edge.specs.Outside.{OfFile};
+ghost use Rattle.rm_summary.specs.Counted.{IsOf, ending_word};
+ghost use Rattle.rm_summary.specs.Ends.{IsFault};
+
+use crate::counts::Counts;
+use rm_edge::Shelf;
+use rm_pcap::{Capture, PcapFault, Step};
+use std::alloc::Global;
+
+/// How a capture ends.
+#[derive(Clone, Copy)]
+pub enum Ending {
+    /// With a whole record, or before the first.
+    End,
+    /// Within a record.
+    Cut,
+}
+
+impl Ending {
+    /// The word of the last line.
+    pub fn word(self) -> &'static [u8]
+        ensures is { result.now ≡ ending_word self }
+        ensures short { length result.now ≤ 9 }
+    {
+        match self {
+            Ending::End => b"end",
+            Ending::Cut => b"cut",
+        }
+    }
+}
+
+/// What is counted of a capture, and how it ends.
+#[derive(Clone, Copy)]
+pub struct Summary {
+    pub counts: Counts,
+    pub ending: Ending,
+}
+
+/// Reads a capture, whose first frame stands at the moment `lead`, to its end, and counts its frames. The fault is its first.
+pub fn read<F: Shelf>(
+    alloc: Global,
+    lead: u32,
+    keep_short: bool,
+    name: &str,
+    shelf: &mut F,
+) -> Result<Summary, PcapFault>
+    ensures constant { (each : List ℕ) → F.held shelf.new each ≡ F.held shelf.old each }
+    ensures later { (each : List ℕ) → F.faults shelf.old each ≤ F.faults shelf.new each }
+    ensures counted { IfOk result (λ summary. OfFile (F.held shelf.old name.now) (λ bytes. IsOf lead keep_short bytes summary)) }
+    ensures fault { IfErr result (IsFault lead (F.held shelf.old name.now) (F.faults shelf.old name.now) (F.faults shelf.new name.now)) }
+{
+    let mut capture = Capture::begin(alloc, shelf, name, lead)?;
+    let mut counts = Counts::new();
+    loop {
+        match capture.next(shelf, name)? {
+            Step::Next(frame) => counts.count(&frame, keep_short),
+            Step::End => return Ok(Summary {
+                counts,
+                ending: Ending::End,
+            }),
+            Step::Cut(_) => return Ok(Summary {
+                counts,
+                ending: Ending::Cut,
+            }),
+        }
+    }
+}
