@@ -8,7 +8,7 @@ use borrow.Author.Tests.{eqb-true}
 use Rattle.rm_val.specs.Val.{Val}
 use Rattle.rm_model.specs.Journal.{Act, Frame, Journal, passes, assigns, samples, value_given}
 use Rattle.rm_model.specs.ControlTable.{default_of}
-use Rattle.rm_model.specs.ControlRows.{no_rows, cell_name, entry_status_ask, value_ask, set_ask, next_state, is_absent, is_valid, stays_valid}
+use Rattle.rm_model.specs.ControlRows.{no_rows, cell_name, value_ask, set_ask, next_state, is_absent, is_valid, stays_valid}
 use Rattle.rm_model.specs.Judgement.{Bindings, first_pass, second_pass, is_ready_with, rows_after}
 use Rattle.rm_model.specs.Accepted.{assignments_of}
 use Rattle.rm_acts.specs.Alarms.{alarm_entry, alarm_table, alarm_state, interval_of, due_of, IsNextDue, number_of}

@@ -7,10 +7,7 @@ ghost use Rattle.rm_alarm.specs.Standing.{Stands, AreBased, AreRead};
 
 use crate::alarms::Alarms;
 use crate::change::{Forgetting, ReadingBase, Settling};
-use crate::column::STATUS;
 use crate::due::earliest;
-use crate::row::AlarmRow;
-use rm_columns::ControlRow;
 use rm_group::{Assigns, Look};
 
 impl Alarms {
@@ -44,7 +41,7 @@ impl Alarms {
         ensures forgotten { HasForgotten self.new }
     {
         prove!(self.rows.len() <= 32);
-        self.rows.commit(set, &AlarmRow::entry(), STATUS);
+        self.rows.commit(set);
         self.rows.change_each(&Settling { now });
         self.next = earliest(&self.rows);
     }

@@ -56,12 +56,24 @@ const TABLE: ControlSheet = ControlSheet {
     ],
 };
 
-impl Default for AlarmRow {
-    ghost use Rattle.rm_alarm.specs.Rows.{blank_row};
+impl ControlRow for AlarmRow {
+    type Keys = OneNumber;
 
-    ghost is_default = { λ row. row ≡ blank_row };
+    ghost use Rattle.rm_val.specs.Spellable.{IsSpellable};
+    ghost use Rattle.rm_alarm.specs.Rows.{variable_kept};
+    ghost use Rattle.rm_alarm.specs.RowLaws.{alarm_rows};
 
-    fn default() -> Self {
+    ghost form = { alarm_rows };
+
+    ghost spelled = { λ row. IsSpellable (variable_kept row) };
+
+    ghost keyed = { (refl, refl) };
+
+    fn table() -> ControlSheet {
+        TABLE
+    }
+
+    fn blank(_index: u32) -> Self {
         AlarmRow {
             interval: None,
             variable: None,
@@ -77,30 +89,6 @@ impl Default for AlarmRow {
             base: None,
             course: None,
         }
-    }
-}
-
-impl ControlRow for AlarmRow {
-    type Keys = OneNumber;
-
-    ghost use Rattle.rm_val.specs.Spellable.{IsSpellable};
-    ghost use Rattle.rm_alarm.specs.Rows.{variable_kept};
-    ghost use Rattle.rm_alarm.specs.RowLaws.{alarm_rows};
-
-    ghost form = { alarm_rows };
-
-    ghost spelled = { λ row. IsSpellable (variable_kept row) };
-
-    ghost default_is_blank = { λ row is. is };
-
-    ghost keyed = { (refl, refl) };
-
-    fn table() -> ControlSheet {
-        TABLE
-    }
-
-    fn blank(_index: u32) -> Self {
-        AlarmRow::default()
     }
 
     fn put(&mut self, column: u32, value: &Value<'_>) {

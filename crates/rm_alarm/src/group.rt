@@ -9,13 +9,10 @@ ghost use Rattle.rm_alarm.specs.Group.{alarm_alone, alarm_together, AreFine, Has
 
 use crate::alarms::Alarms;
 use crate::cell::LastValue;
-use crate::column::STATUS;
 use crate::columns::ALARM_OBJECTS;
 use crate::judging::judge_variables;
 use crate::laws::frames_pass;
-use crate::row::AlarmRow;
 use rm_acts::Firing;
-use rm_columns::ControlRow;
 use rm_group::{Assigns, Denied, Group, Look, Passing, Steps, TableObjects, Tables, lower_verdict};
 use rm_model::Verdict;
 use rm_val::{Oid, Value};
@@ -53,21 +50,19 @@ impl Group for Alarms {
     ghost finite = { λ settings journal now. alarms_finite settings journal };
 
     fn cell(&self, name: &Oid, _now: u32) -> Option<Value<'_>> {
-        prove!(self.rows.len() <= 32);
         self.rows.cell(&LastValue, name)
     }
 
     fn after(&self, name: &Oid, _now: u32, out: &mut Oid) -> Option<Value<'_>> {
-        prove!(self.rows.len() <= 32);
         self.rows.next_cell(&LastValue, name, out)
     }
 
     fn judge_alone<A: Assigns>(&self, set: &A) -> Verdict {
-        self.rows.judge_alone(set, &AlarmRow::entry(), STATUS)
+        self.rows.judge_alone(set)
     }
 
     fn judge_rows<A: Assigns, L: Look>(&self, set: &A, now: u32, look: &L) -> Verdict {
-        let rows = self.rows.judge_rows(set, &AlarmRow::entry(), STATUS);
+        let rows = self.rows.judge_rows(set);
         let variables = judge_variables(&self.rows, set, now, look);
         lower_verdict(rows, variables)
     }

@@ -1,5 +1,6 @@
 // Whether the variables can be read of the alarms that a Set makes valid.
-ghost use Rattle.std.specs.Prelude.{◌≡◌, ◌<◌, length, ◌&&◌, is_none};
+ghost use Rattle.std.specs.Prelude.{◌≡◌, ◌<◌, length, false, is_none, if◌then◌else◌};
+ghost use Rattle.std.specs.Option.{option_map_or};
 ghost use Rattle.rm_acts.specs.Alarms.{alarm_table};
 ghost use Rattle.rm_val.specs.Val.{val_of};
 ghost use Rattle.rm_val.specs.Spellable.{HasSpelling};
@@ -12,10 +13,10 @@ use crate::change::variable_with;
 use crate::column::STATUS;
 use crate::row::AlarmRow;
 use rm_columns::ControlRow;
-use rm_group::{Assigns, Look};
+use rm_group::{Assigns, Look, wrong_at};
 use rm_model::{Place, State, Verdict};
 use rm_status::{Controls, place_under};
-use rm_val::{ErrorStatus, Value};
+use rm_val::{ErrorStatus, Oid, Value};
 
 /// Names the first binding that makes an alarm valid of whose variable there is no reading at a moment, in milliseconds.
 pub(crate) fn judge_variables<A: Assigns, L: Look>(
@@ -30,10 +31,7 @@ pub(crate) fn judge_variables<A: Assigns, L: Look>(
 {
     for place in 0..set.count() {
         if let Some(status) = variable_fault(rows, set, now, look, place) {
-            return Verdict::Wrong {
-                status,
-                index: place as u32 + 1,
-            };
+            return wrong_at(place, status);
         }
     }
     Verdict::Fine
@@ -55,7 +53,8 @@ fn variable_fault<A: Assigns, L: Look>(
     let value = set.value(place);
     match place_under::<AlarmRow>(&name, &AlarmRow::entry()) {
         Place::Cell(column, row) => {
-            if column == STATUS && makes_valid(&value) && is_unread(rows, set, now, look, row) {
+            let variable = variable_made(rows, set, row);
+            if column == STATUS && makes_valid(&value) && is_unread(variable, now, look) {
                 Some(ErrorStatus::InconsistentValue)
             } else {
                 None
@@ -75,25 +74,24 @@ fn makes_valid(value: &Value<'_>) -> bool
     }
 }
 
-// Whether a row is under creation, and there is no reading of the variable that it has with what a Set gives.
-fn is_unread<A: Assigns, L: Look>(
-    rows: &Controls<AlarmRow>,
-    set: &A,
-    now: u32,
-    look: &L,
-    index: u32,
-) -> bool
-    ensures { result ≡ (is_under_creation (state_in rows.now index)
-        && is_none (L.readings look.now now (variable_then (rows_before alarm_table set_to rows.now) (A.bindings set.now) index))) }
+// The variable that a row which is under creation has with what a Set gives to it. None where no row of that index is.
+fn variable_made<A: Assigns>(rows: &Controls<AlarmRow>, set: &A, index: u32) -> Option<Oid>
+    ensures { result ≡ (if is_under_creation (state_in rows.now index)
+        then Some (variable_then (rows_before alarm_table set_to rows.now) (A.bindings set.now) index) else None) }
 {
-    let Some(row) = rows.get(index) else {
-        return false;
-    };
+    let row = rows.get(index)?;
     match rows.state(index) {
-        State::UnderCreation => {
-            let variable = variable_with(set, index, row);
-            look.reading(&variable, now).is_none()
-        }
-        _ => false,
+        State::UnderCreation => Some(variable_with(set, index, row)),
+        _ => None,
+    }
+}
+
+// Whether there is a variable, and no reading of it at a moment, in milliseconds.
+fn is_unread<L: Look>(variable: Option<Oid>, now: u32, look: &L) -> bool
+    ensures { result ≡ option_map_or (λ name. is_none (L.readings look.now now name)) variable false }
+{
+    match variable {
+        Some(name) => look.reading(&name, now).is_none(),
+        None => false,
     }
 }

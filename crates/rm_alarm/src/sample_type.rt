@@ -1,5 +1,5 @@
 // What the value of a sample is.
-ghost use Rattle.rm_alarm.specs.SampleType.{variant, variant_number};
+ghost use Rattle.rm_alarm.specs.SampleType.{numbering};
 
 use rm_columns::Numbered;
 
@@ -13,19 +13,13 @@ pub enum SampleType {
 }
 
 impl Numbered for SampleType {
-    ghost number_of = { variant_number };
+    ghost numbering = { numbering };
 
-    ghost variant = { variant };
+    fn variants() -> &'static [SampleType] {
+        &[Self::Absolute, Self::Delta]
+    }
 
     fn number(self) -> i32 {
         self as i32
-    }
-
-    fn numbered(number: u32) -> SampleType {
-        if number == 2 {
-            SampleType::Delta
-        } else {
-            SampleType::Absolute
-        }
     }
 }

@@ -18,7 +18,7 @@ use crate::due::earliest;
 use crate::row::AlarmRow;
 use rm_acts::Sampled;
 use rm_group::Look;
-use rm_model::{Reading, StatusKind};
+use rm_model::Reading;
 use rm_status::Controls;
 
 impl Alarms {
@@ -28,7 +28,7 @@ impl Alarms {
         ensures based { (settings : Counting) → AreBased result settings [] }
     {
         Alarms {
-            rows: Controls::new(StatusKind::EntryStatus),
+            rows: Controls::new(),
             next: None,
         }
     }

@@ -1,5 +1,5 @@
 // Which thresholds a first sample may cross.
-ghost use Rattle.rm_alarm.specs.StartupAlarm.{variant, variant_number};
+ghost use Rattle.rm_alarm.specs.StartupAlarm.{numbering};
 
 use rm_columns::Numbered;
 
@@ -15,21 +15,13 @@ pub enum StartupAlarm {
 }
 
 impl Numbered for StartupAlarm {
-    ghost number_of = { variant_number };
+    ghost numbering = { numbering };
 
-    ghost variant = { variant };
+    fn variants() -> &'static [StartupAlarm] {
+        &[Self::RisingOrFalling, Self::Rising, Self::Falling]
+    }
 
     fn number(self) -> i32 {
         self as i32
-    }
-
-    fn numbered(number: u32) -> StartupAlarm {
-        if number == 1 {
-            StartupAlarm::Rising
-        } else if number == 2 {
-            StartupAlarm::Falling
-        } else {
-            StartupAlarm::RisingOrFalling
-        }
     }
 }

@@ -12,6 +12,7 @@ use Rattle.rm_val.specs.declared.error.ErrorStatus.TheVariants.{WrongValue, Wron
 use Rattle.rm_model.specs.ControlTable.{Range, Kind, number, text, any_name, data_source}
 use Rattle.rm_model.specs.Judgement.{value_fault, unless, is_in}
 use Rattle.rm_model.specs.Interfaces.{interface_name, is_interface, is_source, interfaces}
+use Rattle.rm_columns.specs.Numbering.{Numbering, variant}
 use Rattle.rm_columns.specs.Values.{number_of, natural_in, octets_in, name_of, interface_in}
 use Rattle.rm_columns.specs.Holds.{holds_texts, holds_numbers, holds_within, holds_names, holds_sources, UpTo}
 
@@ -122,10 +123,13 @@ one_of_them P (suc greatest) n all some few =
     ] refl
 
 -- A type of so many variants, each with its number from 1.
-module _ {E : Type 0} (number_in : E → ℤ) (taken : Val → E) (greatest : ℕ) (again : UpTo greatest (λ n. number_in (taken (int (pos n))) ≡ pos n)) where
-  variant_again : (n : ℤ) → int_le (pos 1) n ≡ true → int_le n (pos greatest) ≡ true → Some (int (number_in (taken (int n)))) ≡ Some (int n)
-  variant_again (pos n) low high = ap (λ k. Some (int k)) (one_of_them (λ n. number_in (taken (int (pos n))) ≡ pos n) greatest n again (grind (arith, nat_tests)) (grind (arith, nat_tests)))
+module _ {E : Type 0} (numbering : Numbering E) (greatest : ℕ) (again : UpTo greatest (λ n. numbering.number_of (variant numbering n) ≡ n)) where
+  abbrev Again : Val → Type 0
+  Again value = Some (int (pos (numbering.number_of (variant numbering (natural_in value))))) ≡ Some value
+
+  variant_again : (n : ℤ) → int_le (pos 1) n ≡ true → int_le n (pos greatest) ≡ true → Again (int n)
+  variant_again (pos n) low high = ap (λ k. Some (int (pos k))) (one_of_them (λ n. numbering.number_of (variant numbering n) ≡ n) greatest n again (grind (arith, nat_tests)) (grind (arith, nat_tests)))
   variant_again (negsuc n) low high = absurd (cc)
 
-  pub variant_shows : (kind : Kind) (value : Val) → holds_within (pos 1) (pos greatest) kind ≡ true → value_fault (Some kind) value ≡ None → Some (int (number_in (taken value))) ≡ Some value
-  variant_shows = of_within (λ value. Some (int (number_in (taken value))) ≡ Some value) (pos 1) (pos greatest) variant_again
+  pub variant_shows : (kind : Kind) (value : Val) → holds_within (pos 1) (pos greatest) kind ≡ true → value_fault (Some kind) value ≡ None → Some (int (pos (numbering.number_of (variant numbering (natural_in value))))) ≡ Some value
+  variant_shows = of_within Again (pos 1) (pos greatest) variant_again

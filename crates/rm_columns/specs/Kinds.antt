@@ -3,6 +3,7 @@ use Rattle.std.specs.Prelude.{◌≡◌, ℕ, ℤ, pos, List, Option, Some, int_
 use Rattle.std.specs.Option.{option_map}
 use Rattle.rm_val.specs.Val.{Val, int, octets, name}
 use Rattle.rm_model.specs.Interfaces.{interface_name}
+use Rattle.rm_columns.specs.Numbering.{Numbering, variant}
 use Rattle.rm_columns.specs.Values.{number_of, natural_in, octets_in, name_of, interface_in}
 use Rattle.rm_columns.specs.Field.{FieldOf}
 use Rattle.rm_columns.specs.Holds.{holds_texts, holds_numbers, holds_within, holds_names, holds_sources, UpTo}
@@ -52,6 +53,11 @@ abbrev pub needed_names : FieldOf (Option (List ℕ))
 needed_names = record { holds = holds_names; shown = λ numbers. option_map name numbers; taken = λ value. Some (name_of value); shows = name_shows }
 
 -- A type of so many variants, each with its number from 1.
-module _ {E : Type 0} (number_in : E → ℤ) (taken : Val → E) (greatest : ℕ) (again : UpTo greatest (λ n. number_in (taken (int (pos n))) ≡ pos n)) where
+module _ {E : Type 0} (numbering : Numbering E) (greatest : ℕ) (again : UpTo greatest (λ n. numbering.number_of (variant numbering n) ≡ n)) where
   abbrev pub variants : FieldOf E
-  variants = record { holds = holds_within (pos 1) (pos greatest); shown = λ variant. Some (int (number_in variant)); taken = taken; shows = variant_shows number_in taken greatest again }
+  variants = record {
+    holds = holds_within (pos 1) (pos greatest);
+    shown = λ one. Some (int (pos (numbering.number_of one)));
+    taken = λ value. variant numbering (natural_in value);
+    shows = variant_shows numbering greatest again;
+  }

@@ -2,6 +2,7 @@ pub mod Taken
 pub mod Values
 pub mod Field
 pub mod Holds
+pub mod Numbering
 pub mod KindLaws
 pub mod Kinds
 pub mod SheetLaws

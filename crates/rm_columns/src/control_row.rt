@@ -11,13 +11,13 @@ ghost use Rattle.rm_columns.specs.RowForm.{RowForm};
 
 use crate::control_sheet::ControlSheet;
 use crate::row_keys::RowKeys;
-use rm_model::ColumnSheet;
+use rm_model::{ColumnSheet, StatusKind};
 use rm_val::{Oid, Value};
 
 /// A row of a control table, in the form in which a group keeps it: the columns that can be set, its status left out, and other data
 /// of the row. A type of rows is that of one table, which it describes as data: how a Set is judged, and what a row shows, follow
-/// from the description once for all tables. The default is a new row with the index 0, which is no row's.
-pub trait ControlRow: Default + Drop {
+/// from the description once for all tables.
+pub trait ControlRow: Drop {
     /// The indexes of the rows, and what goes by them.
     type Keys: RowKeys;
 
@@ -60,9 +60,6 @@ pub trait ControlRow: Default + Drop {
     fn bare(&self) -> Self
         ensures { (n : ℕ) → form.set_to result n ≡ form.set_to self.now n };
 
-    /// The default of the type is a new row with the index 0, which is no row's.
-    ghost default_is_blank: { (row : Self) → Self.Default.is_default row → row ≡ form.blank 0 };
-
     /// The keys are those of the table.
     ghost keyed: { (form.table.indexing ≡ Self.Keys.indexing) × (form.table.rules ≡ Self.Keys.rules) };
 
@@ -71,6 +68,20 @@ pub trait ControlRow: Default + Drop {
         ensures { result ≡ form.table.entry }
     {
         Oid::from_slice(Self::table().objects.entry).unwrap()
+    }
+
+    /// The number of the status column.
+    final fn status() -> u32
+        ensures { result ≡ form.table.status }
+    {
+        Self::table().status
+    }
+
+    /// The kind of the status column.
+    final fn kind() -> StatusKind
+        ensures { result ≡ form.table.status_kind }
+    {
+        Self::table().kind
     }
 
     /// The description of the writable columns beside the status, in the order of the table.

@@ -27,22 +27,26 @@ counter_of statistics Pkts256to511Octets = statistics.of_256_to_511
 counter_of statistics Pkts512to1023Octets = statistics.of_512_to_1023
 counter_of statistics Pkts1024to1518Octets = statistics.of_1024_to_1518
 
+-- the sums that are the values of counters
+abbrev pub sums_of : (Counter → ℕ) → Statistics
+sums_of value = record {
+  packets = value Pkts;
+  octets = value Octets;
+  broadcast = value BroadcastPkts;
+  multicast = value MulticastPkts;
+  undersize = value UndersizePkts;
+  oversize = value OversizePkts;
+  of_64 = value Pkts64Octets;
+  of_65_to_127 = value Pkts65to127Octets;
+  of_128_to_255 = value Pkts128to255Octets;
+  of_256_to_511 = value Pkts256to511Octets;
+  of_512_to_1023 = value Pkts512to1023Octets;
+  of_1024_to_1518 = value Pkts1024to1518Octets;
+}
+
 -- the sums over no frame
 abbrev pub no_sums : Statistics
-no_sums = record {
-  packets = 0;
-  octets = 0;
-  broadcast = 0;
-  multicast = 0;
-  undersize = 0;
-  oversize = 0;
-  of_64 = 0;
-  of_65_to_127 = 0;
-  of_128_to_255 = 0;
-  of_256_to_511 = 0;
-  of_512_to_1023 = 0;
-  of_1024_to_1518 = 0;
-}
+no_sums = sums_of (λ each. 0)
 
 -- a counter after a frame
 abbrev pub counter_with : Statistics → Facts → Counter → ℕ
@@ -50,20 +54,7 @@ counter_with statistics facts each = (counter_of statistics each + counted each 
 
 -- the sums with one more frame
 abbrev pub with_frame : Facts → Statistics → Statistics
-with_frame facts statistics = record {
-  packets = counter_with statistics facts Pkts;
-  octets = counter_with statistics facts Octets;
-  broadcast = counter_with statistics facts BroadcastPkts;
-  multicast = counter_with statistics facts MulticastPkts;
-  undersize = counter_with statistics facts UndersizePkts;
-  oversize = counter_with statistics facts OversizePkts;
-  of_64 = counter_with statistics facts Pkts64Octets;
-  of_65_to_127 = counter_with statistics facts Pkts65to127Octets;
-  of_128_to_255 = counter_with statistics facts Pkts128to255Octets;
-  of_256_to_511 = counter_with statistics facts Pkts256to511Octets;
-  of_512_to_1023 = counter_with statistics facts Pkts512to1023Octets;
-  of_1024_to_1518 = counter_with statistics facts Pkts1024to1518Octets;
-}
+with_frame facts statistics = sums_of (counter_with statistics facts)
 
 -- no sum is more than that of its packets, where each has the most octets
 abbrev pub AreBounded : Statistics → Type 0

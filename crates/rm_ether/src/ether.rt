@@ -3,14 +3,13 @@ ghost use Rattle.std.specs.Prelude.{◌≡◌, ◌+◌, ◌<◌, ◌≤◌, [], 
 
 use crate::cell::Counters;
 use crate::change::{Adding, Resting};
-use crate::row::{ETHER_OBJECTS, STATUS, StatisticsRow};
+use crate::row::{ETHER_OBJECTS, StatisticsRow};
 use rm_acts::Firing;
-use rm_columns::ControlRow;
 use rm_group::{
     Assigns, Commits, Denied, Group, Look, MOST_FRAMES, NeverDue, Passing, Readable, Steps,
     TableObjects, Tables, Unsampled,
 };
-use rm_model::{State, StatusKind, Verdict};
+use rm_model::{State, Verdict};
 use rm_proto::Facts;
 use rm_status::Controls;
 use rm_val::{Oid, Value};
@@ -45,7 +44,7 @@ impl Ether {
         ensures frames { frames_given result ≡ 0 }
         ensures last { last_given result ≡ 0 }
     {
-        let mut rows = Controls::new(StatusKind::EntryStatus);
+        let mut rows = Controls::new();
         rows.insert(ROW, State::Valid, StatisticsRow::of_monitor());
         Ether {
             rows,
@@ -104,21 +103,19 @@ impl Group for Ether {
     ghost finite = { λ settings journal now. ether_finite settings journal };
 
     fn cell(&self, name: &Oid, _now: u32) -> Option<Value<'_>> {
-        prove!(self.rows.len() <= 32);
         self.rows.cell(&Counters, name)
     }
 
     fn after(&self, name: &Oid, _now: u32, out: &mut Oid) -> Option<Value<'_>> {
-        prove!(self.rows.len() <= 32);
         self.rows.next_cell(&Counters, name, out)
     }
 
     fn judge_alone<A: Assigns>(&self, set: &A) -> Verdict {
-        self.rows.judge_alone(set, &StatisticsRow::entry(), STATUS)
+        self.rows.judge_alone(set)
     }
 
     fn judge_rows<A: Assigns, L: Look>(&self, set: &A, _now: u32, _look: &L) -> Verdict {
-        self.rows.judge_rows(set, &StatisticsRow::entry(), STATUS)
+        self.rows.judge_rows(set)
     }
 
     fn prepare<A: Assigns, L: Look>(
@@ -137,7 +134,7 @@ impl Group for Ether {
 impl Commits for Ether {
     fn commit<A: Assigns>(&mut self, set: &A, now: u32) {
         prove!(self.rows.len() <= 32);
-        self.rows.commit(set, &StatisticsRow::entry(), STATUS);
+        self.rows.commit(set);
         self.rows.change_each(&Resting);
         self.last = now;
     }

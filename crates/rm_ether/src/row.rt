@@ -55,23 +55,9 @@ impl StatisticsRow {
     pub fn of_monitor() -> StatisticsRow
         ensures { result ≡ monitor_row }
     {
-        let mut row = StatisticsRow::default();
+        let mut row = StatisticsRow::blank(1);
         row.owner.try_extend_from_slice(b"monitor").unwrap();
         row
-    }
-}
-
-impl Default for StatisticsRow {
-    ghost use Rattle.rm_ether.specs.StatisticsRows.{blank_row};
-
-    ghost is_default = { λ row. row ≡ blank_row };
-
-    fn default() -> Self {
-        StatisticsRow {
-            source: 1,
-            owner: ArrayVec::new(),
-            statistics: Statistics::new(),
-        }
     }
 }
 
@@ -82,8 +68,6 @@ impl ControlRow for StatisticsRow {
 
     ghost form = { statistics_rows };
 
-    ghost default_is_blank = { λ row is. is };
-
     ghost keyed = { (refl, refl) };
 
     fn table() -> ControlSheet {
@@ -91,7 +75,11 @@ impl ControlRow for StatisticsRow {
     }
 
     fn blank(_index: u32) -> Self {
-        StatisticsRow::default()
+        StatisticsRow {
+            source: 1,
+            owner: ArrayVec::new(),
+            statistics: Statistics::new(),
+        }
     }
 
     fn put(&mut self, column: u32, value: &Value<'_>) {

@@ -1,28 +1,24 @@
 -- What is kept of events after a Set with which nothing is wrong.
-use Rattle.std.proofs.Common.{◌^◌, ◌≡◌, ℕ, ◌<◌, List, [], ◌∷◌, length, Bool, true, false, cond, ◌&&◌, Option, Some, None, refl, sym, ap, subst, ◌∙◌}
+use Rattle.std.proofs.Common.{◌≡◌, ℕ, List, [], ◌∷◌, Bool, true, false, cond, ◌&&◌, Option, Some, None, refl, sym, ap, subst, ◌∙◌}
 use Rattle.std.specs.Prelude.{is_some}
 use Rattle.std.proofs.lemmas.Bool.{and_parts}
 use Rattle.rm_model.specs.Counting.{Counting}
-use Rattle.rm_model.specs.Journal.{Assignments, Journal, assigns, value_given}
+use Rattle.rm_model.specs.Journal.{Assignments, Journal, assigns}
 use Rattle.rm_model.specs.ControlRows.{no_rows, cell_name, value_ask, set_ask, next_state, is_valid, stays_valid}
-use Rattle.rm_model.specs.Judgement.{Bindings, count_below, first_pass, second_pass}
-use Rattle.rm_model.specs.Reserves.{count_valid_after}
+use Rattle.rm_model.specs.Judgement.{Bindings}
 use Rattle.rm_model.specs.declared.row.State.TheVariants.{Valid}
 use Rattle.rm_status.specs.declared.row.Row.{Row}
-use Rattle.rm_status.specs.Rows.{row_in, rows_before, state_in, state_seen, AreControlRows}
-use Rattle.rm_status.specs.Commit.{row_after}
+use Rattle.rm_status.specs.Rows.{state_in}
 use Rattle.rm_status.specs.RowsAfter.{AreRowsAfter}
-use Rattle.rm_status.proofs.Bares.{state_then}
-use Rattle.rm_status.proofs.Puts.{all_fine}
 use Rattle.rm_status.proofs.RowFacts.{valid_is}
-use Rattle.rm_status.proofs.RowsAfterLemmas.{rows_assigns}
+use Rattle.rm_status.proofs.Committed.{IsCommitted, rows_committed}
 use Rattle.rm_status.proofs.RowsThen.{column_stays}
 use Rattle.rm_event.specs.declared.log.Log.{Log}
 use Rattle.rm_pool.specs.declared.slot.Slot.{Slot}
 use Rattle.rm_event.specs.EventType.{type_in}
 use Rattle.rm_event.specs.EventTable.{event_table, event_state, type_of}
 use Rattle.rm_event.specs.declared.event_row.EventRow.{EventRow}
-use Rattle.rm_event.specs.EventRows.{set_to, with_column, new_row, event_rows}
+use Rattle.rm_event.specs.EventRows.{set_to, event_rows}
 use Rattle.rm_acts.specs.Fired.{firings}
 use Rattle.rm_event.specs.Log.{IsLog}
 use Rattle.rm_event.specs.Log.{IsNew}
@@ -35,22 +31,13 @@ not_first : (a b : Bool) → b ≡ true → (a && b) ≡ false → a ≡ false
 not_first true b is h = absurd (cc)
 not_first false b is h = refl
 
--- the valid rows after a Set
-pub valid_after : (bs : Bindings) (rows new : List (Row EventRow)) → ((i : ℕ) → row_in new i ≡ row_after event_table with_column new_row bs i (row_in rows i)) → count_below (valid_in new) (2 ^ 32) ≡ count_valid_after event_table (rows_before event_table set_to rows) bs
-valid_after bs rows new after = ap (λ p. count_below p (2 ^ 32)) (λ d i. (ap is_valid (ap state_seen (after i) ∙ state_then event_table with_column new_row bs i (row_in rows i))) d)
-
-module _ (settings : Counting) (journal : Journal) (moment : ℕ) (bs : Bindings) (values : Assignments)
-    (gives : (name : List ℕ) → value_given values name ≡ value_given bs name)
-    (alone : (k : ℕ) → k < length bs → first_pass event_table bs k ≡ None)
-    (rows new : List (Row EventRow)) (held : AreControlRows event_table rows)
-    (together : (k : ℕ) → k < length bs → second_pass event_table (rows_before event_table set_to rows) bs k ≡ None)
-    (after : (i : ℕ) → row_in new i ≡ row_after event_table with_column new_row bs i (row_in rows i))
-    (is : AreRowsAfter event_table no_rows set_to rows journal) where
+module _ (settings : Counting) (journal : Journal) (moment : ℕ) (bs : Bindings) (values : Assignments) (rows new : List (Row EventRow))
+    (set : IsCommitted event_rows no_rows journal values bs rows new) where
   abbrev with_set : Journal
   with_set = assigns moment values ∷ journal
 
   pub rows_with_set : AreRowsAfter event_table no_rows set_to new with_set
-  rows_with_set = rows_assigns event_table no_rows set_to with_column new_row event_rows.set_with event_rows.blank_alike refl journal moment bs values gives (all_fine event_table bs alone) rows new held is after
+  rows_with_set = rows_committed event_rows no_rows journal moment values bs rows new set
 
   module _ (logs logs_new : List (Slot Log)) (of_valid : IsOfValid logs rows) (of_valid_new : IsOfValid logs_new new)
       (stays : (row : ℕ) → valid_in new row ≡ true → has_part logs row ≡ true → part_in logs_new row ≡ part_in logs row)
@@ -63,7 +50,7 @@ module _ (settings : Counting) (journal : Journal) (moment : ℕ) (bs : Bindings
     IsIt o = IsLogOf (event_state with_set place) (type_of with_set event) (firings settings with_set event) o
 
     was : state_in rows event ≡ event_state journal place
-    was = is.alike.states event
+    was = set.stood.alike.states event
 
     now : state_in new event ≡ event_state with_set place
     now = rows_with_set.alike.states event
@@ -71,10 +58,10 @@ module _ (settings : Counting) (journal : Journal) (moment : ℕ) (bs : Bindings
     -- the type of an event that stays valid is as it was
     same_type : is_valid (event_state journal place) ≡ true → is_valid (event_state with_set place) ≡ true → type_of with_set event ≡ type_of journal event
     same_type old valid =
-        let asked : set_ask event_table values place ≡ set_ask event_table bs place = ap (value_ask event_table.status_kind) (gives (cell_name event_table.entry event_table.status place)) in
+        let asked : set_ask event_table values place ≡ set_ask event_table bs place = ap (value_ask event_table.status_kind) (set.gives (cell_name event_table.entry event_table.status place)) in
         let remains : is_valid (next_state (set_ask event_table bs place) Valid) ≡ true =
         ap (λ s. is_valid (next_state (set_ask event_table bs place) s)) (sym (valid_is (event_state journal place) old)) ∙ ap (λ a. is_valid (next_state a (event_state journal place))) (sym asked) ∙ valid in
-        ap type_in (column_stays event_table no_rows set_to journal moment bs values gives rows together is event 3 refl refl old remains)
+        ap type_in (column_stays event_table no_rows set_to journal moment bs values set.gives rows set.together set.stood event 3 refl refl old remains)
 
     -- one that stays valid
     goes_on : stays_valid event_table no_rows (assigns moment values) journal place ≡ true → (o : Option Log) → part_in logs event ≡ o → IsLogOf (event_state journal place) (type_of journal event) (firings settings journal event) o → IsIt (part_in logs_new event)

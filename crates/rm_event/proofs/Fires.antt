@@ -18,7 +18,8 @@ use Rattle.rm_event.specs.declared.event_type.EventType.TheVariants as kind
 use Rattle.rm_event.specs.declared.fired.Fired.TheVariants as fired
 use Rattle.rm_event.specs.declared.log.Log.{Log}
 use Rattle.rm_pool.specs.declared.slot.Slot.{Slot}
-use Rattle.rm_event.specs.EventType.{numbered, number_of, type_in, fired_as}
+use Rattle.rm_columns.specs.Numbering.{variant}
+use Rattle.rm_event.specs.EventType.{numbering, number_of, type_in, fired_as}
 use Rattle.rm_event.specs.EventTable.{event_table, event_state, event_set, type_of}
 use Rattle.rm_event.specs.declared.event_row.EventRow.{EventRow}
 use Rattle.rm_event.specs.EventRows.{set_to}
@@ -31,7 +32,7 @@ use Rattle.rm_pool.proofs.Spares.{eq_is, eq_itself}
 use Rattle.rm_status.proofs.RowFacts.{valid_there, valid_columns}
 use Rattle.rm_event.specs.Moments.{moments_more, valid_with, idle_with}
 
-type_again : (type : EventType) → numbered (number_of type) ≡ type
+type_again : (type : EventType) → variant numbering (number_of type) ≡ type
 type_again kind.None = refl
 type_again kind.Log = refl
 type_again kind.SnmpTrap = refl

@@ -1,19 +1,12 @@
 -- What an event does where it fires (RFC 1757, eventType).
-use Rattle.std.specs.Prelude.{ℕ, Bool, true, false, nat_eq, if◌then◌else◌}
+use Rattle.std.specs.Prelude.{ℕ, [], ◌∷◌, Bool, true, false}
 use Rattle.rm_val.specs.Val.{Val}
+use Rattle.rm_columns.specs.Numbering.{Numbering, variant}
 use Rattle.rm_columns.specs.Values.{natural_in}
 use Rattle.rm_event.specs.declared.event_type.EventType.{EventType}
 use Rattle.rm_event.specs.declared.event_type.EventType.TheVariants.{None, Log, SnmpTrap, LogAndTrap}
 use Rattle.rm_event.specs.declared.fired.Fired.{Fired}
 use Rattle.rm_event.specs.declared.fired.Fired.TheVariants as fired
-
--- the type with a number: none for every number that isn't one of the others'
-abbrev pub numbered : ℕ → EventType
-numbered number =
-    if nat_eq number 2 then Log
-    else if nat_eq number 3 then SnmpTrap
-    else if nat_eq number 4 then LogAndTrap
-    else None
 
 -- the number of a type
 abbrev pub number_of : EventType → ℕ
@@ -22,9 +15,13 @@ number_of Log = 2
 number_of SnmpTrap = 3
 number_of LogAndTrap = 4
 
+-- the types, none by default
+abbrev pub numbering : Numbering EventType
+numbering = record { number_of = number_of; first = None; others = Log ∷ SnmpTrap ∷ LogAndTrap ∷ [] }
+
 -- the type that a value is
 abbrev pub type_in : Val → EventType
-type_in value = numbered (natural_in value)
+type_in value = variant numbering (natural_in value)
 
 -- whether an event of that type is logged where it fires
 abbrev pub is_logged : EventType → Bool

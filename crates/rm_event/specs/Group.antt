@@ -12,20 +12,17 @@ use Rattle.rm_model.specs.declared.verdict.Verdict.TheVariants.{Fine}
 use Rattle.rm_status.specs.Rows.{rows_before}
 use Rattle.rm_group.specs.Listed.{ListedTable, alone_beside}
 use Rattle.rm_event.specs.declared.events.Events.{Events}
-use Rattle.rm_event.specs.Columns.{event_columns, log_columns}
+use Rattle.rm_event.specs.Columns.{event_columns}
 use Rattle.rm_event.specs.EventTable.{event_entry, event_table}
 use Rattle.rm_event.specs.EventRows.{set_to}
-use Rattle.rm_event.specs.Tables.{events_table, log_entry, log_table}
+use Rattle.rm_event.specs.Tables.{events_table, log_table, log_listed}
 
 -- the cells of eventTable and logTable after a journal
 abbrev pub event_cells : Counting → Journal → Cells
 event_cells settings journal name =
     option_or (cells_of (events_table settings journal) name) (cells_of (log_table settings journal) name)
 
--- logTable, and the tables of the group
-abbrev pub log_listed : ListedTable
-log_listed = record { entry = log_entry; columns = log_columns }
-
+-- the tables of the group
 abbrev pub event_tables : List ListedTable
 event_tables = record { entry = event_entry; columns = event_columns } ∷ log_listed ∷ []
 

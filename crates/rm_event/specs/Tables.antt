@@ -7,6 +7,7 @@ use Rattle.rm_model.specs.Journal.{Journal}
 use Rattle.rm_model.specs.Cells.{Table}
 use Rattle.rm_model.specs.ControlRows.{no_rows, is_valid}
 use Rattle.rm_model.specs.ControlCells.{control_cells}
+use Rattle.rm_group.specs.Listed.{ListedTable}
 use Rattle.rm_status.specs.RowsShown.{with_index}
 use Rattle.rm_status.specs.Rows.{row_number}
 use Rattle.rm_event.specs.Columns.{event_columns, log_columns}
@@ -25,6 +26,10 @@ events_table settings journal = control_cells event_table no_rows event_columns 
 -- the identifier of logEntry
 abbrev pub log_entry : List ℕ
 log_entry = 1 ∷ 3 ∷ 6 ∷ 1 ∷ 2 ∷ 1 ∷ 16 ∷ 9 ∷ 2 ∷ 1 ∷ []
+
+-- logTable, as the group lists it
+abbrev pub log_listed : ListedTable
+log_listed = record { entry = log_entry; columns = log_columns }
 
 -- the moments of the entries of an event's log, the newest first
 abbrev pub log_of : Counting → Journal → ℕ → List ℕ

@@ -9,10 +9,8 @@ ghost use Rattle.rm_event.specs.EventRows.{set_to};
 ghost use Rattle.rm_event.specs.Group.{AreFine, IsStocked, HasRoom, IsPrepared, IsReleased};
 ghost use Rattle.rm_event.specs.Standing.{Stands};
 
-use crate::event_row::{EVENT_STATUS, EventRow};
 use crate::events::Events;
 use crate::log::NoEntries;
-use rm_columns::ControlRow;
 use rm_group::{Assigns, Denied};
 use std::alloc::Global;
 
@@ -61,9 +59,7 @@ impl Events {
         requires { AreFine self.now (A.bindings set.now) }
         ensures { result ≡ count_valid_after event_table (rows_before event_table set_to self.now.rows) (A.bindings set.now) }
     {
-        self.rows
-            .rows_after(set, &EventRow::entry(), EVENT_STATUS)
-            .count_valid()
+        self.rows.rows_after(set).count_valid()
     }
 
     // The number, from 1, of the first binding that makes a row valid, of a Set after which more rows are valid than there is
@@ -75,9 +71,7 @@ impl Events {
     {
         prove!(self.rows.len() <= 32);
         prove!(self.logs.len() >= 1);
-        self.rows
-            .first_activated(set, &EventRow::entry(), EVENT_STATUS)
-            .unwrap()
+        self.rows.first_activated(set).unwrap()
     }
 
     /// Gives storage back, but for that of the valid rows, or of one row.
@@ -100,7 +94,7 @@ impl Events {
         ensures stocked { IsStocked self.old → IsStocked self.new }
     {
         prove!(self.rows.len() <= 32);
-        self.rows.commit(set, &EventRow::entry(), EVENT_STATUS);
+        self.rows.commit(set);
         self.logs.follow(&self.rows, &NoEntries);
     }
 }

@@ -49,25 +49,10 @@ pub struct EventRow {
     pub owner: ArrayVec<u8, MOST_TEXT>,
 }
 
-impl Default for EventRow {
-    ghost is_default = { λ row. row ≡ blank_row };
-
-    fn default() -> Self {
-        EventRow {
-            description: ArrayVec::new(),
-            event_type: EventType::None,
-            community: ArrayVec::new(),
-            owner: ArrayVec::new(),
-        }
-    }
-}
-
 impl ControlRow for EventRow {
     type Keys = OneNumber;
 
     ghost form = { event_rows };
-
-    ghost default_is_blank = { λ row is. is };
 
     ghost keyed = { (refl, refl) };
 
@@ -76,7 +61,12 @@ impl ControlRow for EventRow {
     }
 
     fn blank(_index: u32) -> Self {
-        EventRow::default()
+        EventRow {
+            description: ArrayVec::new(),
+            event_type: EventType::None,
+            community: ArrayVec::new(),
+            owner: ArrayVec::new(),
+        }
     }
 
     fn put(&mut self, column: u32, value: &Value<'_>) {

@@ -1,6 +1,6 @@
 // What an event does where it fires.
 ghost use Rattle.std.specs.Prelude.{◌≡◌};
-ghost use Rattle.rm_event.specs.EventType.{numbered, number_of, is_logged, fired_as};
+ghost use Rattle.rm_event.specs.EventType.{is_logged, fired_as};
 
 use crate::fired::Fired;
 use rm_columns::Numbered;
@@ -16,28 +16,6 @@ pub enum EventType {
     SnmpTrap = 3,
     /// log-and-trap: both.
     LogAndTrap = 4,
-}
-
-impl Numbered for EventType {
-    ghost number_of = { number_of };
-
-    ghost variant = { numbered };
-
-    fn number(self) -> i32 {
-        self as i32
-    }
-
-    fn numbered(number: u32) -> EventType {
-        if number == 2 {
-            EventType::Log
-        } else if number == 3 {
-            EventType::SnmpTrap
-        } else if number == 4 {
-            EventType::LogAndTrap
-        } else {
-            EventType::None
-        }
-    }
 }
 
 impl EventType {
@@ -61,5 +39,19 @@ impl EventType {
             EventType::SnmpTrap => Fired::Trap,
             EventType::LogAndTrap => Fired::Both,
         }
+    }
+}
+
+impl Numbered for EventType {
+    ghost use Rattle.rm_event.specs.EventType.{numbering};
+
+    ghost numbering = { numbering };
+
+    fn variants() -> &'static [EventType] {
+        &[Self::None, Self::Log, Self::SnmpTrap, Self::LogAndTrap]
+    }
+
+    fn number(self) -> i32 {
+        self as i32
     }
 }

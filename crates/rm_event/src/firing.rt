@@ -21,7 +21,7 @@ use crate::event_type::EventType;
 use crate::events::Events;
 use crate::fired::Fired;
 use crate::log::Log;
-use rm_model::{State, StatusKind};
+use rm_model::State;
 use rm_pool::Pool;
 use rm_status::Controls;
 use rm_val::NoMemory;
@@ -34,7 +34,7 @@ impl Events {
         ensures released { IsReleased result }
     {
         Events {
-            rows: Controls::new(StatusKind::EntryStatus),
+            rows: Controls::new(),
             logs: Pool::new(),
         }
     }

@@ -2,9 +2,8 @@
 
 use crate::entries::{Entries, LOG_OBJECTS};
 use crate::event_cell::Sent;
-use crate::event_row::{EVENT_OBJECTS, EVENT_STATUS, EventRow};
+use crate::event_row::EVENT_OBJECTS;
 use crate::events::Events;
-use rm_columns::ControlRow;
 use rm_group::{
     Assigns, Commits, Denied, Group, Look, TableObjects, Tables, judge_read_only, lower_verdict,
 };
@@ -64,13 +63,13 @@ impl Group for Events {
     }
 
     fn judge_alone<A: Assigns>(&self, set: &A) -> Verdict {
-        let rows = self.rows.judge_alone(set, &EventRow::entry(), EVENT_STATUS);
+        let rows = self.rows.judge_alone(set);
         let entries = judge_read_only(set, &Entries::entry(), Entries::columns());
         lower_verdict(rows, entries)
     }
 
     fn judge_rows<A: Assigns, L: Look>(&self, set: &A, _now: u32, _look: &L) -> Verdict {
-        self.rows.judge_rows(set, &EventRow::entry(), EVENT_STATUS)
+        self.rows.judge_rows(set)
     }
 
     fn prepare<A: Assigns, L: Look>(
@@ -100,8 +99,8 @@ impl Tables for Events {
     ghost use Rattle.rm_model.specs.Cells.{cells_of};
     ghost use Rattle.rm_event.specs.Columns.{event_columns};
     ghost use Rattle.rm_event.specs.EventTable.{event_table};
-    ghost use Rattle.rm_event.specs.Group.{event_tables, log_listed};
-    ghost use Rattle.rm_event.specs.Tables.{events_table, log_table};
+    ghost use Rattle.rm_event.specs.Group.{event_tables};
+    ghost use Rattle.rm_event.specs.Tables.{events_table, log_table, log_listed};
     ghost use Rattle.rm_group.specs.Listed.{is_settable, of_table, with_table, beside_listed};
 
     ghost tables = { event_tables };

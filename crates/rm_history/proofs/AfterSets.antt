@@ -1,25 +1,22 @@
 -- The rows and the histories after a Set with which nothing is wrong.
-use Rattle.std.proofs.Common.{◌^◌, ◌≡◌, ℕ, ◌<◌, ◌≤◌, List, [], ◌∷◌, length, Bool, true, false, cond, Option, Some, None, refl, sym, ◌∙◌, ap, subst, nat_eq, arith}
+use Rattle.std.proofs.Common.{◌≡◌, ℕ, ◌≤◌, List, [], ◌∷◌, Bool, true, false, cond, Option, Some, None, refl, sym, ◌∙◌, ap, subst, nat_eq, arith}
 use Rattle.std.specs.Prelude.{pos, is_some, unwrap_or}
 use Rattle.std.specs.Option.{option_and_then}
 use Rattle.std.proofs.lemmas.Bool.{and_from, and_left}
 use Rattle.rm_val.specs.Val.{Val, int, name}
 use Rattle.rm_model.specs.Counting.{Counting}
-use Rattle.rm_model.specs.Journal.{Assignments, Journal, assigns, frames_in, last_moment, value_given}
+use Rattle.rm_model.specs.Journal.{Assignments, Journal, assigns, frames_in, last_moment}
 use Rattle.rm_model.specs.Interfaces.{interface_name, frames_of}
 use Rattle.rm_model.specs.ControlTable.{default_of}
 use Rattle.rm_model.specs.ControlRows.{no_rows, set_ask, next_state, is_absent, is_valid, stays_valid, since, activated}
-use Rattle.rm_model.specs.Judgement.{Bindings, count_below, second_pass, is_always}
-use Rattle.rm_model.specs.Reserves.{count_valid, count_valid_after}
+use Rattle.rm_model.specs.Judgement.{Bindings, is_always}
 use Rattle.rm_model.specs.declared.row.State.TheVariants.{Absent, Valid}
 use Rattle.rm_status.specs.declared.row.Row.{Row}
-use Rattle.rm_status.specs.Rows.{row_in, rows_before, state_seen, columns_seen, state_in, AreControlRows}
-use Rattle.rm_status.specs.Commit.{row_after}
+use Rattle.rm_status.specs.Rows.{row_in, state_seen, columns_seen, state_in}
 use Rattle.rm_status.specs.RowsAfter.{AreRowsAfter}
-use Rattle.rm_status.proofs.Bares.{state_then}
-use Rattle.rm_status.proofs.Puts.{AllFine}
 use Rattle.rm_status.proofs.RowFacts.{valid_is, valid_there}
-use Rattle.rm_status.proofs.RowsAfterLemmas.{rows_assigns, since_starts, frames_kept, is_after}
+use Rattle.rm_status.proofs.RowsAfterLemmas.{since_starts, frames_kept, is_after}
+use Rattle.rm_status.proofs.Committed.{IsCommitted, rows_committed}
 use Rattle.rm_status.proofs.RowsThen.{column_stays}
 use Rattle.rm_history.specs.declared.control_columns.ControlColumns.{ControlColumns}
 use Rattle.rm_history.specs.declared.plan.Plan.{Plan}
@@ -54,19 +51,13 @@ module _ (rows : List (Row ControlColumns)) (journal : Journal) (is : AreRowsAft
   interval_is : int (pos row.columns.interval) ≡ control_set journal (i ∷ []) 5
   interval_is = ap (λ o. unwrap_or (option_and_then (λ c. set_to c 5) (columns_seen o)) (default_of history_control 5)) (sym here) ∙ (is.alike.columns i shown_at).1.1.0.shown
 
-module _ (settings : Counting) (journal : Journal) (now : ℕ) (bs : Bindings) (values : Assignments)
-    (later : last_moment journal ≤ now)
-    (gives : (name : List ℕ) → value_given values name ≡ value_given bs name)
-    (fine : AllFine history_control bs)
-    (rows new : List (Row ControlColumns)) (held : AreControlRows history_control rows)
-    (together : (k : ℕ) → k < length bs → second_pass history_control (rows_before history_control set_to rows) bs k ≡ None)
-    (after : (i : ℕ) → row_in new i ≡ row_after history_control with_column new_row bs i (row_in rows i))
-    (is : AreRowsAfter history_control no_rows set_to rows journal) where
+module _ (settings : Counting) (journal : Journal) (now : ℕ) (bs : Bindings) (values : Assignments) (later : last_moment journal ≤ now) (rows new : List (Row ControlColumns))
+    (set : IsCommitted control_rows no_rows journal values bs rows new) where
   abbrev with_set : Journal
   with_set = assigns now values ∷ journal
 
   pub rows_with_set : AreRowsAfter history_control no_rows set_to new with_set
-  rows_with_set = rows_assigns history_control no_rows set_to with_column new_row control_rows.set_with control_rows.blank_alike refl journal now bs values gives fine rows new held is after
+  rows_with_set = rows_committed control_rows no_rows journal now values bs rows new set
 
   module _ (i : ℕ) where
     abbrev place : List ℕ
@@ -84,18 +75,18 @@ module _ (settings : Counting) (journal : Journal) (now : ℕ) (bs : Bindings) (
       stays = and_from (is_valid (control_state journal place)) (is_valid (control_state with_set place)) old valid_now
 
       was_valid : state_in rows i ≡ Valid
-      was_valid = is.alike.states i ∙ valid_is (control_state journal place) old
+      was_valid = set.stood.alike.states i ∙ valid_is (control_state journal place) old
 
       next_is : (o p : Option (Row ControlColumns)) → row_in rows i ≡ o → row_in new i ≡ p → is_valid (next_state (set_ask history_control bs place) Valid) ≡ true
       next_is o None e k = let no : is_valid Absent ≡ true = ap (λ x. is_valid (state_seen x)) (sym k) ∙ valid in absurd (cc)
       next_is o (Some row) e k =
-          let next = is_after history_control with_column new_row bs i (row_in rows i) row (sym (after i) ∙ k) in
+          let next = is_after history_control with_column new_row bs i (row_in rows i) row (sym (set.after i) ∙ k) in
           ap (λ s. is_valid (next_state (set_ask history_control bs place) s)) (sym was_valid) ∙ sym (ap is_valid next.0) ∙ ap (λ x. is_valid (state_seen x)) (sym k) ∙ valid
 
       -- its columns are as they were, but for the owner
       same_column : (n : ℕ) → nat_eq n 7 ≡ false → is_always history_control n ≡ false → control_set with_set place n ≡ control_set journal place n
       same_column n column fixed =
-          column_stays history_control no_rows set_to journal now bs values gives rows together is i n column fixed old (next_is (row_in rows i) (row_in new i) refl refl)
+          column_stays history_control no_rows set_to journal now bs values set.gives rows set.together set.stood i n column fixed old (next_is (row_in rows i) (row_in new i) refl refl)
 
       same_plan : plan_of with_set place ≡ plan_of journal place
       same_plan =
@@ -207,7 +198,3 @@ module _ (last now frames : ℕ) (later : last ≤ now) where
       → AllFit now frames then
   all_fit_then rows runs then fits of_valid kept begun row =
       fit_at (part_in runs row) (part_in then row) (row_in rows row) (valid_in rows row) refl (of_valid row) (fits row) (kept row) (begun row)
-
--- as many rows are valid after a Set as it says
-pub count_then : (bs : Bindings) (rows new : List (Row ControlColumns)) → ((i : ℕ) → row_in new i ≡ row_after history_control with_column new_row bs i (row_in rows i)) → count_valid history_control (rows_before history_control set_to new) ≡ count_valid_after history_control (rows_before history_control set_to rows) bs
-count_then bs rows new after = ap (λ p. count_below p (2 ^ 32)) (λ d row. ap is_valid (ap state_seen (after row) ∙ state_then history_control with_column new_row bs row (row_in rows row)) d)

@@ -5,6 +5,7 @@ use Rattle.rm_model.specs.Counting.{Counting}
 use Rattle.rm_model.specs.Journal.{Journal}
 use Rattle.rm_model.specs.Cells.{Table}
 use Rattle.rm_model.specs.ControlRows.{is_valid}
+use Rattle.rm_group.specs.Listed.{ListedTable}
 use Rattle.rm_ether.specs.declared.counter.Counter.{Counter}
 use Rattle.rm_ether.specs.declared.counter.Counter.TheVariants.{Octets, Pkts}
 use Rattle.rm_history.specs.Columns.{sample_columns, counter_in}
@@ -14,6 +15,10 @@ use Rattle.rm_history.specs.HistoryControl.{control_state, plan_of, counted_fram
 -- the identifier of etherHistoryEntry
 abbrev pub sample_entry : List ℕ
 sample_entry = 1 ∷ 3 ∷ 6 ∷ 1 ∷ 2 ∷ 1 ∷ 16 ∷ 2 ∷ 2 ∷ 1 ∷ []
+
+-- etherHistory, as the group lists it
+abbrev pub sample_listed : ListedTable
+sample_listed = record { entry = sample_entry; columns = sample_columns }
 
 -- whether these numbers are those of a valid control row and of a bucket of it that is shown at a moment
 abbrev pub is_sample : Journal → ℕ → List ℕ → Bool

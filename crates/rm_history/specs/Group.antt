@@ -13,9 +13,9 @@ use Rattle.rm_group.specs.Alone.{AreFineAlone}
 use Rattle.rm_group.specs.Listed.{ListedTable, alone_beside}
 use Rattle.rm_status.specs.RowsAfter.{AreRowsAfter}
 use Rattle.rm_history.specs.declared.history.History.{History}
-use Rattle.rm_history.specs.Columns.{control_columns, sample_columns}
+use Rattle.rm_history.specs.Columns.{control_columns}
 use Rattle.rm_history.specs.HistoryControl.{control_entry, history_control}
-use Rattle.rm_history.specs.EtherHistory.{sample_entry}
+use Rattle.rm_history.specs.EtherHistory.{sample_listed}
 use Rattle.rm_history.specs.ControlColumns.{set_to}
 use Rattle.rm_history.specs.Standing.{AreHistories}
 
@@ -33,10 +33,7 @@ pub record Stands (history : History) (settings : Counting) (journal : Journal) 
   pub rows : AreRowsAfter history_control no_rows set_to history.rows journal
   pub histories : AreHistories history.runs settings journal
 
--- etherHistory, and the tables of the group
-abbrev pub sample_listed : ListedTable
-sample_listed = record { entry = sample_entry; columns = sample_columns }
-
+-- the tables of the group
 abbrev pub history_tables : List ListedTable
 history_tables = record { entry = control_entry; columns = control_columns } ∷ sample_listed ∷ []
 

@@ -5,9 +5,7 @@ ghost use Rattle.rm_model.specs.Journal.{Assignments, Journal, assigns, last_mom
 ghost use Rattle.rm_history.specs.Group.{Stands, IsPrepared, IsReleased, IsStocked, frames_given, last_given};
 
 use crate::beginning::Beginning;
-use crate::control_columns::{ControlColumns, STATUS};
 use crate::history::History;
-use rm_columns::ControlRow;
 use rm_group::Assigns;
 
 impl History {
@@ -27,7 +25,7 @@ impl History {
         ensures released { IsReleased self.new }
     {
         prove!(self.rows.len() <= 32);
-        self.rows.commit(set, &ControlColumns::entry(), STATUS);
+        self.rows.commit(set);
         prove!(self.rows.len() <= 32);
         let rows = &self.rows;
         self.runs.follow(rows, &Beginning { rows, now });

@@ -51,25 +51,10 @@ pub struct ControlColumns {
     pub owner: ArrayVec<u8, MOST_OWNER>,
 }
 
-impl Default for ControlColumns {
-    ghost is_default = { λ columns. columns ≡ blank_columns };
-
-    fn default() -> Self {
-        ControlColumns {
-            source: 1,
-            requested: 50,
-            interval: 1800,
-            owner: ArrayVec::new(),
-        }
-    }
-}
-
 impl ControlRow for ControlColumns {
     type Keys = OneNumber;
 
     ghost form = { control_rows };
-
-    ghost default_is_blank = { λ columns is. is };
 
     ghost keyed = { (refl, refl) };
 
@@ -78,7 +63,12 @@ impl ControlRow for ControlColumns {
     }
 
     fn blank(_index: u32) -> Self {
-        ControlColumns::default()
+        ControlColumns {
+            source: 1,
+            requested: 50,
+            interval: 1800,
+            owner: ArrayVec::new(),
+        }
     }
 
     fn put(&mut self, column: u32, value: &Value<'_>) {

@@ -3,11 +3,10 @@ ghost use Rattle.std.specs.Prelude.{◌∷◌};
 ghost use Rattle.std.specs.Option.{option_or};
 
 use crate::control_cell::BucketsGranted;
-use crate::control_columns::{CONTROL_OBJECTS, ControlColumns, STATUS};
+use crate::control_columns::CONTROL_OBJECTS;
 use crate::history::History;
 use crate::samples::{SAMPLE_OBJECTS, Samples};
 use rm_acts::Firing;
-use rm_columns::ControlRow;
 use rm_group::{
     Assigns, Commits, Denied, Group, Look, NeverDue, Passing, Readable, Steps, TableObjects,
     Tables, Unsampled, judge_read_only, lower_verdict,
@@ -69,13 +68,13 @@ impl Group for History {
     }
 
     fn judge_alone<A: Assigns>(&self, set: &A) -> Verdict {
-        let control = self.rows.judge_alone(set, &ControlColumns::entry(), STATUS);
+        let control = self.rows.judge_alone(set);
         let samples = judge_read_only(set, &Samples::entry(), Samples::columns());
         lower_verdict(control, samples)
     }
 
     fn judge_rows<A: Assigns, L: Look>(&self, set: &A, _now: u32, _look: &L) -> Verdict {
-        self.rows.judge_rows(set, &ControlColumns::entry(), STATUS)
+        self.rows.judge_rows(set)
     }
 
     fn prepare<A: Assigns, L: Look>(
@@ -104,8 +103,8 @@ impl Tables for History {
     ghost use Rattle.rm_model.specs.Cells.{cells_of};
     ghost use Rattle.rm_history.specs.Columns.{control_columns};
     ghost use Rattle.rm_history.specs.HistoryControl.{history_control, control_table};
-    ghost use Rattle.rm_history.specs.EtherHistory.{sample_table};
-    ghost use Rattle.rm_history.specs.Group.{history_tables, sample_listed};
+    ghost use Rattle.rm_history.specs.EtherHistory.{sample_listed, sample_table};
+    ghost use Rattle.rm_history.specs.Group.{history_tables};
     ghost use Rattle.rm_group.specs.Listed.{is_settable, of_table, with_table, beside_listed};
 
     ghost tables = { history_tables };

@@ -10,7 +10,6 @@ use crate::control_columns::ControlColumns;
 use crate::counted_frame::CountedFrame;
 use crate::run::Run;
 use rm_group::{MOST_FRAMES, MOST_OCTETS};
-use rm_model::StatusKind;
 use rm_pool::Pool;
 use rm_proto::Facts;
 use rm_status::Controls;
@@ -45,7 +44,7 @@ impl History {
         ensures last { last_given result ≡ 0 }
     {
         History {
-            rows: Controls::new(StatusKind::EntryStatus),
+            rows: Controls::new(),
             runs: Pool::new(),
             frames: 0,
             last: 0,

@@ -10,9 +10,7 @@ ghost use Rattle.rm_history.specs.HistoryControl.{history_control};
 ghost use Rattle.rm_history.specs.ControlColumns.{set_to};
 ghost use Rattle.rm_history.specs.Group.{Stands, AreFine, IsStocked, IsPrepared, IsReleased, frames_given, last_given};
 
-use crate::control_columns::{ControlColumns, STATUS};
 use crate::history::History;
-use rm_columns::ControlRow;
 use rm_group::{Assigns, Denied};
 use rm_val::NoMemory;
 use std::alloc::Global;
@@ -35,10 +33,7 @@ impl History {
     {
         prove!(self.rows.len() <= 32);
         prove!(self.runs.len() >= 1);
-        let Some(index) = self
-            .rows
-            .first_activated(set, &ControlColumns::entry(), STATUS)
-        else {
+        let Some(index) = self.rows.first_activated(set) else {
             return Ok(());
         };
         let count = self.count_after(set);
@@ -69,7 +64,7 @@ impl History {
         requires { AreFine self.now (A.bindings set.now) }
         ensures { result ≡ count_valid_after history_control (rows_before history_control set_to self.now.rows) (A.bindings set.now) }
     {
-        let after = self.rows.rows_after(set, &ControlColumns::entry(), STATUS);
+        let after = self.rows.rows_after(set);
         after.count_valid()
     }
 }

@@ -1,8 +1,9 @@
 -- The rows of a control table after a journal, each by the numbers of its index.
-use Rattle.std.specs.Prelude.{ℕ, ℤ, pos, List, [], ◌∷◌, ◌++◌, Bool, true, false, ◌&&◌, nat_eq, if◌then◌else◌, Option, Some, None, unwrap_or}
+use Rattle.std.specs.Prelude.{ℕ, ℤ, pos, List, [], ◌∷◌, ◌++◌, Bool, true, false, ◌&&◌, if◌then◌else◌, Option, Some, None, unwrap_or}
 use Rattle.std.specs.Option.{option_or}
 use Rattle.std.specs.Str.{bytes_eq}
 use Rattle.rm_val.specs.Val.{Val, int, null}
+use Rattle.rm_model.specs.Numbers.{by_number}
 use Rattle.rm_model.specs.Journal.{Act, passes, assigns, samples, Assignments, Journal, moment_of, value_given}
 use Rattle.rm_model.specs.ControlTable.{ControlTable, default_of}
 use Rattle.rm_model.specs.declared.row.StatusKind.{StatusKind}
@@ -12,29 +13,18 @@ use Rattle.rm_model.specs.declared.row.State.TheVariants.{Absent, UnderCreation,
 use Rattle.rm_model.specs.declared.row.Ask.{Ask}
 use Rattle.rm_model.specs.declared.row.Ask.TheVariants.{Nothing, Create, CreateValid, Enable, Disable, Destroy}
 
--- what a number asks as an EntryStatus (RFC 1757): valid, createRequest, underCreation, invalid
-abbrev pub entry_status_ask : ℕ → Ask
-entry_status_ask n =
-    if nat_eq n 1 then Enable
-    else if nat_eq n 2 then Create
-    else if nat_eq n 3 then Disable
-    else if nat_eq n 4 then Destroy
-    else Nothing
+-- what each number asks as an EntryStatus (RFC 1757): valid, createRequest, underCreation, invalid
+abbrev pub entry_status_asks : List (ℕ × Ask)
+entry_status_asks = (1, Enable) ∷ (2, Create) ∷ (3, Disable) ∷ (4, Destroy) ∷ []
 
--- what a number asks as a RowStatus (RFC 1903): active, notInService, createAndGo, createAndWait, destroy
-abbrev pub row_status_ask : ℕ → Ask
-row_status_ask n =
-    if nat_eq n 1 then Enable
-    else if nat_eq n 2 then Disable
-    else if nat_eq n 4 then CreateValid
-    else if nat_eq n 5 then Create
-    else if nat_eq n 6 then Destroy
-    else Nothing
+-- what each number asks as a RowStatus (RFC 1903): active, notInService, createAndGo, createAndWait, destroy
+abbrev pub row_status_asks : List (ℕ × Ask)
+row_status_asks = (1, Enable) ∷ (2, Disable) ∷ (4, CreateValid) ∷ (5, Create) ∷ (6, Destroy) ∷ []
 
--- what a number asks, by the kind of status
+-- what a number asks, by the kind of status; every other one asks nothing
 abbrev pub number_ask : StatusKind → ℕ → Ask
-number_ask EntryStatus n = entry_status_ask n
-number_ask RowStatus n = row_status_ask n
+number_ask EntryStatus n = by_number entry_status_asks Nothing n
+number_ask RowStatus n = by_number row_status_asks Nothing n
 
 -- what the value that a Set gives to a status asks, if it gives it one
 abbrev pub value_ask : StatusKind → Option Val → Ask

@@ -11,8 +11,9 @@ use Rattle.rm_model.specs.ControlRows.{set_ask, next_state}
 use Rattle.rm_model.specs.Judgement.{Bindings}
 use Rattle.rm_status.specs.Commit.{put_all, if_there, row_after}
 use Rattle.rm_status.specs.declared.row.Row.{Row}
-use Rattle.rm_status.specs.Rows.{number_in, row_in, state_seen, columns_seen, rows_before, AllAbove, Rising, AllThere, AreControlRows}
+use Rattle.rm_status.specs.Rows.{number_in, row_in, state_seen, columns_seen, rows_before, AreControlRows}
 use Rattle.rm_status.specs.Bare.{bare_row, bare_rows}
+use Rattle.rm_status.proofs.RowEdits.{rows-map, row_in-map}
 
 module _ {C : Type 0} (set_to : C → ℕ → Option Val) where
   taken_more : {X Y : Type 0} (f : X → Y) (xs : List X) (k : ℕ) (d : X) → k < length xs → map f (take (suc k) xs) ≡ map f (take k xs) ++ f (get_or xs k d) ∷ []
@@ -26,10 +27,6 @@ module _ {C : Type 0} (set_to : C → ℕ → Option Val) where
       ap (bare_rows set_to) is ∙ map-append (bare_row set_to) bare (x ∷ []) ∙ ap (λ l. l ++ bare_row set_to x ∷ []) before
       ∙ ap (λ r. bare_rows set_to (take k rows) ++ r ∷ []) same ∙ sym (taken_more (bare_row set_to) rows k d lt) ∙ ap (λ n. bare_rows set_to (take n rows)) (sym (add-one k))
 
-  row_in-bare : (rows : List (Row C)) (i : ℕ) → row_in (bare_rows set_to rows) i ≡ option_map (bare_row set_to) (row_in rows i)
-  row_in-bare [] i = refl
-  row_in-bare (r ∷ rows) i = elim (nat_eq r.index i) as (λ t. cond t (Some (bare_row set_to r)) (row_in (bare_rows set_to rows) i) ≡ option_map (bare_row set_to) (cond t (Some r) (row_in rows i))) [ true ↦ refl | false ↦ row_in-bare rows i ]
-
   state_of_bare : (o : Option (Row C)) → state_seen (option_map (bare_row set_to) o) ≡ state_seen o
   state_of_bare None = refl
   state_of_bare (Some r) = refl
@@ -40,43 +37,18 @@ module _ {C : Type 0} (set_to : C → ℕ → Option Val) where
 
   before_bare : (table : ControlTable) (rows : List (Row C)) → rows_before table (λ c. c) (bare_rows set_to rows) ≡ rows_before table set_to rows
   before_bare table rows = λ d. record {
-    state = λ index. (ap state_seen (row_in-bare rows (number_in table index)) ∙ state_of_bare (row_in rows (number_in table index))) d;
-    set = λ index n. (ap (λ o. option_and_then (λ c. c n) (columns_seen o)) (row_in-bare rows (number_in table index)) ∙ set_of_bare (row_in rows (number_in table index)) n) d;
+    state = λ index. (ap state_seen (row_in-map (bare_row set_to) (λ r. refl) rows (number_in table index)) ∙ state_of_bare (row_in rows (number_in table index))) d;
+    set = λ index n. (ap (λ o. option_and_then (λ c. c n) (columns_seen o)) (row_in-map (bare_row set_to) (λ r. refl) rows (number_in table index)) ∙ set_of_bare (row_in rows (number_in table index)) n) d;
   }
 
   -- a Set finds the same rows
   pub same_before : (table : ControlTable) (rows bare : List (Row C)) → bare_rows set_to bare ≡ bare_rows set_to rows → rows_before table set_to bare ≡ rows_before table set_to rows
   same_before table rows bare same = sym (before_bare table bare) ∙ ap (rows_before table (λ c. c)) same ∙ before_bare table rows
 
-  above-bare : (i : ℕ) (rows : List (Row C)) → AllAbove i rows → AllAbove i (bare_rows set_to rows)
-  above-bare i [] h = tt
-  above-bare i (r ∷ rows) h = (h.0, above-bare i rows h.1)
-
-  above-full : (i : ℕ) (rows : List (Row C)) → AllAbove i (bare_rows set_to rows) → AllAbove i rows
-  above-full i [] h = tt
-  above-full i (r ∷ rows) h = (h.0, above-full i rows h.1)
-
-  rising-bare : (rows : List (Row C)) → Rising rows → Rising (bare_rows set_to rows)
-  rising-bare [] h = tt
-  rising-bare (r ∷ rows) h = (above-bare r.index rows h.0, rising-bare rows h.1)
-
-  rising-full : (rows : List (Row C)) → Rising (bare_rows set_to rows) → Rising rows
-  rising-full [] h = tt
-  rising-full (r ∷ rows) h = (above-full r.index rows h.0, rising-full rows h.1)
-
-  there-bare : (table : ControlTable) (rows : List (Row C)) → AllThere table rows → AllThere table (bare_rows set_to rows)
-  there-bare table [] h = tt
-  there-bare table (r ∷ rows) h = (h.0, there-bare table rows h.1)
-
-  there-full : (table : ControlTable) (rows : List (Row C)) → AllThere table (bare_rows set_to rows) → AllThere table rows
-  there-full table [] h = tt
-  there-full table (r ∷ rows) h = (h.0, there-full table rows h.1)
-
   pub are_rows : (table : ControlTable) (rows bare : List (Row C)) → bare_rows set_to bare ≡ bare_rows set_to rows → AreControlRows table rows → AreControlRows table bare
-  are_rows table rows bare same h = (
-    rising-full bare (subst Rising (sym same) (rising-bare rows h.0)),
-    there-full table bare (subst (AllThere table) (sym same) (there-bare table rows h.1)),
-  )
+  are_rows table rows bare same h =
+      (rows-map (bare_row set_to) (λ r. refl) table (λ r. refl) bare).1
+      (subst (AreControlRows table) (sym same) ((rows-map (bare_row set_to) (λ r. refl) table (λ r. refl) rows).0 h))
 
 module _ {C : Type 0} (t : ControlTable) (with_column : C → ℕ → Val → C) (blank : ℕ → C) (bs : Bindings) where
   if_there_state : (i : ℕ) (s : State) (c : C) → state_seen (if_there t with_column blank (record { index = i; state = s; columns = c })) ≡ s

@@ -51,7 +51,7 @@ bound_at (b ∷ more) name value e =
       | false ↦ λ _ later. let rest = bound_at more name value later in (suc rest.0, record { within = omega (arith, rest.1.within); named = rest.1.named; given = rest.1.given })
     ] refl e
 
-place_of_cell : (t : ControlTable) (n i : ℕ) → place_of t (cell_name t.entry n (row_index t i)) ≡ Cell n i
+pub place_of_cell : (t : ControlTable) (n i : ℕ) → place_of t (cell_name t.entry n (row_index t i)) ≡ Cell n i
 place_of_cell t n i = ap (place_behind t) (behind_front t.entry (n ∷ row_index t i)) ∙ ap (place_in n) (t.indexed.back i)
 
 -- nothing is wrong alone with the value that a Set gives to a column

@@ -96,8 +96,8 @@ module _ {C : Type 0} (t : ControlTable) (with_column : C → ℕ → Val → C)
 
   pub rows_then : (rows : List (Row C)) → AreControlRows t rows → AreControlRows t (filter_map (settle_row t with_column blank bs) (map (write_row t with_column blank bs) rows))
   rows_then rows h = (
-    rising-filter (settle_row t with_column blank bs) (settle_index t with_column blank bs) (map (write_row t with_column blank bs) rows) (rising-map (write_row t with_column blank bs) (λ r. refl) rows h.0),
-    there-filter (settle_row t with_column blank bs) (settle_index t with_column blank bs) t (settle_there t with_column blank bs) (map (write_row t with_column blank bs) rows) (there-map (write_row t with_column blank bs) (λ r. refl) t (λ r. refl) rows h.1),
+    rising-filter (settle_row t with_column blank bs) (settle_index t with_column blank bs) (map (write_row t with_column blank bs) rows) ((rising-map (write_row t with_column blank bs) (λ r. refl) rows).0 h.0),
+    there-filter (settle_row t with_column blank bs) (settle_index t with_column blank bs) t (settle_there t with_column blank bs) (map (write_row t with_column blank bs) rows) ((there-map (write_row t with_column blank bs) (λ r. refl) t (λ r. refl) rows).0 h.1),
   )
 
   -- a row with the bindings in it, in its next state
@@ -123,7 +123,7 @@ module _ {C : Type 0} (t : ControlTable) (with_column : C → ℕ → Val → C)
   -- what the whole commit leaves
   pub committed : (init rows : List (Row C)) → AreControlRows t rows → ((i : ℕ) → row_in rows i ≡ made_first init (length bs) i) → (i : ℕ) → row_in (filter_map (settle_row t with_column blank bs) (map (write_row t with_column blank bs) rows)) i ≡ row_after t with_column blank bs i (row_in init i)
   committed init rows h made i =
-      row_in-filter (settle_row t with_column blank bs) (settle_index t with_column blank bs) (map (write_row t with_column blank bs) rows) i (rising-map (write_row t with_column blank bs) (λ r. refl) rows h.0)
+      row_in-filter (settle_row t with_column blank bs) (settle_index t with_column blank bs) (map (write_row t with_column blank bs) rows) i ((rising-map (write_row t with_column blank bs) (λ r. refl) rows).0 h.0)
       ∙ ap (then_f (settle_row t with_column blank bs) (settle_index t with_column blank bs)) (row_in-map (write_row t with_column blank bs) (λ r. refl) rows i)
       ∙ ap after (made i ∙ ap (λ l. option_or (row_in init i) (cond (list_any (is_status t i) l) (made_row t with_column blank bs i) None)) (take-length bs) ∙ ap (option_or (row_in init i)) (all_made i))
       ∙ after_is init i (row_in init i) refl

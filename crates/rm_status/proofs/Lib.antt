@@ -16,8 +16,10 @@ pub mod Rooms
 pub mod After
 pub mod IndexLemmas
 pub mod RowsAfterLemmas
+pub mod Committed
 pub mod Bound
 pub mod Valid
+pub mod OfRows
 pub mod Bares
 pub mod KeptCellsLaws
 pub mod RowFacts

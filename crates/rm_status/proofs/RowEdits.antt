@@ -1,14 +1,16 @@
 -- Edits of rows in order of their indexes.
 use Rattle.std.proofs.Common.{◌≡◌, ℕ, ◌<◌, ◌≤◌, ◌+◌, suc, true, false, cond, not, nat_lt, List, [], ◌∷◌, length, map, Option, Some, None, nat_eq, refl, sym, ap, subst, ◌∙◌, arith}
-use Rattle.std.specs.Prelude.{insert, remove}
+use Rattle.std.specs.Prelude.{◌↔◌, insert, remove}
 use Rattle.std.specs.List.{position_or_len, find, filter_map, cons_option}
 use Rattle.std.specs.Option.{option_map}
 use Rattle.std.proofs.Math.Numerals.{one-add}
 use Rattle.std.proofs.lemmas.Bool.Decides.{nat_tests}
 use borrow.Author.Tests.{eqb-true, eq-eqb}
 use Rattle.rm_model.specs.ControlTable.{ControlTable}
+use Rattle.rm_model.specs.ControlRows.{is_absent}
+use Rattle.rm_model.specs.Judgement.{is_row_number}
 use Rattle.rm_status.specs.declared.row.Row.{Row}
-use Rattle.rm_status.specs.Rows.{row_in, place_in, AllAbove, Rising, IsIndexAfter, IsThere, AllThere}
+use Rattle.rm_status.specs.Rows.{row_in, place_in, AllAbove, Rising, IsIndexAfter, IsThere, AllThere, AreControlRows}
 
 pub eq_less : (a b : ℕ) → a < b → nat_eq a b ≡ false
 eq_less a b h = grind (arith, nat_tests)
@@ -167,18 +169,34 @@ module _ {C : Type 0} where
   length-with_row (r ∷ rows) x = elim (nat_lt x.index r.index) as (λ t. length (cond t (x ∷ (r ∷ rows)) (r ∷ with_row rows x)) ≡ suc (length rows) + 1) [ true ↦ omega arith | false ↦ omega (arith, length-with_row rows x) ]
 
   -- each row changed, its index kept
-  module _ (f : Row C → Row C) (same : (r : Row C) → (f r).index ≡ r.index) where
-    above-map : (i : ℕ) (rows : List (Row C)) → AllAbove i rows → AllAbove i (map f rows)
-    above-map i [] h = tt
-    above-map i (r ∷ rows) h = (rw (same r) h.0, above-map i rows h.1)
+  module _ {D : Type 0} (f : Row C → Row D) (same : (r : Row C) → (f r).index ≡ r.index) where
+    above-map : (i : ℕ) (rows : List (Row C)) → AllAbove i rows ↔ AllAbove i (map f rows)
+    above-map i [] = (λ h. h, λ h. h)
+    above-map i (r ∷ rows) = (
+      λ h. (subst (λ (n : ℕ). i < n) (sym (same r)) h.0, (above-map i rows).0 h.1),
+      λ h. (subst (λ (n : ℕ). i < n) (same r) h.0, (above-map i rows).1 h.1),
+    )
 
-    pub rising-map : (rows : List (Row C)) → Rising rows → Rising (map f rows)
-    rising-map [] h = tt
-    rising-map (r ∷ rows) h = (rw (same r) (above-map r.index rows h.0), rising-map rows h.1)
+    pub rising-map : (rows : List (Row C)) → Rising rows ↔ Rising (map f rows)
+    rising-map [] = (λ h. h, λ h. h)
+    rising-map (r ∷ rows) = (
+      λ h. (subst (λ (n : ℕ). AllAbove n (map f rows)) (sym (same r)) ((above-map r.index rows).0 h.0), (rising-map rows).0 h.1),
+      λ h. ((above-map r.index rows).1 (subst (λ (n : ℕ). AllAbove n (map f rows)) (same r) h.0), (rising-map rows).1 h.1),
+    )
 
-    pub there-map : (table : ControlTable) → ((r : Row C) → (f r).state ≡ r.state) → (rows : List (Row C)) → AllThere table rows → AllThere table (map f rows)
-    there-map table kept [] h = tt
-    there-map table kept (r ∷ rows) h = (((rw (same r) h.0.0), (rw (kept r) h.0.1)), there-map table kept rows h.1)
+    pub there-map : (table : ControlTable) → ((r : Row C) → (f r).state ≡ r.state) → (rows : List (Row C)) → AllThere table rows ↔ AllThere table (map f rows)
+    there-map table kept [] = (λ h. h, λ h. h)
+    there-map table kept (r ∷ rows) = (
+      λ h. ((ap (is_row_number table) (same r) ∙ h.0.0, ap is_absent (kept r) ∙ h.0.1), (there-map table kept rows).0 h.1),
+      λ h. ((ap (is_row_number table) (sym (same r)) ∙ h.0.0, ap is_absent (sym (kept r)) ∙ h.0.1), (there-map table kept rows).1 h.1),
+    )
+
+    -- they are the rows of a control table exactly where those were, of which they come
+    pub rows-map : (table : ControlTable) → ((r : Row C) → (f r).state ≡ r.state) → (rows : List (Row C)) → AreControlRows table rows ↔ AreControlRows table (map f rows)
+    rows-map table kept rows = (
+      λ h. ((rising-map rows).0 h.0, (there-map table kept rows).0 h.1),
+      λ h. ((rising-map rows).1 h.0, (there-map table kept rows).1 h.1),
+    )
 
     pub row_in-map : (rows : List (Row C)) (i : ℕ) → row_in (map f rows) i ≡ option_map f (row_in rows i)
     row_in-map [] i = refl

@@ -9,12 +9,11 @@ use Rattle.rm_status.specs.contracts.row.Row as row
 use Rattle.rm_status.specs.contracts.controls.Controls.{the_row}
 use Rattle.rm_columns.specs.declared.control_row.ControlRow as ControlRow
 use Rattle.rm_columns.specs.declared.row_keys.RowKeys as RowKeys
-use Rattle.std.specs.declared.default.Default as Default
 
 -- the row of that index ends with the columns last written through r
-abbrev pub lends_columns : (C Keys : RattleType) (columns : ControlRow.Ghosts C.Denot Keys.Denot) (blank : Default.Ghosts C.Denot) (keys : RowKeys.Ghosts Keys.Denot)
+abbrev pub lends_columns : (C Keys : RattleType) (columns : ControlRow.Ghosts C.Denot Keys.Denot) (keys : RowKeys.Ghosts Keys.Denot)
     → MutBor (List (Row C.Denot)) → ℕ → Option (MutBor C.Denot) → Fml
-lends_columns C Keys columns blank keys rows i r = LendsIf (the_row C Keys columns blank keys) C rows r (with_columns rows.now i) rows.now
+lends_columns C Keys columns keys rows i r = LendsIf (the_row C Keys columns keys) C rows r (with_columns rows.now i) rows.now
 
 -- the row at that place does
 abbrev pub lends_columns_at : (C N A : RattleType) → MutBor (ArrayVec (Row C.Denot)) → ℕ → Option (MutBor C.Denot) → Fml

@@ -5,6 +5,7 @@ pub mod MadeUp
 pub mod Change
 pub mod Indexes
 pub mod RowsAfter
+pub mod OfRows
 pub mod Bare
 pub mod KeptCells
 pub mod RowsShown

@@ -22,7 +22,7 @@ ghost use Rattle.rm_status.specs.Lending.{lends_columns, lends_columns_at};
 use crate::row::Row;
 use arrayvec::ArrayVec;
 use rm_columns::ControlRow;
-use rm_model::{State, StatusKind};
+use rm_model::State;
 use rm_val::Oid;
 use std::marker::Model;
 
@@ -33,7 +33,6 @@ pub const MAX_ROWS: usize = 32;
 #[derive(Drop)]
 pub struct Controls<C: ControlRow> {
     rows: ArrayVec<Row<C>, MAX_ROWS>,
-    kind: StatusKind,
 }
 
 impl<C: ControlRow> Model for Controls<C> {
@@ -45,18 +44,16 @@ impl<C: ControlRow> Model for Controls<C> {
 
     ghost view = { λ s. s.rows.items };
 
-    ghost invariant = { λ s. (s.kind ≡ C.form.table.status_kind) × AreControlRows C.form.table s.rows.items };
+    ghost invariant = { λ s. AreControlRows C.form.table s.rows.items };
 }
 
 impl<C: ControlRow> Controls<C> {
-    /// A table without rows. Its status column is of the kind that the table's is.
-    pub fn new(kind: StatusKind) -> Controls<C>
-        requires { kind ≡ C.form.table.status_kind }
+    /// A table without rows.
+    pub fn new() -> Controls<C>
         ensures { result ≡ [] }
     {
         Controls {
             rows: ArrayVec::new(),
-            kind,
         }
     }
 
@@ -101,7 +98,7 @@ impl<C: ControlRow> Controls<C> {
 
     /// Lends the columns of a row for writing. Its state and all other rows stay. None where there is no such row.
     pub fn get_mut(&mut self, index: u32) -> Option<&mut C>
-        ensures* writes_back { sem 𝓛 (lends_columns C.row C.Keys.row C.ControlRow.own C.Default C.Keys.RowKeys self.entry index result) }
+        ensures* writes_back { sem 𝓛 (lends_columns C.row C.Keys.row C.ControlRow.own C.Keys.RowKeys self.entry index result) }
         ensures value { IfSome result (λ c. columns_in self.old index ≡ Some c.now) }
         ensures none { IfNone result (columns_in self.old index ≡ None) }
     {

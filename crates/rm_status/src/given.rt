@@ -15,28 +15,20 @@ use crate::steps::{
 };
 use rm_columns::{ControlRow, check, may_always};
 use rm_group::{Assigns, wrong_at};
-use rm_model::{Ask, Place, State, StatusKind, Verdict};
+use rm_model::{Ask, Place, State, Verdict};
 use rm_val::{ErrorStatus, Oid, Value};
 
 /// What a Set asks of a row.
-pub(crate) fn set_ask<C: ControlRow, A: Assigns>(
-    kind: StatusKind,
-    set: &A,
-    entry: &Oid,
-    status: u32,
-    row: u32,
-) -> Ask
-    requires kind { kind ≡ C.form.table.status_kind }
-    requires entry { entry.now ≡ C.form.table.entry }
-    requires status { status ≡ C.form.table.status }
+pub(crate) fn set_ask<C: ControlRow, A: Assigns>(set: &A, entry: &Oid, row: u32) -> Ask
+    requires { entry.now ≡ C.form.table.entry }
     ensures { result ≡ set_ask C.form.table (A.bindings set.now) (row_index C.form.table row) }
 {
     let count = set.count();
     for place in 0..count {
         let name = set.name(place);
-        if is_cell::<C>(&name, entry, status, row) {
+        if is_cell::<C>(&name, entry, C::status(), row) {
             let value = set.value(place);
-            return value_ask(kind, &value);
+            return value_ask(C::kind(), &value);
         }
     }
     Ask::Nothing
@@ -58,42 +50,28 @@ pub(crate) fn is_again<A: Assigns>(set: &A, place: usize) -> bool
 }
 
 /// What is wrong with a value for a column.
-fn column_value_fault<C: ControlRow>(
-    kind: StatusKind,
-    status: u32,
-    column: u32,
-    value: &Value<'_>,
-) -> Option<ErrorStatus>
-    requires kind { kind ≡ C.form.table.status_kind }
-    requires status { status ≡ C.form.table.status }
+fn column_value_fault<C: ControlRow>(column: u32, value: &Value<'_>) -> Option<ErrorStatus>
     ensures { result ≡ value_fault (writable_kind C.form.table column) (val_of value.now) }
 {
-    if column == status {
-        status_value_fault(kind, value)
+    if column == C::status() {
+        status_value_fault(C::kind(), value)
     } else {
         check::<C>(column, value)
     }
 }
 
 /// What is wrong with a value alone, by where its name stands.
-pub(crate) fn alone_fault<C: ControlRow>(
-    kind: StatusKind,
-    status: u32,
-    place: Place,
-    value: &Value<'_>,
-) -> Option<ErrorStatus>
-    requires kind { kind ≡ C.form.table.status_kind }
-    requires status { status ≡ C.form.table.status }
+pub(crate) fn alone_fault<C: ControlRow>(place: Place, value: &Value<'_>) -> Option<ErrorStatus>
     ensures { result ≡ alone_fault C.form.table place (val_of value.now) }
 {
     match place {
         Place::Outside => None,
         Place::Entry => Some(ErrorStatus::NotWritable),
-        Place::Column(column) => match column_value_fault::<C>(kind, status, column, value) {
+        Place::Column(column) => match column_value_fault::<C>(column, value) {
             Some(fault) => Some(fault),
             None => Some(ErrorStatus::NoCreation),
         },
-        Place::Cell(column, row) => match column_value_fault::<C>(kind, status, column, value) {
+        Place::Cell(column, row) => match column_value_fault::<C>(column, value) {
             Some(fault) => Some(fault),
             None => {
                 if C::is_row(row) {
@@ -107,15 +85,8 @@ pub(crate) fn alone_fault<C: ControlRow>(
 }
 
 /// The first pass of a Set on one table.
-pub(crate) fn judge_alone<C: ControlRow, A: Assigns>(
-    kind: StatusKind,
-    set: &A,
-    entry: &Oid,
-    status: u32,
-) -> Verdict
-    requires kind { kind ≡ C.form.table.status_kind }
-    requires entry { entry.now ≡ C.form.table.entry }
-    requires status { status ≡ C.form.table.status }
+pub(crate) fn judge_alone<C: ControlRow, A: Assigns>(set: &A, entry: &Oid) -> Verdict
+    requires { entry.now ≡ C.form.table.entry }
     ensures { IsFirstFault (length (A.bindings set.now)) (first_pass C.form.table (A.bindings set.now)) result }
 {
     let count = set.count();
@@ -123,7 +94,7 @@ pub(crate) fn judge_alone<C: ControlRow, A: Assigns>(
         let name = set.name(place);
         let value = set.value(place);
         let at = place_under::<C>(&name, entry);
-        match alone_fault::<C>(kind, status, at, &value) {
+        match alone_fault::<C>(at, &value) {
             None => {}
             Some(fault) => return wrong_at(place, fault),
         }
@@ -134,8 +105,6 @@ pub(crate) fn judge_alone<C: ControlRow, A: Assigns>(
 /// What is wrong with the binding of a column of a row. `crowded` says that the Set makes too many rows, and `again` that an
 /// earlier binding names the same variable.
 pub(crate) fn row_fault<C: ControlRow>(
-    kind: StatusKind,
-    status: u32,
     row: u32,
     state: State,
     asked: Ask,
@@ -144,15 +113,13 @@ pub(crate) fn row_fault<C: ControlRow>(
     again: bool,
     column: u32,
 ) -> Option<ErrorStatus>
-    requires kind { kind ≡ C.form.table.status_kind }
-    requires status { status ≡ C.form.table.status }
     ensures { result ≡ row_fault C.form.table (row_index C.form.table row) state asked ready crowded again column }
 {
     if is_made(state, asked) && crowded {
         return Some(ErrorStatus::InconsistentName);
     }
-    let fault = if column == status {
-        status_or_staying_fault(kind, C::stays(row), state, asked, ready)
+    let fault = if column == C::status() {
+        status_or_staying_fault(C::kind(), C::stays(row), state, asked, ready)
     } else {
         column_fault(state, asked, may_always::<C>(column))
     };
@@ -176,37 +143,22 @@ fn or_again(fault: Option<ErrorStatus>, again: bool) -> Option<ErrorStatus>
 }
 
 /// Puts one binding into a row's columns.
-fn put_one<C: ControlRow>(
-    columns: &mut C,
-    entry: &Oid,
-    status: u32,
-    row: u32,
-    name: &Oid,
-    value: &Value<'_>,
-)
+fn put_one<C: ControlRow>(columns: &mut C, entry: &Oid, row: u32, name: &Oid, value: &Value<'_>)
     requires entry { entry.now ≡ C.form.table.entry }
-    requires status { status ≡ C.form.table.status }
     requires fine { alone_fault C.form.table (place_of C.form.table name.now) (val_of value.now) ≡ None }
     requires spelling { HasSpelling (val_of value.now) }
     ensures { columns.new ≡ put_at C.form.table C.form.with_column C.form.blank row (place_of C.form.table name.now) (val_of value.now) columns.old }
 {
     if let Place::Cell(column, number) = place_under::<C>(name, entry) {
-        if number == row && column != status {
+        if number == row && column != C::status() {
             columns.put(column, value);
         }
     }
 }
 
 /// Puts the bindings of a row into its columns, so that of each variable the first one counts.
-pub(crate) fn put_all<C: ControlRow, A: Assigns>(
-    columns: &mut C,
-    set: &A,
-    entry: &Oid,
-    status: u32,
-    row: u32,
-)
+pub(crate) fn put_all<C: ControlRow, A: Assigns>(columns: &mut C, set: &A, entry: &Oid, row: u32)
     requires entry { entry.now ≡ C.form.table.entry }
-    requires status { status ≡ C.form.table.status }
     requires fine { IsFirstFault (length (A.bindings set.now)) (first_pass C.form.table (A.bindings set.now)) Verdict.Fine }
     ensures { columns.new ≡ put_all C.form.table C.form.with_column C.form.blank (A.bindings set.now) row columns.old }
 {
@@ -215,6 +167,6 @@ pub(crate) fn put_all<C: ControlRow, A: Assigns>(
         place -= 1;
         let name = set.name(place);
         let value = set.value(place);
-        put_one(columns, entry, status, row, &name, &value);
+        put_one(columns, entry, row, &name, &value);
     }
 }

@@ -6,6 +6,7 @@ mod change;
 mod controls;
 mod given;
 mod indexes;
+mod laws;
 mod other_columns;
 mod place;
 mod row;
@@ -15,6 +16,7 @@ mod tests;
 
 pub use change::Change;
 pub use controls::{Controls, MAX_ROWS};
+pub use laws::rows_are_counted;
 pub use other_columns::OtherColumns;
 pub use place::place_under;
 pub use row::{Row, status_number};

@@ -4,7 +4,7 @@ ghost use Rattle.std.specs.Str.{bytes_eq};
 ghost use Rattle.rm_model.specs.Cells.{behind};
 ghost use Rattle.rm_model.specs.ControlTable.{row_index};
 ghost use Rattle.rm_model.specs.ControlRows.{cell_name};
-ghost use Rattle.rm_model.specs.Judgement.{place_behind};
+ghost use Rattle.rm_model.specs.Judgement.{place_behind, place_in};
 ghost use Rattle.rm_status.specs.Commit.{is_cell};
 
 use rm_columns::ControlRow;
@@ -23,7 +23,15 @@ pub fn place_under<C: ControlRow>(name: &Oid, entry: &Oid) -> Place
         return Place::Entry;
     }
     let column = name.at(at);
-    match C::number(name, at + 1) {
+    let row = C::number(name, at + 1);
+    place_in(column, row)
+}
+
+// Where a column stands, by the number of the row whose index is behind it, if it is one's.
+fn place_in(column: u32, row: Option<u32>) -> Place
+    ensures { result ≡ place_in column row }
+{
+    match row {
         Some(row) => Place::Cell(column, row),
         None => Place::Column(column),
     }

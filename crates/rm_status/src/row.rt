@@ -10,7 +10,7 @@ use rm_model::{State, StatusKind};
 use rm_val::Value;
 
 /// A row of a control table: its index, its state, and its columns.
-#[derive(Default, Drop)]
+#[derive(Drop)]
 pub struct Row<C> {
     /// The number of its index; where that is one number, that number. The rows of a control table have such as rows can have.
     pub index: u32,
@@ -20,25 +20,29 @@ pub struct Row<C> {
     pub columns: C,
 }
 
+// What stands where there is no row is a new one with the number 0, which is no row's.
+impl<C: ControlRow> Default for Row<C> {
+    ghost is_default = { λ row. Unit {0} };
+
+    fn default() -> Self {
+        Row {
+            index: 0,
+            state: State::Absent,
+            columns: C::blank(0),
+        }
+    }
+}
+
 impl<C: ControlRow> Row<C> {
-    /// What a column of the row shows, with `other` for one that can't be set. `status` is the table's status column, which is of
-    /// that kind.
-    pub fn cell<'a>(
-        &'a self,
-        status: u32,
-        kind: StatusKind,
-        column: u32,
-        other: Value<'a>,
-    ) -> Value<'a>
-        requires status { status ≡ C.form.table.status }
-        requires kind { kind ≡ C.form.table.status_kind }
+    /// What a column of the row shows, with `other` for one that can't be set.
+    pub fn cell<'a>(&'a self, column: u32, other: Value<'a>) -> Value<'a>
         requires spelled { C.spelled self.now.columns }
         requires spelling { HasSpelling (val_of other) }
         ensures value { val_of result ≡ control_value C.form.table self.now.state (shows C.form.table C.form.set_to self.now.columns) (val_of other.entry) column }
         ensures spelling { HasSpelling (val_of result) }
     {
-        if column == status {
-            Value::Int(status_number(kind, self.state))
+        if column == C::status() {
+            Value::Int(status_number(C::kind(), self.state))
         } else {
             shown(&self.columns, column, other)
         }

@@ -6,7 +6,8 @@ use crate::control_cell::BucketsGranted;
 use crate::control_columns::ControlColumns;
 use crate::plan::Plan;
 use crate::run::Run;
-use rm_model::{State, StatusKind};
+use rm_columns::ControlRow;
+use rm_model::State;
 use rm_pool::Part;
 use rm_status::Controls;
 use rm_val::{Oid, Value};
@@ -81,7 +82,7 @@ fn columns_of(requested: u16, interval: u16) -> ControlColumns
     requires most_interval { interval ≤ 3600 }
     ensures { AreInRange result }
 {
-    let mut columns = ControlColumns::default();
+    let mut columns = ControlColumns::blank(1);
     columns.requested = requested;
     columns.interval = interval;
     columns
@@ -91,7 +92,7 @@ fn columns_of(requested: u16, interval: u16) -> ControlColumns
 fn three_rows() -> Controls<ControlColumns>
     ensures { AreAllInRange result }
 {
-    let mut rows = Controls::new(StatusKind::EntryStatus);
+    let mut rows = Controls::new();
     rows.insert(7, State::Valid, columns_of(2, 10));
     rows.insert(300, State::UnderCreation, columns_of(50, 1800));
     rows.insert(65_535, State::Valid, columns_of(65_535, 3600));

@@ -12,20 +12,17 @@ use arrayvec::ArrayVec;
 use rm_columns::ControlRow;
 use rm_group::Assigns;
 use rm_model::Verdict;
-use rm_val::Oid;
 
 impl<C: ControlRow> Controls<C> {
     /// The rows as a Set will leave them with which both passes found nothing wrong. Their columns have none of the rows'
     /// other data.
-    pub fn rows_after<A: Assigns>(&self, set: &A, entry: &Oid, status: u32) -> Controls<C>
-        requires entry { entry.now ≡ C.form.table.entry }
-        requires status { status ≡ C.form.table.status }
+    pub fn rows_after<A: Assigns>(&self, set: &A) -> Controls<C>
         requires fine { IsFirstFault (length (A.bindings set.now)) (first_pass C.form.table (A.bindings set.now)) Verdict.Fine }
         requires together { let bindings = A.bindings set.now in IsFirstFault (length bindings) (second_pass C.form.table (rows_before C.form.table C.form.set_to self.now) bindings) Verdict.Fine }
         ensures { (i : ℕ) → state_in result i ≡ state_after C.form.table (rows_before C.form.table C.form.set_to self.now) (A.bindings set.now) (row_index C.form.table i) }
     {
         let mut rows = self.bare();
-        rows.commit(set, entry, status);
+        rows.commit(set);
         rows
     }
 
@@ -35,7 +32,6 @@ impl<C: ControlRow> Controls<C> {
     {
         Controls {
             rows: bare_rows(&self.rows),
-            kind: self.kind,
         }
     }
 }

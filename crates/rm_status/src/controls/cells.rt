@@ -6,7 +6,7 @@ ghost use Rattle.rm_val.specs.Spellable.{IsSpellable, HasSpelling};
 ghost use Rattle.rm_model.specs.Cells.{cells_of, cell_at, IsNext};
 ghost use Rattle.rm_model.specs.ControlRows.{index_value};
 ghost use Rattle.rm_model.specs.Judgement.{is_row_number};
-ghost use Rattle.rm_status.specs.Rows.{row_in};
+ghost use Rattle.rm_status.specs.Rows.{AreControlRows, row_in};
 ghost use Rattle.rm_status.specs.RowsShown.{AreSpelled, with_index, rows_shown};
 
 use crate::controls::Controls;
@@ -27,7 +27,9 @@ impl<R: ControlRow> Controls<R> {
         requires { AreSpelled R.spelled self.now }
         ensures value { option_map val_of result ≡ cells_of (rows_shown R.form (O.others others.now self.now) self.now) name.now }
         ensures spelling { IfSome result (λ value. HasSpelling (val_of value)) }
+        ensures rows { AreControlRows R.form.table self.now }
     {
+        let _ = &self.rows;
         let at = instance_of(name, &R::entry(), R::table().objects.columns)?;
         self.cell_at(others, &at)
     }
@@ -45,7 +47,9 @@ impl<R: ControlRow> Controls<R> {
         ensures stays { IfNone result (out.new ≡ out.old) }
         ensures name_spelling { OnSome result (IsSpellable out.new) }
         ensures spelling { IfSome result (λ value. HasSpelling (val_of value)) }
+        ensures rows { AreControlRows R.form.table self.now }
     {
+        let _ = &self.rows;
         *out = next_name(self, &R::entry(), R::table().objects.columns, name, 0)?;
         self.cell(others, out)
     }
@@ -59,8 +63,7 @@ impl<R: ControlRow> Controls<R> {
         let number = R::number(&at.index, 0)?;
         let row = self.row(number)?;
         let other = self.other_at(others, at, number, row);
-        let table = R::table();
-        Some(row.cell(table.status, table.kind, at.column, other))
+        Some(row.cell(at.column, other))
     }
 
     // What the column of an instance shows that can't be set. The instance is that of a row.

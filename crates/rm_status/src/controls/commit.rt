@@ -16,33 +16,29 @@ use crate::steps::{is_made, next_state};
 use arrayvec::ArrayVec;
 use rm_columns::ControlRow;
 use rm_group::Assigns;
-use rm_model::{Place, State, StatusKind, Verdict};
+use rm_model::{Place, State, Verdict};
 use rm_val::Oid;
 
 impl<C: ControlRow> Controls<C> {
-    /// Acts on the bindings of a Set with which both passes found nothing wrong. `entry` and `status` are the table's entry
-    /// and its status column.
-    pub fn commit<A: Assigns>(&mut self, set: &A, entry: &Oid, status: u32)
-        requires entry { entry.now ≡ C.form.table.entry }
-        requires status { status ≡ C.form.table.status }
+    /// Acts on the bindings of a Set with which both passes found nothing wrong.
+    pub fn commit<A: Assigns>(&mut self, set: &A)
         requires fine { IsFirstFault (length (A.bindings set.now)) (first_pass C.form.table (A.bindings set.now)) Verdict.Fine }
         requires together { let bindings = A.bindings set.now in IsFirstFault (length bindings) (second_pass C.form.table (rows_before C.form.table C.form.set_to self.old) bindings) Verdict.Fine }
         ensures { let bindings = A.bindings set.now in (i : ℕ) → row_in self.new i ≡ row_after C.form.table C.form.with_column C.form.blank bindings i (row_in self.old i) }
     {
         let _ = &self.rows;
+        let entry = C::entry();
         let count = set.count();
         for place in 0..count {
-            self.make_at(set, entry, status, place);
+            self.make_at(set, &entry, place);
         }
-        let kind = self.kind;
-        write_all::<C, A>(&mut self.rows, set, entry, status);
-        settle_rows::<C, A>(kind, &mut self.rows, set, entry, status);
+        write_all::<C, A>(&mut self.rows, set, &entry);
+        settle_rows::<C, A>(&mut self.rows, set, &entry);
     }
 
     // Makes the row of the binding at a place, where that is a status by which the Set makes a row that there isn't yet.
-    fn make_at<A: Assigns>(&mut self, set: &A, entry: &Oid, status: u32, place: usize)
+    fn make_at<A: Assigns>(&mut self, set: &A, entry: &Oid, place: usize)
         requires entry { entry.now ≡ C.form.table.entry }
-        requires status { status ≡ C.form.table.status }
         requires within { place < length (A.bindings set.now) }
         requires fine { first_pass C.form.table (A.bindings set.now) place ≡ None }
         requires room { let bindings = A.bindings set.now in (i : ℕ) → is_cell C.form.table.status i (place_of C.form.table (name_at bindings place)) ≡ true → is_made State.Absent (set_ask C.form.table bindings (row_index C.form.table i)) ≡ true → row_in self.old i ≡ None → length self.old < C.form.table.most }
@@ -51,9 +47,8 @@ impl<C: ControlRow> Controls<C> {
     {
         let name = set.name(place);
         if let Place::Cell(column, row) = place_under::<C>(&name, entry) {
-            let kind = self.kind;
-            let asked = set_ask::<C, A>(kind, set, entry, status, row);
-            if column == status && is_made(State::Absent, asked) && self.find(row).is_none() {
+            let asked = set_ask::<C, A>(set, entry, row);
+            if column == C::status() && is_made(State::Absent, asked) && self.find(row).is_none() {
                 self.insert(row, next_state(asked, State::Absent), C::blank(row));
             }
         }
@@ -61,50 +56,39 @@ impl<C: ControlRow> Controls<C> {
 }
 
 // Puts the bindings of a Set into the columns of each row.
-fn write_rows<C: ControlRow, A: Assigns>(rows: &mut [Row<C>], set: &A, entry: &Oid, status: u32)
+fn write_rows<C: ControlRow, A: Assigns>(rows: &mut [Row<C>], set: &A, entry: &Oid)
     requires entry { entry.now ≡ C.form.table.entry }
-    requires status { status ≡ C.form.table.status }
     requires fine { IsFirstFault (length (A.bindings set.now)) (first_pass C.form.table (A.bindings set.now)) Verdict.Fine }
     ensures { rows.new ≡ map (write_row C.form.table C.form.with_column C.form.blank (A.bindings set.now)) rows.old }
 {
     for row in rows.iter_mut() {
-        put_all::<C, A>(&mut row.columns, set, entry, status, row.index);
+        put_all::<C, A>(&mut row.columns, set, entry, row.index);
     }
 }
 
 // The same for rows where they are kept.
-fn write_all<C: ControlRow, A: Assigns>(
-    rows: &mut ArrayVec<Row<C>, MAX_ROWS>,
-    set: &A,
-    entry: &Oid,
-    status: u32,
-)
+fn write_all<C: ControlRow, A: Assigns>(rows: &mut ArrayVec<Row<C>, MAX_ROWS>, set: &A, entry: &Oid)
     requires entry { entry.now ≡ C.form.table.entry }
-    requires status { status ≡ C.form.table.status }
     requires fine { IsFirstFault (length (A.bindings set.now)) (first_pass C.form.table (A.bindings set.now)) Verdict.Fine }
     ensures { rows.new.items ≡ map (write_row C.form.table C.form.with_column C.form.blank (A.bindings set.now)) rows.old.items }
 {
-    write_rows::<C, A>(rows.as_mut_slice(), set, entry, status);
+    write_rows::<C, A>(rows.as_mut_slice(), set, entry);
 }
 
 // Takes each row to its state after a Set.
 fn settle_rows<C: ControlRow, A: Assigns>(
-    kind: StatusKind,
     rows: &mut ArrayVec<Row<C>, MAX_ROWS>,
     set: &A,
     entry: &Oid,
-    status: u32,
 )
-    requires kind { kind ≡ C.form.table.status_kind }
-    requires entry { entry.now ≡ C.form.table.entry }
-    requires status { status ≡ C.form.table.status }
+    requires { entry.now ≡ C.form.table.entry }
     ensures { rows.new.items ≡ filter_map (settle_row C.form.table C.form.with_column C.form.blank (A.bindings set.now)) rows.old.items }
 {
     let mut place = rows.len();
     while place > 0 {
         place -= 1;
         let row = &rows.as_slice()[place];
-        let asked = set_ask::<C, A>(kind, set, entry, status, row.index);
+        let asked = set_ask::<C, A>(set, entry, row.index);
         let next = next_state(asked, row.state);
         match next {
             State::Absent => {

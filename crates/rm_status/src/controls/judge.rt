@@ -18,31 +18,26 @@ use rm_model::{Place, Verdict};
 use rm_val::{ErrorStatus, Oid};
 
 impl<C: ControlRow> Controls<C> {
-    /// The first pass of a Set: each binding under the table's entry alone (RFC 1905, section 4.2.5). `entry` and `status`
-    /// are the table's entry and its status column.
-    pub fn judge_alone<A: Assigns>(&self, set: &A, entry: &Oid, status: u32) -> Verdict
-        requires entry { entry.now ≡ C.form.table.entry }
-        requires status { status ≡ C.form.table.status }
+    /// The first pass of a Set: each binding under the table's entry alone (RFC 1905, section 4.2.5).
+    pub fn judge_alone<A: Assigns>(&self, set: &A) -> Verdict
         ensures { IsFirstFault (length (A.bindings set.now)) (first_pass C.form.table (A.bindings set.now)) result }
     {
-        let kind = self.kind;
-        given::judge_alone::<C, A>(kind, set, entry, status)
+        given::judge_alone::<C, A>(set, &C::entry())
     }
 
     /// The second pass of a Set of which the first found nothing wrong: the bindings of each row together, by what the rows
     /// are now.
-    pub fn judge_rows<A: Assigns>(&self, set: &A, entry: &Oid, status: u32) -> Verdict
-        requires entry { entry.now ≡ C.form.table.entry }
-        requires status { status ≡ C.form.table.status }
-        requires fine { IsFirstFault (length (A.bindings set.now)) (first_pass C.form.table (A.bindings set.now)) Verdict.Fine }
+    pub fn judge_rows<A: Assigns>(&self, set: &A) -> Verdict
+        requires { IsFirstFault (length (A.bindings set.now)) (first_pass C.form.table (A.bindings set.now)) Verdict.Fine }
         ensures verdict { let bindings = A.bindings set.now in IsFirstFault (length bindings) (second_pass C.form.table (rows_before C.form.table C.form.set_to self.now) bindings) result }
         ensures rows { AreControlRows C.form.table self.now }
     {
         let _ = &self.rows;
-        let crowded = self.is_crowded(set, entry, status);
+        let entry = C::entry();
+        let crowded = self.is_crowded(set, &entry);
         let count = set.count();
         for place in 0..count {
-            match self.second_fault(set, entry, status, crowded, place) {
+            match self.second_fault(set, &entry, crowded, place) {
                 None => {}
                 Some(fault) => return wrong_at(place, fault),
             }
@@ -51,43 +46,39 @@ impl<C: ControlRow> Controls<C> {
     }
 
     // Whether the rows that there are and those that a Set makes are more together than the table has at most.
-    fn is_crowded<A: Assigns>(&self, set: &A, entry: &Oid, status: u32) -> bool
+    fn is_crowded<A: Assigns>(&self, set: &A, entry: &Oid) -> bool
         requires entry { entry.now ≡ C.form.table.entry }
-        requires status { status ≡ C.form.table.status }
         requires fine { IsFirstFault (length (A.bindings set.now)) (first_pass C.form.table (A.bindings set.now)) Verdict.Fine }
         ensures { result ≡ is_crowded C.form.table (rows_before C.form.table C.form.set_to self.now) (A.bindings set.now) }
     {
-        self.rows.len() + self.count_made(set, entry, status) > C::most()
+        self.rows.len() + self.count_made(set, entry) > C::most()
     }
 
     // How many rows a Set makes.
-    fn count_made<A: Assigns>(&self, set: &A, entry: &Oid, status: u32) -> usize
-        requires entry { entry.now ≡ C.form.table.entry }
-        requires status { status ≡ C.form.table.status }
+    fn count_made<A: Assigns>(&self, set: &A, entry: &Oid) -> usize
+        requires { entry.now ≡ C.form.table.entry }
         ensures value { result ≡ count_made C.form.table (state_in self.now) (A.bindings set.now) (length (A.bindings set.now)) }
         ensures few { result ≤ 128 }
     {
         let count = set.count();
         let mut made = 0;
         for place in 0..count {
-            made += self.made_by(set, entry, status, place);
+            made += self.made_by(set, entry, place);
         }
         made
     }
 
     // How many rows the binding at a place makes, one or none.
-    fn made_by<A: Assigns>(&self, set: &A, entry: &Oid, status: u32, place: usize) -> usize
+    fn made_by<A: Assigns>(&self, set: &A, entry: &Oid, place: usize) -> usize
         requires entry { entry.now ≡ C.form.table.entry }
-        requires status { status ≡ C.form.table.status }
         requires within { place < length (A.bindings set.now) }
         ensures value { let bindings = A.bindings set.now in result ≡ made_by C.form.table (state_in self.now) bindings (is_again bindings place) (place_of C.form.table (name_at bindings place)) }
         ensures few { result ≤ 1 }
     {
         let name = set.name(place);
         match place_under::<C>(&name, entry) {
-            Place::Cell(column, row) if column == status => {
-                let kind = self.kind;
-                let asked = set_ask::<C, A>(kind, set, entry, status, row);
+            Place::Cell(column, row) if column == C::status() => {
+                let asked = set_ask::<C, A>(set, entry, row);
                 let again = is_again(set, place);
                 if !again && is_made(self.state(row), asked) {
                     1
@@ -104,12 +95,10 @@ impl<C: ControlRow> Controls<C> {
         &self,
         set: &A,
         entry: &Oid,
-        status: u32,
         crowded: bool,
         place: usize,
     ) -> Option<ErrorStatus>
         requires entry { entry.now ≡ C.form.table.entry }
-        requires status { status ≡ C.form.table.status }
         requires fine { IsFirstFault (length (A.bindings set.now)) (first_pass C.form.table (A.bindings set.now)) Verdict.Fine }
         requires within { place < length (A.bindings set.now) }
         requires crowded { crowded ≡ is_crowded C.form.table (rows_before C.form.table C.form.set_to self.now) (A.bindings set.now) }
@@ -118,65 +107,46 @@ impl<C: ControlRow> Controls<C> {
         let name = set.name(place);
         match place_under::<C>(&name, entry) {
             Place::Cell(column, row) => {
-                let kind = self.kind;
                 let state = self.state(row);
-                let asked = set_ask::<C, A>(kind, set, entry, status, row);
-                let ready = self.is_ready_for(set, entry, status, column, row);
+                let asked = set_ask::<C, A>(set, entry, row);
+                let ready = self.is_ready_for(set, entry, column, row);
                 let again = is_again(set, place);
-                row_fault::<C>(
-                    kind, status, row, state, asked, ready, crowded, again, column,
-                )
+                row_fault::<C>(row, state, asked, ready, crowded, again, column)
             }
             _ => None,
         }
     }
 
     // Whether a binding is of a row's status, which alone asks whether the row is ready, and the row would be.
-    fn is_ready_for<A: Assigns>(
-        &self,
-        set: &A,
-        entry: &Oid,
-        status: u32,
-        column: u32,
-        row: u32,
-    ) -> bool
+    fn is_ready_for<A: Assigns>(&self, set: &A, entry: &Oid, column: u32, row: u32) -> bool
         requires entry { entry.now ≡ C.form.table.entry }
-        requires status { status ≡ C.form.table.status }
         requires fine { IsFirstFault (length (A.bindings set.now)) (first_pass C.form.table (A.bindings set.now)) Verdict.Fine }
         ensures { result ≡ (nat_eq column C.form.table.status && is_ready_with C.form.table (rows_before C.form.table C.form.set_to self.now) (A.bindings set.now) (row_index C.form.table row)) }
     {
-        column == status && self.is_ready_with(set, entry, status, row)
+        column == C::status() && self.is_ready_with(set, entry, row)
     }
 
     // Whether a row would be ready with the columns that a Set gives to it, a blank one where there is no such row.
-    fn is_ready_with<A: Assigns>(&self, set: &A, entry: &Oid, status: u32, row: u32) -> bool
+    fn is_ready_with<A: Assigns>(&self, set: &A, entry: &Oid, row: u32) -> bool
         requires entry { entry.now ≡ C.form.table.entry }
-        requires status { status ≡ C.form.table.status }
         requires fine { IsFirstFault (length (A.bindings set.now)) (first_pass C.form.table (A.bindings set.now)) Verdict.Fine }
         ensures { result ≡ is_ready_with C.form.table (rows_before C.form.table C.form.set_to self.now) (A.bindings set.now) (row_index C.form.table row) }
     {
         prove!(self.len() <= MAX_ROWS);
         match self.row(row) {
-            None => is_ready_after::<C, A>(C::blank(row), set, entry, status, row),
-            Some(found) => { is_ready_after::<C, A>(found.columns.bare(), set, entry, status, row) }
+            None => is_ready_after::<C, A>(C::blank(row), set, entry, row),
+            Some(found) => { is_ready_after::<C, A>(found.columns.bare(), set, entry, row) }
         }
     }
 }
 
 // Whether columns are ready once the bindings of a row are in them.
-fn is_ready_after<C: ControlRow, A: Assigns>(
-    columns: C,
-    set: &A,
-    entry: &Oid,
-    status: u32,
-    row: u32,
-) -> bool
+fn is_ready_after<C: ControlRow, A: Assigns>(columns: C, set: &A, entry: &Oid, row: u32) -> bool
     requires entry { entry.now ≡ C.form.table.entry }
-    requires status { status ≡ C.form.table.status }
     requires fine { IsFirstFault (length (A.bindings set.now)) (first_pass C.form.table (A.bindings set.now)) Verdict.Fine }
     ensures { result ≡ is_ready C.form.table (of_columns C.form.table (λ column. option_or (value_given (A.bindings set.now) (cell_name C.form.table.entry column (row_index C.form.table row))) (C.form.set_to columns column))) }
 {
     let mut with = columns;
-    put_all::<C, A>(&mut with, set, entry, status, row);
+    put_all::<C, A>(&mut with, set, entry, row);
     is_ready(&with)
 }

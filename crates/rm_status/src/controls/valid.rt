@@ -27,15 +27,14 @@ impl<C: ControlRow> Controls<C> {
 
     /// The number, from 1, of the first binding of the status of a row that a Set makes valid and that wasn't. None where the
     /// Set makes no row valid: no more rows are then valid after it than before.
-    pub fn first_activated<A: Assigns>(&self, set: &A, entry: &Oid, status: u32) -> Option<u32>
-        requires entry { entry.now ≡ C.form.table.entry }
-        requires status { status ≡ C.form.table.status }
+    pub fn first_activated<A: Assigns>(&self, set: &A) -> Option<u32>
         ensures some { IfSome result (λ index. (place : ℕ) × (place < length (A.bindings set.now)) × (index ≡ place + 1)
             × IsTrue (activates C.form.table (rows_before C.form.table C.form.set_to self.now) (A.bindings set.now) place)) }
         ensures none { IfNone result (count_valid_after C.form.table (rows_before C.form.table C.form.set_to self.now) (A.bindings set.now) ≤ count_valid C.form.table (rows_before C.form.table C.form.set_to self.now)) }
     {
+        let entry = C::entry();
         for place in 0..set.count() {
-            if self.activates(set, entry, status, place) {
+            if self.activates(set, &entry, place) {
                 return Some(place as u32 + 1);
             }
         }
@@ -43,31 +42,28 @@ impl<C: ControlRow> Controls<C> {
     }
 
     // Whether the binding at a place is of the status of a row that a Set makes valid and that wasn't.
-    fn activates<A: Assigns>(&self, set: &A, entry: &Oid, status: u32, place: usize) -> bool
+    fn activates<A: Assigns>(&self, set: &A, entry: &Oid, place: usize) -> bool
         requires entry { entry.now ≡ C.form.table.entry }
-        requires status { status ≡ C.form.table.status }
         requires within { place < length (A.bindings set.now) }
         ensures { result ≡ activates C.form.table (rows_before C.form.table C.form.set_to self.now) (A.bindings set.now) place }
     {
         let name = set.name(place);
         match place_under::<C>(&name, entry) {
             Place::Cell(column, row) => {
-                column == status && self.makes_valid(set, entry, status, row)
+                column == C::status() && self.makes_valid(set, entry, row)
             }
             _ => false,
         }
     }
 
     // Whether a Set makes a row valid that wasn't.
-    fn makes_valid<A: Assigns>(&self, set: &A, entry: &Oid, status: u32, row: u32) -> bool
-        requires entry { entry.now ≡ C.form.table.entry }
-        requires status { status ≡ C.form.table.status }
+    fn makes_valid<A: Assigns>(&self, set: &A, entry: &Oid, row: u32) -> bool
+        requires { entry.now ≡ C.form.table.entry }
         ensures { result ≡ makes_valid C.form.table (rows_before C.form.table C.form.set_to self.now) (A.bindings set.now) (row_index C.form.table row) }
     {
         let _ = &self.rows;
-        let kind = self.kind;
         let state = self.state(row);
-        let asked = set_ask::<C, A>(kind, set, entry, status, row);
+        let asked = set_ask::<C, A>(set, entry, row);
         is_valid(next_state(asked, state)) && !is_valid(state)
     }
 }

@@ -2,9 +2,9 @@
 ghost use Rattle.std.specs.Prelude.{◌≡◌, [], ◌∷◌};
 
 use crate::Controls;
-use crate::tests::made_up::{MadeUp, STATUS, entry, name_of};
+use crate::tests::made_up::{MadeUp, STATUS, name_of};
 use rm_group::Assignments;
-use rm_model::{StatusKind, Verdict};
+use rm_model::Verdict;
 use rm_val::{ErrorStatus, Oid, Value};
 
 // A Set of a variable outside the table, and of a column of row 5. Each is given Null.
@@ -39,17 +39,17 @@ fn long_name(column: u32) -> Oid
 
 #[test]
 fn another_type_and_a_longer_index(rt: HostRuntime) {
-    let rows = Controls::<MadeUp>::new(StatusKind::EntryStatus);
+    let rows = Controls::<MadeUp>::new();
     for column in [STATUS, 2] {
         assert_eq!(rt;
-            rows.judge_alone(&nulls(column), &entry(), STATUS),
+            rows.judge_alone(&nulls(column)),
             Verdict::Wrong {
                 status: ErrorStatus::WrongType,
                 index: 2,
             }
         );
         assert_eq!(rt;
-            rows.judge_alone(&with_long_index(column), &entry(), STATUS),
+            rows.judge_alone(&with_long_index(column)),
             Verdict::Wrong {
                 status: ErrorStatus::NoCreation,
                 index: 2,

@@ -6,7 +6,7 @@ use crate::tests::made_up::{MadeUp, STATUS};
 use crate::{Controls, OtherColumns, Row};
 use rm_columns::ControlRow;
 use rm_group::is_listed;
-use rm_model::{State, StatusKind};
+use rm_model::State;
 use rm_val::{Oid, Value};
 use std::test::Fail;
 
@@ -23,9 +23,9 @@ impl OtherColumns<MadeUp> for Again {
 
 // The rows 3 and 9.
 fn two_rows() -> Controls<MadeUp> {
-    let mut rows = Controls::new(StatusKind::EntryStatus);
-    rows.insert(3, State::Valid, MadeUp::default());
-    rows.insert(9, State::UnderCreation, MadeUp::default());
+    let mut rows = Controls::new();
+    rows.insert(3, State::Valid, MadeUp::blank(3));
+    rows.insert(9, State::UnderCreation, MadeUp::blank(9));
     rows
 }
 

@@ -34,18 +34,6 @@ pub struct MadeUp {
     pub fourth: Option<i32>,
 }
 
-impl Default for MadeUp {
-    ghost is_default = { λ columns. columns ≡ record { second = None; third = None; fourth = None } };
-
-    fn default() -> Self {
-        MadeUp {
-            second: None,
-            third: None,
-            fourth: None,
-        }
-    }
-}
-
 impl ControlRow for MadeUp {
     type Keys = OneNumber;
 
@@ -63,8 +51,6 @@ impl ControlRow for MadeUp {
       named = refl;
     } };
 
-    ghost default_is_blank = { λ columns is. is };
-
     ghost keyed = { (refl, refl) };
 
     fn table() -> ControlSheet {
@@ -72,7 +58,11 @@ impl ControlRow for MadeUp {
     }
 
     fn blank(_index: u32) -> Self {
-        MadeUp::default()
+        MadeUp {
+            second: None,
+            third: None,
+            fourth: None,
+        }
     }
 
     fn put(&mut self, column: u32, value: &Value<'_>) {
@@ -110,16 +100,6 @@ impl ControlRow for MadeUp {
 #[derive(Clone, Copy, Debug, PartialEq, Eq)]
 pub struct Ruled {
     pub columns: MadeUp,
-}
-
-impl Default for Ruled {
-    ghost is_default = { λ row. row.columns ≡ record { second = None; third = None; fourth = None } };
-
-    fn default() -> Self {
-        Ruled {
-            columns: MadeUp::default(),
-        }
-    }
 }
 
 /// The keys of a table whose rows have one number as their index. Column 2 of row 6 can never be set, and row 7 stays.
@@ -168,8 +148,6 @@ impl ControlRow for Ruled {
       named = refl;
     } };
 
-    ghost default_is_blank = { λ row is i. record { columns = is i } };
-
     ghost keyed = { (refl, refl) };
 
     fn table() -> ControlSheet {
@@ -181,7 +159,7 @@ impl ControlRow for Ruled {
     }
 
     fn blank(index: u32) -> Self {
-        let mut columns = MadeUp::default();
+        let mut columns = MadeUp::blank(index);
         if index == 6 {
             columns.second = Some(5);
         }
@@ -213,13 +191,6 @@ pub fn give(set: &mut Set, column: u32, row: u32, number: i32) {
     if !set.is_full() {
         set.push(name_of(column, row), Value::Int(number));
     }
-}
-
-/// The identifier of the table's entry.
-pub fn entry() -> Oid
-    ensures { result ≡ 1 ∷ 3 ∷ 6 ∷ 1 ∷ 4 ∷ 1 ∷ 9 ∷ 5 ∷ [] }
-{
-    Oid::from_slice(&[1, 3, 6, 1, 4, 1, 9, 5]).unwrap()
 }
 
 /// The name of a column of a row.

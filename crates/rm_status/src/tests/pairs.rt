@@ -11,23 +11,13 @@ use crate::tests::sets::{FINE, apply};
 use crate::{Controls, OtherColumns, Row};
 use rm_columns::{ControlRow, ControlSheet, RowKeys};
 use rm_group::TableObjects;
-use rm_model::{State, StatusKind, Verdict};
+use rm_model::{State, Verdict};
 use rm_val::{ErrorStatus, Oid, Value};
 use std::test::Fail;
 
 #[derive(Clone, Copy, Debug, PartialEq, Eq)]
 struct Paired {
     columns: MadeUp,
-}
-
-impl Default for Paired {
-    ghost is_default = { λ row. row.columns ≡ record { second = None; third = None; fourth = None } };
-
-    fn default() -> Self {
-        Paired {
-            columns: MadeUp::default(),
-        }
-    }
 }
 
 // Two numbers, each 1 to 8, of rows that are all alike.
@@ -87,8 +77,6 @@ impl ControlRow for Paired {
       named = refl;
     } };
 
-    ghost default_is_blank = { λ row is i. record { columns = is i } };
-
     ghost keyed = { (refl, refl) };
 
     fn table() -> ControlSheet {
@@ -101,8 +89,10 @@ impl ControlRow for Paired {
         }
     }
 
-    fn blank(_index: u32) -> Self {
-        Paired::default()
+    fn blank(index: u32) -> Self {
+        Paired {
+            columns: MadeUp::blank(index),
+        }
     }
 
     fn put(&mut self, column: u32, value: &Value<'_>) {
@@ -181,7 +171,7 @@ fn set(rows: &mut Controls<Paired>, column: u32, index: &[u32], number: i32) -> 
 
 // The rows 1.2, 1.8 and 2.1, of which the second has 4 in column 2.
 fn three_rows() -> Controls<Paired> {
-    let mut rows = Controls::new(StatusKind::EntryStatus);
+    let mut rows = Controls::new();
     for index in [[2, 1], [1, 8], [1, 2]] {
         let _ = set(&mut rows, STATUS, &index, 2);
     }

@@ -4,7 +4,7 @@ use crate::Controls;
 use crate::tests::made_up::{MadeUp, Ruled, STATUS};
 use crate::tests::row_status::INCONSISTENT;
 use crate::tests::sets::{FINE, apply, set_of};
-use rm_model::{State, StatusKind, Verdict};
+use rm_model::{State, Verdict};
 use rm_val::ErrorStatus;
 
 fn wrong(status: ErrorStatus, index: u32) -> Verdict {
@@ -13,7 +13,7 @@ fn wrong(status: ErrorStatus, index: u32) -> Verdict {
 
 #[test]
 fn no_more_rows_than_the_table_has_at_most(rt: HostRuntime) {
-    let mut rows = Controls::<Ruled>::new(StatusKind::RowStatus);
+    let mut rows = Controls::<Ruled>::new();
     for row in 1..5 {
         assert_eq!(rt; apply(&mut rows, &set_of(&[(STATUS, row, 5)])), FINE);
     }
@@ -45,10 +45,10 @@ const OF_ABSENT: [(&[(u32, u32, i32)], Verdict); 3] = [
 #[test]
 fn a_column_that_can_never_be_set(rt: HostRuntime) {
     for (columns, verdict) in OF_ABSENT {
-        let mut rows = Controls::<Ruled>::new(StatusKind::RowStatus);
+        let mut rows = Controls::<Ruled>::new();
         assert_eq!(rt; apply(&mut rows, &set_of(columns)), verdict, "{columns:?}");
     }
-    let mut rows = Controls::<Ruled>::new(StatusKind::RowStatus);
+    let mut rows = Controls::<Ruled>::new();
     let _ = apply(&mut rows, &set_of(&[(STATUS, 6, 4)]));
     let second = match rows.get(6) {
         Some(row) => row.columns.second,
@@ -75,7 +75,7 @@ const OF_STAYING: [(i32, Verdict); 5] = [
 #[test]
 fn a_row_that_stays(rt: HostRuntime) {
     for (number, verdict) in OF_STAYING {
-        let mut rows = Controls::<Ruled>::new(StatusKind::RowStatus);
+        let mut rows = Controls::<Ruled>::new();
         let columns = MadeUp {
             second: Some(1),
             third: None,

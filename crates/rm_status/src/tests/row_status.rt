@@ -2,7 +2,7 @@
 use crate::Controls;
 use crate::tests::made_up::{Ruled, STATUS};
 use crate::tests::sets::{FINE, apply, set_of};
-use rm_model::{State, StatusKind, Verdict};
+use rm_model::{State, Verdict};
 use rm_val::ErrorStatus;
 
 const WRONG_VALUE: Verdict = Verdict::Wrong {
@@ -80,7 +80,7 @@ const BEFORE: [(&[(u32, u32, i32)], Steps); 4] = [
 
 // What comes of row 5 by a Set, and then by a value of its status. A row that is made has the column that it needs.
 fn step(before: &[(u32, u32, i32)], number: i32) -> (Verdict, State) {
-    let mut rows = Controls::<Ruled>::new(StatusKind::RowStatus);
+    let mut rows = Controls::<Ruled>::new();
     let _ = apply(&mut rows, &set_of(before));
     let made = rows.state(5) == State::Absent && 4 <= number && number <= 5;
     let set = if made {
@@ -111,7 +111,7 @@ const MADE_NOT_READY: [(i32, Verdict, State); 2] = [(4, INCONSISTENT, ABSENT), (
 #[test]
 fn a_row_is_made_active_only_if_it_is_ready(rt: HostRuntime) {
     for (number, verdict, state) in MADE_NOT_READY {
-        let mut rows = Controls::<Ruled>::new(StatusKind::RowStatus);
+        let mut rows = Controls::<Ruled>::new();
         let set = set_of(&[(STATUS, 5, number)]);
         assert_eq!(rt; apply(&mut rows, &set), verdict, "{number}");
         assert_eq!(rt; rows.state(5), state, "{number}");

@@ -1,10 +1,9 @@
 // Sets against every cell of the steps of EntryStatus: valid 1, createRequest 2, underCreation 3, invalid 4.
-ghost use Rattle.std.specs.Prelude.{◌≡◌, [], ◌∷◌};
 
 use crate::Controls;
-use crate::tests::made_up::{MadeUp, STATUS, Set, entry, give};
+use crate::tests::made_up::{MadeUp, STATUS, Set, give};
 use rm_columns::ControlRow;
-use rm_model::{State, StatusKind, Verdict};
+use rm_model::{State, Verdict};
 use rm_val::ErrorStatus;
 use std::process::Abort;
 use std::test::Fail;
@@ -215,15 +214,11 @@ fn numbers(rows: &Controls<MadeUp>, row: u32) -> Option<Numbers> {
 }
 
 /// Judges a Set in two passes, and acts on it where nothing is wrong.
-pub fn apply<C: ControlRow>(rows: &mut Controls<C>, set: &Set) -> Verdict
-    requires entry { C.form.table.entry ≡ 1 ∷ 3 ∷ 6 ∷ 1 ∷ 4 ∷ 1 ∷ 9 ∷ 5 ∷ [] }
-    requires status { C.form.table.status ≡ 7 }
-{
-    let entry = entry();
-    match rows.judge_alone(set, &entry, STATUS) {
-        Verdict::Fine => match rows.judge_rows(set, &entry, STATUS) {
+pub fn apply<C: ControlRow>(rows: &mut Controls<C>, set: &Set) -> Verdict {
+    match rows.judge_alone(set) {
+        Verdict::Fine => match rows.judge_rows(set) {
             Verdict::Fine => {
-                rows.commit(set, &entry, STATUS);
+                rows.commit(set);
                 Verdict::Fine
             }
             wrong => wrong,
@@ -234,7 +229,7 @@ pub fn apply<C: ControlRow>(rows: &mut Controls<C>, set: &Set) -> Verdict
 
 // The rows after these Sets of row 5, which are all accepted.
 fn rows_after(rt: &impl Abort, before: &[Row5]) -> Controls<MadeUp> {
-    let mut rows = Controls::new(StatusKind::EntryStatus);
+    let mut rows = Controls::new();
     for first in before {
         assert_eq!(rt; apply(&mut rows, &set_of_row_5(first)), FINE, "{first:?}");
     }
@@ -286,9 +281,9 @@ fn a_valid_row(rt: HostRuntime) {
 #[test]
 fn each_binding_alone(rt: HostRuntime) {
     for (columns, status, index) in REFUSED_ALONE {
-        let rows = Controls::<MadeUp>::new(StatusKind::EntryStatus);
+        let rows = Controls::<MadeUp>::new();
         assert_eq!(rt;
-            rows.judge_alone(&set_of(columns), &entry(), STATUS),
+            rows.judge_alone(&set_of(columns)),
             Verdict::Wrong { status, index },
             "{columns:?}"
         );
@@ -297,7 +292,7 @@ fn each_binding_alone(rt: HostRuntime) {
 
 #[test]
 fn rows_are_judged_each_for_itself(rt: HostRuntime) {
-    let mut rows = Controls::new(StatusKind::EntryStatus);
+    let mut rows = Controls::new();
     assert_eq!(rt;
         apply(&mut rows, &set_of(&[(3, 6, 7), (3, 5, 7)])),
         WRONG_NAME_1
@@ -319,7 +314,7 @@ fn rows_are_judged_each_for_itself(rt: HostRuntime) {
 
 // Rows 1 to `count`, under creation.
 fn many(count: u32) -> Controls<MadeUp> {
-    let mut rows = Controls::new(StatusKind::EntryStatus);
+    let mut rows = Controls::new();
     for row in 1..=count {
         let _ = apply(&mut rows, &set_of(&[(STATUS, row, 2)]));
     }
@@ -364,10 +359,9 @@ fn no_more_than_sixteen_rows(rt: HostRuntime) {
 
 // How many rows are valid after a Set, if nothing is wrong with it.
 fn count_valid_after(rows: &Controls<MadeUp>, set: &Set) -> Option<usize> {
-    let entry = entry();
-    match rows.judge_alone(set, &entry, STATUS) {
-        Verdict::Fine => match rows.judge_rows(set, &entry, STATUS) {
-            Verdict::Fine => Some(rows.rows_after(set, &entry, STATUS).count_valid()),
+    match rows.judge_alone(set) {
+        Verdict::Fine => match rows.judge_rows(set) {
+            Verdict::Fine => Some(rows.rows_after(set).count_valid()),
             _ => None,
         },
         _ => None,
@@ -401,7 +395,6 @@ const COUNTED: [Counted; 6] = [
 
 #[test]
 fn valid_rows_are_counted(rt: HostRuntime) {
-    let entry = entry();
     let mut rows = many(3);
     assert_eq!(rt; rows.count_valid(), 0);
     assert_eq!(rt;
@@ -411,18 +404,14 @@ fn valid_rows_are_counted(rt: HostRuntime) {
     assert_eq!(rt; rows.count_valid(), 1);
     for &(columns, activated, valid) in &COUNTED {
         let set = set_of(columns);
-        assert_eq!(rt;
-            rows.first_activated(&set, &entry, STATUS),
-            activated,
-            "{columns:?}"
-        );
+        assert_eq!(rt; rows.first_activated(&set), activated, "{columns:?}");
         assert_eq!(rt; count_valid_after(&rows, &set), valid, "{columns:?}");
     }
 }
 
 #[test]
 fn rows_in_order(rt: HostRuntime) -> Result<(), Fail> {
-    let mut rows = Controls::new(StatusKind::EntryStatus);
+    let mut rows = Controls::new();
     rows.insert(
         300,
         State::Valid,

@@ -11,18 +11,11 @@ returns-then-len-at g c =
     place_entry g.C.ControlRow.form.table c.args.entry.now c.args.name.now (sym c.if-not-starts_with.false ∙ c.starts_with.ensures.value)
     (sym c.len.ensures.value ∙ c.if-len-at.true ∙ c.len-at.ensures.value)
 
-pub returns-in-Some : goal.returns-in-Some
-returns-in-Some g c =
+pub returns : goal.returns
+returns g c =
     let t = g.C.ControlRow.form.table in
     let first : c.at-column.result ≡ get_or c.args.name.now (length c.args.entry.now) 0 = rw (← c.len-at.ensures.value) c.at-column.ensures in
-    ap (place_in c.at-column.result) c.in-Some.ensures ∙ ap (λ (k : ℕ). place_in c.at-column.result (t.indexing.number_of (drop (k + 1) c.args.name.now))) c.len-at.ensures.value
-    ∙ place_column t c.args.entry.now c.args.name.now (sym c.if-not-starts_with.false ∙ c.starts_with.ensures.value) c.at-column.result
-    (λ same. c.if-len-at.false (c.len.ensures.value ∙ same ∙ sym c.len-at.ensures.value)) first
-
-pub returns-in-None : goal.returns-in-None
-returns-in-None g c =
-    let t = g.C.ControlRow.form.table in
-    let first : c.at-column.result ≡ get_or c.args.name.now (length c.args.entry.now) 0 = rw (← c.len-at.ensures.value) c.at-column.ensures in
-    ap (place_in c.at-column.result) c.in-None.ensures ∙ ap (λ (k : ℕ). place_in c.at-column.result (t.indexing.number_of (drop (k + 1) c.args.name.now))) c.len-at.ensures.value
+    c.place_in.ensures ∙ ap (place_in c.at-column.result) c.number-row.ensures
+    ∙ ap (λ (k : ℕ). place_in c.at-column.result (t.indexing.number_of (drop (k + 1) c.args.name.now))) c.len-at.ensures.value
     ∙ place_column t c.args.entry.now c.args.name.now (sym c.if-not-starts_with.false ∙ c.starts_with.ensures.value) c.at-column.result
     (λ same. c.if-len-at.false (c.len.ensures.value ∙ same ∙ sym c.len-at.ensures.value)) first

@@ -3,4 +3,4 @@ use Rattle.rm_ether.proofs.ether.EtherGroup.after.Goals as goal
 
 pub returns-clause-next : goal.returns-clause-next
 returns-clause-next c settings journal stands later askable =
-    next_cell c.args.self.now.rows c.len.ensures.rows settings journal stands.rows stands.counters c.args.name.now _ _ c.next_cell.ensures.next
+    next_cell c.args.self.now.rows c.next_cell.ensures.rows settings journal stands.rows stands.counters c.args.name.now _ _ c.next_cell.ensures.next

@@ -10,4 +10,4 @@ use Rattle.rm_event.proofs.group.EventsGroup.judge_alone.Goals as goal
 pub returns : goal.returns
 returns g c =
     let bs = g.A.Assigns.bindings c.args.set.now in
-    c.lower_verdict.ensures.lowest (length bs) (first_pass event_table bs) (alone_at (read_only (is_of_column log_entry log_columns)) bs) c.judge_alone-rows.ensures (rw (c.entry-2.ensures, c.columns.ensures) at c.judge_read_only-entries.ensures)
+    c.lower_verdict.ensures.lowest (length bs) (first_pass event_table bs) (alone_at (read_only (is_of_column log_entry log_columns)) bs) c.judge_alone-rows.ensures (rw (c.entry.ensures, c.columns.ensures) at c.judge_read_only-entries.ensures)

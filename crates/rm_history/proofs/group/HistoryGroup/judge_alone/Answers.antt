@@ -10,5 +10,5 @@ use Rattle.rm_history.proofs.group.HistoryGroup.judge_alone.Goals as goal
 pub returns : goal.returns
 returns g c =
     let bs = g.A.Assigns.bindings c.args.set.now in
-    let samples = rw (c.entry-2.ensures, c.columns.ensures) at c.judge_read_only-samples.ensures in
+    let samples = rw (c.entry.ensures, c.columns.ensures) at c.judge_read_only-samples.ensures in
     c.lower_verdict.ensures.lowest (length bs) (first_pass history_control bs) (alone_at (read_only (is_of_column sample_entry sample_columns)) bs) c.judge_alone-control.ensures samples

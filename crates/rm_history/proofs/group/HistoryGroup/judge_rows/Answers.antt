@@ -1,4 +1,4 @@
-use Rattle.std.proofs.Common.{rules, refl}
+use Rattle.std.proofs.Common.{rules}
 use Rattle.rm_model.specs.ControlRows.{no_rows}
 use Rattle.rm_status.proofs.Judged.{judged_after}
 use Rattle.rm_history.specs.HistoryControl.{history_control}
@@ -9,7 +9,7 @@ use Rattle.rm_history.proofs.group.HistoryGroup.judge_rows.Goals as goal
 pub judge_rows-requires : goal.judge_rows-requires
 judge_rows-requires g c =
     let fine = first_fine (g.A.Assigns.bindings c.args.set.now) c.requires.alone in
-    (search rules, (c.entry.ensures, (refl, fine)))
+    (search rules, fine)
 
 pub returns-clause-verdict : goal.returns-clause-verdict
 returns-clause-verdict g c settings journal stands later askable =

@@ -1,15 +1,18 @@
 use Rattle.std.proofs.Common.{rules, refl, arith}
+use Rattle.rm_model.specs.ControlRows.{no_rows}
+use Rattle.rm_status.proofs.Committed.{IsCommitted, count_then}
 use Rattle.rm_status.proofs.Puts.{all_fine}
 use Rattle.rm_history.specs.HistoryControl.{history_control}
+use Rattle.rm_history.specs.ControlColumns.{control_rows}
 use Rattle.rm_history.proofs.Storage.{first_fine}
 use Rattle.rm_history.proofs.InRange.{rows_in_range}
-use Rattle.rm_history.proofs.AfterSets.{all_fit_then, count_then, rows_with_set, histories_with_set}
+use Rattle.rm_history.proofs.AfterSets.{all_fit_then, rows_with_set, histories_with_set}
 use Rattle.rm_history.proofs.history.History.assign.Goals as goal
 
 pub commit-requires : goal.commit-requires
 commit-requires g c =
     let fine = first_fine (g.A.Assigns.bindings c.args.set.now) c.requires.ready.fine.alone in
-    (search rules, (c.entry.ensures, (refl, (fine, c.requires.ready.fine.together))))
+    (search rules, (fine, c.requires.ready.fine.together))
 
 pub invariant_of-follow : goal.invariant_of-follow
 invariant_of-follow g c =
@@ -19,7 +22,7 @@ invariant_of-follow g c =
 pub follow-requires : goal.follow-requires
 follow-requires g c =
     let bs = g.A.Assigns.bindings c.args.set.now in
-    let count = count_then bs c.args.self.now.rows c.commit.new.self c.commit.ensures in
+    let count = count_then control_rows bs c.args.self.now.rows c.commit.new.self c.commit.ensures in
     omega (arith, count, c.requires.ready.enough)
 
 pub invariant_of-self : goal.invariant_of-self
@@ -36,8 +39,9 @@ pub returns-clause-stands : goal.returns-clause-stands
 returns-clause-stands g c settings journal values stands later gives =
     let bs = g.A.Assigns.bindings c.args.set.now in
     let old = c.args.self.now in
-    let fine = all_fine history_control bs (first_fine bs c.requires.ready.fine.alone) in
+    let set : IsCommitted control_rows no_rows journal values bs old.rows c.commit.new.self =
+    record { gives = gives; fine = all_fine history_control bs (first_fine bs c.requires.ready.fine.alone); together = c.requires.ready.fine.together; held = c.len.ensures.rows; stood = stands.rows; after = c.commit.ensures } in
     c.give_back.ensures.stands settings _ (record {
-      rows = rows_with_set settings journal c.args.now bs values later gives fine old.rows c.commit.new.self c.len.ensures.rows c.requires.ready.fine.together c.commit.ensures stands.rows;
-      histories = histories_with_set settings journal c.args.now bs values later gives fine old.rows c.commit.new.self c.len.ensures.rows c.requires.ready.fine.together c.commit.ensures stands.rows old.runs c.follow.new.self stands.histories c.follow.ensures.of_valid c.follow.ensures.stays c.follow.ensures.begun;
+      rows = rows_with_set settings journal c.args.now bs values later old.rows c.commit.new.self set;
+      histories = histories_with_set settings journal c.args.now bs values later old.rows c.commit.new.self set old.runs c.follow.new.self stands.histories c.follow.ensures.of_valid c.follow.ensures.stays c.follow.ensures.begun;
     })

@@ -5,4 +5,4 @@ use Rattle.rm_history.proofs.history.History.count_after.Goals as goal
 pub rows_after-after-requires : goal.rows_after-after-requires
 rows_after-after-requires g c =
     let fine = first_fine (g.A.Assigns.bindings c.args.set.now) c.requires.alone in
-    (search rules, (c.entry.ensures, (refl, (fine, c.requires.together))))
+    (search rules, (fine, c.requires.together))

@@ -2,14 +2,14 @@ use Rattle.std.proofs.Common.{refl, sym, ap, subst, ◌∙◌}
 use Rattle.std.specs.Option.{option_map}
 use Rattle.rm_status.specs.Rows.{row_in, AreControlRows}
 use Rattle.rm_status.specs.Change.{changed_row}
-use Rattle.rm_status.proofs.RowEdits.{rising-map, there-map, row_in-map}
+use Rattle.rm_status.proofs.RowEdits.{rows-map, row_in-map}
 use Rattle.rm_status.proofs.controls.Controls.change_each.Goals as goal
 
 pub invariant_of-self : goal.invariant_of-self
 invariant_of-self g c =
     let f = changed_row (g.V.Change.changed c.args.how.now) in
     let items = c.self.inside.rows.items in
-    (c.self.invariant.0, subst (AreControlRows g.C.ControlRow.form.table) (sym c.change_all.ensures) (rising-map f (λ r. refl) items c.self.invariant.1.0, there-map f (λ r. refl) g.C.ControlRow.form.table (λ r. refl) items c.self.invariant.1.1))
+    subst (AreControlRows g.C.ControlRow.form.table) (sym c.change_all.ensures) ((rows-map f (λ r. refl) g.C.ControlRow.form.table (λ r. refl) items).0 c.self.invariant)
 
 pub returns : goal.returns
 returns g c = λ i.

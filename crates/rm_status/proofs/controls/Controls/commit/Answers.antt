@@ -11,19 +11,16 @@ make_at-requires g c =
     let bs = g.A.Assigns.bindings c.args.set.now in
     let k = c.loop-place.place in
     let within : k < length bs = omega (arith, c.count-count.ensures.value) in
-    let ordered : AreControlRows g.C.ControlRow.form.table c.args.self.now = subst (AreControlRows g.C.ControlRow.form.table) c.self.view_is c.self.invariant.1 in (
+    let ordered : AreControlRows g.C.ControlRow.form.table c.args.self.now = subst (AreControlRows g.C.ControlRow.form.table) c.self.view_is c.self.invariant in (
       search rules,
       (
-        c.requires.entry,
+        c.entry-entry.ensures,
         (
-          c.requires.status,
+          within,
           (
-            within,
-            (
-              c.requires.fine k within,
-              λ i is asks gone.
-                  room_at C.table C.with_column C.blank bs c.args.self.now C.set_to ordered c.requires.fine c.loop-place.self k i within c.loop-place.invariant.rows c.loop-place.invariant.few (c.requires.together k within) is asks gone,
-            ),
+            c.requires.fine k within,
+            λ i is asks gone.
+                room_at C.table C.with_column C.blank bs c.args.self.now C.set_to ordered c.requires.fine c.loop-place.self k i within c.loop-place.invariant.rows c.loop-place.invariant.few (c.requires.together k within) is asks gone,
           ),
         ),
       ),
@@ -51,7 +48,7 @@ invariant_of-self g c =
     let bs = g.A.Assigns.bindings c.args.set.now in
     let items = c.self-2.inside.rows.items in
     let is : c.settle_rows.new.rows.items ≡ filter_map (settle_row C.table C.with_column C.blank bs) (map (write_row C.table C.with_column C.blank bs) items) = c.settle_rows.ensures ∙ ap (filter_map (settle_row C.table C.with_column C.blank bs)) c.write_all.ensures in
-    (c.self-2.invariant.0, subst (AreControlRows g.C.ControlRow.form.table) (sym is) (rows_then C.table C.with_column C.blank bs items c.self-2.invariant.1))
+    subst (AreControlRows g.C.ControlRow.form.table) (sym is) (rows_then C.table C.with_column C.blank bs items c.self-2.invariant)
 
 pub returns : goal.returns
 returns g c = λ i.
@@ -61,4 +58,4 @@ returns g c = λ i.
     let is : c.settle_rows.new.rows.items ≡ filter_map (settle_row C.table C.with_column C.blank bs) (map (write_row C.table C.with_column C.blank bs) items) = c.settle_rows.ensures ∙ ap (filter_map (settle_row C.table C.with_column C.blank bs)) c.write_all.ensures in
     let all : c.loop-place.place ≡ length bs = omega (arith, c.count-count.ensures.value) in
     let made : (k : ℕ) → row_in items k ≡ made_first C.table C.with_column C.blank bs c.args.self.now (length bs) k = λ k. ap (λ l. row_in l k) c.self-2.view_is ∙ c.loop-place.invariant.rows k ∙ ap (λ n. made_first C.table C.with_column C.blank bs c.args.self.now n k) all in
-    ap (λ l. row_in l i) is ∙ committed C.table C.with_column C.blank bs c.args.self.now items c.self-2.invariant.1 made i
+    ap (λ l. row_in l i) is ∙ committed C.table C.with_column C.blank bs c.args.self.now items c.self-2.invariant made i

@@ -6,7 +6,7 @@ use Rattle.rm_status.proofs.controls.Controls.count_valid.Goals as goal
 pub returns-clause-value : goal.returns-clause-value
 returns-clause-value g c =
     c.count_of_valid.ensures ∙ ap (λ rows. length (filter (λ r. is_valid r.state) rows)) c.as_slice.ensures.value
-    ∙ valid-counted g.C.ControlRow.form.table g.C.ControlRow.form.set_to c.self.inside.rows.items c.args.self.now c.self.view_is c.self.invariant.1
+    ∙ valid-counted g.C.ControlRow.form.table g.C.ControlRow.form.set_to c.self.inside.rows.items c.args.self.now c.self.view_is c.self.invariant
 
 pub returns-clause-few : goal.returns-clause-few
 returns-clause-few g c =

@@ -2,7 +2,7 @@ use Rattle.rm_status.proofs.RowLemmas.{rows-with, with_columns-place, found}
 use Rattle.rm_status.proofs.controls.Controls.get_mut.Goals as goal
 
 pub invariant_of-self-lent : goal.invariant_of-self-lent
-invariant_of-self-lent g c = λ r. (λ w. (c.self.invariant.0, rows-with g.C.ControlRow.form.table c.self.inside.rows.items c.place-place.result w c.self.invariant.1), c.self.invariant)
+invariant_of-self-lent g c = λ r. ((λ w. rows-with g.C.ControlRow.form.table c.self.inside.rows.items c.place-place.result w c.self.invariant), c.self.invariant)
 
 pub returns : goal.returns
 returns g c =

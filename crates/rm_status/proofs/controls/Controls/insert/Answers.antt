@@ -15,14 +15,14 @@ insert-requires g c =
 pub invariant_of-self : goal.invariant_of-self
 invariant_of-self g c =
     let x : Row g.row.C.Denot = record { index = c.args.index; state = c.args.state; columns = c.args.columns } in
-    (c.self.invariant.0, (inserted g.C.ControlRow.form.table c.self.inside.rows.items c.args.self.now c.insert.new.self.items x c.place_above-place.result c.self.view_is c.place_above-place.ensures c.insert.ensures.items c.self.invariant.1 (c.requires.index, c.requires.there) c.requires.absent).0)
+    (inserted g.C.ControlRow.form.table c.self.inside.rows.items c.args.self.now c.insert.new.self.items x c.place_above-place.result c.self.view_is c.place_above-place.ensures c.insert.ensures.items c.self.invariant (c.requires.index, c.requires.there) c.requires.absent).0
 
 pub returns-clause-rows : goal.returns-clause-rows
 returns-clause-rows g c =
     let x : Row g.row.C.Denot = record { index = c.args.index; state = c.args.state; columns = c.args.columns } in
-    (inserted g.C.ControlRow.form.table c.self.inside.rows.items c.args.self.now c.insert.new.self.items x c.place_above-place.result c.self.view_is c.place_above-place.ensures c.insert.ensures.items c.self.invariant.1 (c.requires.index, c.requires.there) c.requires.absent).1
+    (inserted g.C.ControlRow.form.table c.self.inside.rows.items c.args.self.now c.insert.new.self.items x c.place_above-place.result c.self.view_is c.place_above-place.ensures c.insert.ensures.items c.self.invariant (c.requires.index, c.requires.there) c.requires.absent).1
 
 pub returns-clause-one_more : goal.returns-clause-one_more
 returns-clause-one_more g c =
     let x : Row g.row.C.Denot = record { index = c.args.index; state = c.args.state; columns = c.args.columns } in
-    (inserted g.C.ControlRow.form.table c.self.inside.rows.items c.args.self.now c.insert.new.self.items x c.place_above-place.result c.self.view_is c.place_above-place.ensures c.insert.ensures.items c.self.invariant.1 (c.requires.index, c.requires.there) c.requires.absent).2
+    (inserted g.C.ControlRow.form.table c.self.inside.rows.items c.args.self.now c.insert.new.self.items x c.place_above-place.result c.self.view_is c.place_above-place.ensures c.insert.ensures.items c.self.invariant (c.requires.index, c.requires.there) c.requires.absent).2

@@ -6,5 +6,5 @@ use Rattle.rm_status.proofs.controls.Controls.len.Goals as goal
 
 pub returns-clause-counted : goal.returns-clause-counted
 returns-clause-counted g c =
-    c.len.ensures.value ∙ length-counted g.C.ControlRow.form.table c.self.inside.rows.items c.self.invariant.1
+    c.len.ensures.value ∙ length-counted g.C.ControlRow.form.table c.self.inside.rows.items c.self.invariant
     ∙ ap (λ rows. count_below (λ row. is_some (row_in rows row)) (2 ^ 32)) c.self.view_is

@@ -26,6 +26,6 @@ insert-requires g c =
     let made : is_made Absent (set_ask t bs (row_index g.C.ControlRow.form.table row)) ≡ true = rw (← c.set_ask-asked.ensures) (sym c.if-is_made.ensures) in
     let there : is_absent c.next_state.result ≡ false = ap is_absent (c.next_state.ensures ∙ ap (λ x. next_state x Absent) c.set_ask-asked.ensures) ∙ made_there (set_ask t bs (row_index g.C.ControlRow.form.table row)) made in
     let gone : row_in c.args.self.now row ≡ None = sym c.find.ensures ∙ no_row (λ x. x.now) c.find.result (sym c.if-is_none.ensures) in
-    let column : c.in-Cell.column ≡ t.status = c.if-column-status.true ∙ c.requires.status in
+    let column : c.in-Cell.column ≡ t.status = c.if-column-status.true ∙ c.status.ensures in
     let here : is_cell t.status row (place_of t (name_at bs k)) ≡ true = ap (is_cell t.status row) at ∙ rw (column, eq_itself row, eq_itself t.status) refl in
     (search rules, (row_number_at t bs k c.in-Cell.column row at c.requires.fine, (there, (gone, c.requires.room row here made gone))))

@@ -13,7 +13,7 @@ commit-requires g c =
     let C = g.C.ControlRow.form in
     let bs = g.A.Assigns.bindings c.args.set.now in
     let same : rows_before C.table C.set_to c.bare-rows.result ≡ rows_before C.table C.set_to c.args.self.now = same_before C.set_to C.table c.args.self.now c.bare-rows.result c.bare-rows.ensures in
-    (search rules, (c.requires.entry, (c.requires.status, (c.requires.fine, subst (λ (b : Beginning). IsFirstFault (length bs) (second_pass C.table b bs) Fine) (sym same) c.requires.together))))
+    (search rules, (c.requires.fine, subst (λ (b : Beginning). IsFirstFault (length bs) (second_pass C.table b bs) Fine) (sym same) c.requires.together))
 
 pub returns : goal.returns
 returns g c = λ i.
