@@ -69,14 +69,19 @@ def owners(count):
     return [(numbers, element(OCTETS, b"")) for numbers in names[:count]]
 
 
+def set_status(table, row, value):
+    entry, _, status = table
+    return setting([(entry + (status, row), integer(value))])
+
+
 def set_up():
     """The SetRequests that make all rows. Those of etherStats and historyControl become valid."""
-    for entry, _, status in CONTROL_TABLES:
+    for table in CONTROL_TABLES:
         for row in ROWS:
-            yield setting([(entry + (status, row), integer(CREATE_REQUEST))])
-    for entry, _, status in CONTROL_TABLES[:2]:
+            yield set_status(table, row, CREATE_REQUEST)
+    for table in CONTROL_TABLES[:2]:
         for row in ROWS:
-            yield setting([(entry + (status, row), integer(VALID))])
+            yield set_status(table, row, VALID)
 
 
 REPEATED = [ETHER_STATS + (column,) for column in (4, 5, 6, 7)]
@@ -100,4 +105,5 @@ def main():
     sys.stdout.writelines(lines)
 
 
-main()
+if __name__ == "__main__":
+    main()

@@ -49,6 +49,10 @@ impl Group for Alarms {
 
     ghost finite = { λ settings journal now. alarms_finite settings journal };
 
+    fn least() -> &'static [u32] {
+        ALARM_OBJECTS.entry
+    }
+
     fn cell(&self, name: &Oid, _now: u32) -> Option<Value<'_>> {
         self.rows.cell(&LastValue, name)
     }

@@ -102,6 +102,10 @@ impl Group for Ether {
 
     ghost finite = { λ settings journal now. ether_finite settings journal };
 
+    fn least() -> &'static [u32] {
+        ETHER_OBJECTS.entry
+    }
+
     fn cell(&self, name: &Oid, _now: u32) -> Option<Value<'_>> {
         self.rows.cell(&Counters, name)
     }

@@ -50,6 +50,10 @@ impl Group for Events {
 
     ghost finite = { λ settings journal now. event_finite settings journal };
 
+    fn least() -> &'static [u32] {
+        EVENT_OBJECTS.entry
+    }
+
     fn cell(&self, name: &Oid, now: u32) -> Option<Value<'_>> {
         prove!(self.rows.len() <= 32);
         let (rows, logs) = (&self.rows, &self.logs);

@@ -1,6 +1,7 @@
 mod SearchLemmas
-mod StartLemmas
+pub mod StartLemmas
 pub mod Finds
 pub mod ReadOnly
 pub mod Dues
 mod Listing
+pub mod Leasts

@@ -8,3 +8,4 @@ pub mod Due
 pub mod ColumnLemmas
 pub mod Listed
 pub mod Both
+pub mod Least

@@ -1,6 +1,11 @@
 // Two groups as one.
-ghost use Rattle.std.specs.Prelude.{◌||◌, ◌⊎◌, max};
-ghost use Rattle.std.specs.Option.{option_or};
+ghost use Rattle.std.specs.Prelude.{◌≡◌, ◌≤◌, ◌||◌, ◌⊎◌, max, IfSome, OnSome, IfNone};
+ghost use Rattle.std.specs.Option.{option_map, option_or};
+ghost use Rattle.rm_val.specs.Val.{val_of};
+ghost use Rattle.rm_val.specs.Spellable.{IsSpellable, HasSpelling};
+ghost use Rattle.rm_model.specs.Settings.{Settings};
+ghost use Rattle.rm_model.specs.Journal.{Journal, last_moment};
+ghost use Rattle.rm_model.specs.Cells.{IsNext};
 ghost use Rattle.rm_model.proofs.Finite.{both_finite};
 ghost use Rattle.rm_group.specs.Both.{StandAsOne};
 ghost use Rattle.rm_group.specs.Listed.{both_of_objects, both_refused};
@@ -10,6 +15,7 @@ use crate::beside::Beside;
 use crate::commits::Commits;
 use crate::denied::Denied;
 use crate::group::Group;
+use crate::least::{is_before, is_under, lesser};
 use crate::look::Look;
 use crate::lower::lower_verdict;
 use crate::nearer::choose_nearer;
@@ -26,6 +32,50 @@ pub struct Both<G, H> {
     pub first: G,
     /// The other group.
     pub second: H,
+}
+
+impl<G: Group, H: Beside<G>> Both<G, H> {
+    // What `after` finds. The first group is asked first.
+    fn after_first(&self, name: &Oid, now: u32, out: &mut Oid) -> Option<Value<'_>>
+        ensures next { (settings : Settings) (journal : Journal) → G.stands self.now.first settings journal → H.stands self.now.second settings journal
+            → last_moment journal ≤ now → G.askable self.now.first now → H.askable self.now.second now
+            → IsNext (λ asked. option_or (G.cells settings journal now asked) (H.cells settings journal now asked)) name.now (option_map val_of result) out.new }
+        ensures stays { IfNone result (out.new ≡ out.old) }
+        ensures name_spelling { OnSome result (IsSpellable out.new) }
+        ensures spelling { IfSome result (λ value. HasSpelling (val_of value)) }
+    {
+        let Some(value) = self.first.after(name, now, out) else {
+            return self.second.after(name, now, out);
+        };
+        if is_under(out, H::least()) {
+            return Some(value);
+        }
+        let mut other = Oid::new();
+        let other_value = self.second.after(name, now, &mut other);
+        choose_nearer(Some(value), out, other_value, other)
+    }
+
+    // The same. The second group is asked first.
+    fn after_second(&self, name: &Oid, now: u32, out: &mut Oid) -> Option<Value<'_>>
+        ensures next { (settings : Settings) (journal : Journal) → G.stands self.now.first settings journal → H.stands self.now.second settings journal
+            → last_moment journal ≤ now → G.askable self.now.first now → H.askable self.now.second now
+            → IsNext (λ asked. option_or (G.cells settings journal now asked) (H.cells settings journal now asked)) name.now (option_map val_of result) out.new }
+        ensures stays { IfNone result (out.new ≡ out.old) }
+        ensures name_spelling { OnSome result (IsSpellable out.new) }
+        ensures spelling { IfSome result (λ value. HasSpelling (val_of value)) }
+    {
+        let Some(value) = self.second.after(name, now, out) else {
+            return self.first.after(name, now, out);
+        };
+        if is_under(out, G::least()) {
+            return Some(value);
+        }
+        let mut nearest = Oid::new();
+        let first = self.first.after(name, now, &mut nearest);
+        let nearer = choose_nearer(first, &mut nearest, Some(value), out.copied());
+        *out = nearest;
+        nearer
+    }
 }
 
 impl<G: Group, H: Beside<G>> Group for Both<G, H> {
@@ -64,11 +114,16 @@ impl<G: Group, H: Beside<G>> Group for Both<G, H> {
         }
     }
 
+    fn least() -> &'static [u32] {
+        lesser(G::least(), H::least())
+    }
+
     fn after(&self, name: &Oid, now: u32, out: &mut Oid) -> Option<Value<'_>> {
-        let mut other = Oid::new();
-        let left = self.first.after(name, now, out);
-        let right = self.second.after(name, now, &mut other);
-        choose_nearer(left, out, right, other)
+        if is_before(H::least(), G::least()) {
+            self.after_second(name, now, out)
+        } else {
+            self.after_first(name, now, out)
+        }
     }
 
     fn judge_alone<A: Assigns>(&self, set: &A) -> Verdict {

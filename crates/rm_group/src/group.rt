@@ -9,6 +9,7 @@ ghost use Rattle.rm_model.specs.Journal.{Journal, last_moment};
 ghost use Rattle.rm_model.specs.Cells.{Cells, IsNext};
 ghost use Rattle.rm_model.specs.Finite.{AreFinite};
 ghost use Rattle.rm_model.specs.Judgement.{Bindings, IsFirstFault};
+ghost use Rattle.rm_group.specs.Least.{AreFrom};
 ghost use Rattle.rm_group.specs.Look.{Readings};
 ghost use Rattle.rm_group.specs.Alone.{alone_at, AreFineAlone, IsWithin};
 
@@ -62,6 +63,15 @@ pub trait Group {
 
     /// The group holds nothing for a Set that is to be committed.
     ghost released: { Self → Type 0 };
+
+    /// A name that no variable of the group has a lesser one than, whatever the journal and the moment. Where a variable with a name
+    /// below it was found, the group has no nearer one, and needn't be asked.
+    fn least() -> &'static [u32]
+        ensures from { (settings : Settings) (journal : Journal) (now : ℕ) → AreFrom result.now (cells settings journal now) }
+        ensures fits { length result.now ≤ 128 }
+    {
+        &[]
+    }
 
     /// The value of the variable with that name at a moment in milliseconds, which isn't below that of the last act, and at
     /// which the group may be asked. None where the group has no such variable.

@@ -68,6 +68,10 @@ impl Group for System {
 
     ghost finite = { λ settings journal now. one_row_finite (system_table now) (0 ∷ []) (λ index row. row) };
 
+    fn least() -> &'static [u32] {
+        OBJECTS.entry
+    }
+
     fn cell(&self, name: &Oid, now: u32) -> Option<Value<'_>> {
         scalar(name, now)
     }

@@ -55,6 +55,10 @@ impl Group for History {
 
     ghost finite = { history_finite };
 
+    fn least() -> &'static [u32] {
+        CONTROL_OBJECTS.entry
+    }
+
     fn cell(&self, name: &Oid, now: u32) -> Option<Value<'_>> {
         prove!(self.rows.len() <= 32);
         let samples = Samples { runs: &self.runs };

@@ -124,8 +124,12 @@ pub fn next_of_both<'a, R: ControlRow, O: OtherColumns<R>, I: InnerCells<'a> + C
     ensures name_spelling { OnSome result (IsSpellable out.new) }
     ensures spelling { IfSome result (λ value. HasSpelling (val_of value)) }
 {
-    let mut other = Oid::new();
     let control = rows.next_cell(others, name, out);
+    // No inner row has a name below the entry of its table.
+    if control.is_some() && out.compare(&I::entry()).is_lt() {
+        return control;
+    }
+    let mut other = Oid::new();
     let entry = next_inner_cell(inner, name, now, &mut other);
     choose_nearer(control, out, entry, other)
 }

@@ -18,6 +18,11 @@ abbrev pub is_cell : ℕ → ℕ → Place → Bool
 is_cell column row (Cell other number) = nat_eq number row && nat_eq other column
 is_cell column row elsewhere = false
 
+-- whether a place is that of some column of a row
+abbrev pub is_of_row : ℕ → Place → Bool
+is_of_row row (Cell other number) = nat_eq number row
+is_of_row row elsewhere = false
+
 -- whether a binding is that of the status of a row
 abbrev pub is_status : ControlTable → ℕ → Assignment → Bool
 is_status table row binding = bytes_eq binding.name (cell_name table.entry table.status (row_index table row))

@@ -9,7 +9,7 @@ ghost use Rattle.rm_model.specs.ControlRows.{set_ask};
 ghost use Rattle.rm_model.specs.Judgement.{IsFirstFault, place_of, writable_kind, value_fault, alone_fault, first_pass, is_again, row_fault, unless};
 ghost use Rattle.rm_status.specs.Commit.{put_at, put_all};
 
-use crate::place::{is_cell, place_under};
+use crate::place::{is_cell, may_be_of_row, place_under};
 use crate::steps::{
     column_fault, fixed_fault, is_made, status_or_staying_fault, status_value_fault, value_ask,
 };
@@ -149,6 +149,9 @@ fn put_one<C: ControlRow>(columns: &mut C, entry: &Oid, row: u32, name: &Oid, va
     requires spelling { HasSpelling (val_of value.now) }
     ensures { columns.new ≡ put_at C.form.table C.form.with_column C.form.blank row (place_of C.form.table name.now) (val_of value.now) columns.old }
 {
+    if !may_be_of_row::<C>(name, entry, row) {
+        return;
+    }
     if let Place::Cell(column, number) = place_under::<C>(name, entry) {
         if number == row && column != C::status() {
             columns.put(column, value);

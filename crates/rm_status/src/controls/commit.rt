@@ -46,11 +46,14 @@ impl<C: ControlRow> Controls<C> {
         ensures few { let bindings = A.bindings set.now in length self.new ≡ length self.old + made_now C.form.table C.form.with_column C.form.blank self.old bindings (place_of C.form.table (name_at bindings place)) }
     {
         let name = set.name(place);
-        if let Place::Cell(column, row) = place_under::<C>(&name, entry) {
-            let asked = set_ask::<C, A>(set, entry, row);
-            if column == C::status() && is_made(State::Absent, asked) && self.find(row).is_none() {
-                self.insert(row, next_state(asked, State::Absent), C::blank(row));
+        match place_under::<C>(&name, entry) {
+            Place::Cell(column, row) if column == C::status() => {
+                let asked = set_ask::<C, A>(set, entry, row);
+                if is_made(State::Absent, asked) && self.find(row).is_none() {
+                    self.insert(row, next_state(asked, State::Absent), C::blank(row));
+                }
             }
+            _ => {}
         }
     }
 }

@@ -1,7 +1,32 @@
-use Rattle.rm_model.specs.Cells.{cells_of}
+use Rattle.std.proofs.Common.{◌≡◌, ℕ, List, true, Option, Some, None, option_map}
+use Rattle.std.specs.Prelude.{is_some}
+use Rattle.std.specs.Option.{option_or}
+use Rattle.std.specs.Ordering.{nat_cmp, is_lt}
+use Rattle.std.specs.Cmp.Lexicographic.{slice_cmp}
+use Rattle.rm_val.specs.Val.{Val, val_of}
+use Rattle.rm_model.specs.Names.{Below}
+use Rattle.rm_model.specs.Cells.{Cells, IsNext, cells_of}
 use Rattle.rm_status.specs.RowsShown.{rows_shown}
 use Rattle.rm_nested.specs.InnerTable.{inner_table}
+use Rattle.rm_group.specs.Least.{AreFrom}
+use Rattle.rm_group.proofs.Leasts.{is_below, first_before, table_from}
 use Rattle.rm_nested.proofs.inner_cells.next_of_both.Goals as goal
+
+found_first : {A : Type 0} (shown : A → Val) (cells others : Cells) (asked found least : List ℕ) (value : Option A) → true ≡ is_some value
+    → IsNext cells asked (option_map shown value) found → Below found least → AreFrom least others
+    → IsNext (λ name. option_or (cells name) (others name)) asked (option_map shown value) found
+found_first shown cells others asked found least None there next under from = absurd (cc)
+found_first shown cells others asked found least (Some value) there next under from = first_before cells others asked found least (shown value) next under from
+
+pub returns-then-is_lt-clause-next : goal.returns-then-is_lt-clause-next
+returns-then-is_lt-clause-next g c =
+    let R = g.R.ControlRow in
+    let I = g.I.InnerCells in
+    let control = cells_of (rows_shown R.form (g.O.OtherColumns.others c.args.others.now c.args.rows.now) c.args.rows.now) in
+    let table = inner_table I.entry I.columns (g.I.InnerRows.is_inner c.args.inner c.args.now) (I.shown c.args.inner) in
+    let found = c.next_cell-control.new.out in
+    let less : is_lt (slice_cmp nat_cmp found I.entry) ≡ true = rw (← c.entry.ensures, ← c.compare.ensures.value, ← c.is_lt.ensures) c.if-is_lt.true in
+    found_first val_of control (cells_of table) c.args.name.now found I.entry c.next_cell-control.result c.if-is_some.ensures c.next_cell-control.ensures.next (is_below found I.entry less) (table_from table)
 
 pub returns-clause-next : goal.returns-clause-next
 returns-clause-next g c =
