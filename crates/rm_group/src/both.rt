@@ -3,7 +3,7 @@ ghost use Rattle.std.specs.Prelude.{◌≡◌, ◌≤◌, ◌||◌, ◌⊎◌, m
 ghost use Rattle.std.specs.Option.{option_map, option_or};
 ghost use Rattle.rm_val.specs.Val.{val_of};
 ghost use Rattle.rm_val.specs.Spellable.{IsSpellable, HasSpelling};
-ghost use Rattle.rm_model.specs.Settings.{Settings};
+ghost use Rattle.rm_model.specs.Counting.{Counting};
 ghost use Rattle.rm_model.specs.Journal.{Journal, last_moment};
 ghost use Rattle.rm_model.specs.Cells.{IsNext};
 ghost use Rattle.rm_model.proofs.Finite.{both_finite};
@@ -37,7 +37,7 @@ pub struct Both<G, H> {
 impl<G: Group, H: Beside<G>> Both<G, H> {
     // What `after` finds. The first group is asked first.
     fn after_first(&self, name: &Oid, now: u32, out: &mut Oid) -> Option<Value<'_>>
-        ensures next { (settings : Settings) (journal : Journal) → G.stands self.now.first settings journal → H.stands self.now.second settings journal
+        ensures next { (settings : Counting) (journal : Journal) → G.stands self.now.first settings journal → H.stands self.now.second settings journal
             → last_moment journal ≤ now → G.askable self.now.first now → H.askable self.now.second now
             → IsNext (λ asked. option_or (G.cells settings journal now asked) (H.cells settings journal now asked)) name.now (option_map val_of result) out.new }
         ensures stays { IfNone result (out.new ≡ out.old) }
@@ -57,7 +57,7 @@ impl<G: Group, H: Beside<G>> Both<G, H> {
 
     // The same. The second group is asked first.
     fn after_second(&self, name: &Oid, now: u32, out: &mut Oid) -> Option<Value<'_>>
-        ensures next { (settings : Settings) (journal : Journal) → G.stands self.now.first settings journal → H.stands self.now.second settings journal
+        ensures next { (settings : Counting) (journal : Journal) → G.stands self.now.first settings journal → H.stands self.now.second settings journal
             → last_moment journal ≤ now → G.askable self.now.first now → H.askable self.now.second now
             → IsNext (λ asked. option_or (G.cells settings journal now asked) (H.cells settings journal now asked)) name.now (option_map val_of result) out.new }
         ensures stays { IfNone result (out.new ≡ out.old) }

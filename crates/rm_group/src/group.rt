@@ -67,7 +67,7 @@ pub trait Group {
     /// A name that no variable of the group has a lesser one than, whatever the journal and the moment. Where a variable with a name
     /// below it was found, the group has no nearer one, and needn't be asked.
     fn least() -> &'static [u32]
-        ensures from { (settings : Settings) (journal : Journal) (now : ℕ) → AreFrom result.now (cells settings journal now) }
+        ensures from { (settings : Counting) (journal : Journal) (now : ℕ) → AreFrom result.now (cells settings journal now) }
         ensures fits { length result.now ≤ 128 }
     {
         &[]
