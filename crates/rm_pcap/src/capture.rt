@@ -1,4 +1,4 @@
-ghost use Rattle.std.specs.Prelude.{◌≡◌, ◌≤◌, ◌+◌, ℕ, List, IfOk, IfErr, OnErr, ⊤};
+ghost use Rattle.std.specs.Prelude.{◌≡◌, ◌≢◌, ◌≤◌, ◌+◌, ℕ, List, IfOk, IfErr, OnErr, ⊤};
 ghost use Rattle.std.specs.Borrow.{sem};
 ghost use denote.Follow.{follows_so};
 ghost use mathlib.Core.Option.{none};
@@ -58,6 +58,10 @@ impl Capture {
         ensures later { (each : List ℕ) → S.faults shelf.old each ≤ S.faults shelf.new each }
         ensures cause { IfErr result (λ fault. fault ≡ PcapFault.Read
             → Rose (S.faults shelf.old name.now) (S.faults shelf.new name.now)) }
+        ensures quiet { result ≢ Err PcapFault.Read
+            → (each : List ℕ) → S.faults shelf.new each ≡ S.faults shelf.old each }
+        ensures apart { (each bytes : List ℕ) → each ≢ name.now → S.held shelf.old each ≡ File bytes
+            → S.faults shelf.new each ≡ S.faults shelf.old each }
         ensures absent { S.held shelf.old name.now ≡ Absent → result ≡ Err PcapFault.Read }
         ensures begun { IfOk result (λ capture.
             progress_of capture ≡ begun (progress_of capture).form lead) }
@@ -100,6 +104,10 @@ impl Capture {
         ensures later { (each : List ℕ) → S.faults shelf.old each ≤ S.faults shelf.new each }
         ensures cause { IfErr result (λ fault. fault ≡ PcapFault.Read
             → Rose (S.faults shelf.old name.now) (S.faults shelf.new name.now)) }
+        ensures quiet { result ≢ Err PcapFault.Read
+            → (each : List ℕ) → S.faults shelf.new each ≡ S.faults shelf.old each }
+        ensures apart { (each bytes : List ℕ) → each ≢ name.now → S.held shelf.old each ≡ File bytes
+            → S.faults shelf.new each ≡ S.faults shelf.old each }
         ensures position { self.new.position ≡ self.old.position }
         ensures seen { IfOk result (λ seen. self.new.seen ≡ Some seen) }
         ensures follows { IfOk result (FollowsSeen self.old.position.reach) }
@@ -128,6 +136,10 @@ impl Capture {
         ensures later { (each : List ℕ) → S.faults shelf.old each ≤ S.faults shelf.new each }
         ensures cause { IfErr result (λ fault. fault ≡ PcapFault.Read
             → Rose (S.faults shelf.old name.now) (S.faults shelf.new name.now)) }
+        ensures quiet { result ≢ Err PcapFault.Read
+            → (each : List ℕ) → S.faults shelf.new each ≡ S.faults shelf.old each }
+        ensures apart { (each bytes : List ℕ) → each ≢ name.now → S.held shelf.old each ≡ File bytes
+            → S.faults shelf.new each ≡ S.faults shelf.old each }
         ensures follows { IfOk result (FollowsSeen self.old.position.reach) }
         ensures passed { IfOk result (IsPassed self.new.window) }
         ensures stays { IfOk result (λ seen. seen ≡ Seen.Cut → self.new.position.reach.at ≡ self.old.position.reach.at) }
@@ -155,6 +167,10 @@ impl Capture {
         ensures later { (each : List ℕ) → S.faults shelf.old each ≤ S.faults shelf.new each }
         ensures cause { IfErr result (λ fault. fault ≡ PcapFault.Read
             → Rose (S.faults shelf.old name.now) (S.faults shelf.new name.now)) }
+        ensures quiet { result ≢ Err PcapFault.Read
+            → (each : List ℕ) → S.faults shelf.new each ≡ S.faults shelf.old each }
+        ensures apart { (each bytes : List ℕ) → each ≢ name.now → S.held shelf.old each ≡ File bytes
+            → S.faults shelf.new each ≡ S.faults shelf.old each }
         ensures looks { IfOk result
             (LooksAt (S.held shelf.old name.now) (progress_of self.old) (progress_of self.new)) }
         ensures same { OnErr result (progress_of self.new ≡ progress_of self.old) }
@@ -177,6 +193,10 @@ impl Capture {
         ensures later { (each : List ℕ) → S.faults shelf.old each ≤ S.faults shelf.new each }
         ensures cause { IfErr result (λ fault. fault ≡ PcapFault.Read
             → Rose (S.faults shelf.old name.now) (S.faults shelf.new name.now)) }
+        ensures quiet { result ≢ Err PcapFault.Read
+            → (each : List ℕ) → S.faults shelf.new each ≡ S.faults shelf.old each }
+        ensures apart { (each bytes : List ℕ) → each ≢ name.now → S.held shelf.old each ≡ File bytes
+            → S.faults shelf.new each ≡ S.faults shelf.old each }
         ensures faults { IfErr result (Fails (S.held shelf.old name.now) (progress_of self.old)) }
         ensures* after { sem 𝓛 (follows_so the_row the_row self.entry.ghost_name none (λ _ _. ⊤)
             (λ after. Steps (S.held shelf.old name.now) (progress_of self.old) (progress_of after) result)) }

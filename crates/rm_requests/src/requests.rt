@@ -1,5 +1,5 @@
 // A request file that is read line by line.
-ghost use Rattle.std.specs.Prelude.{◌≡◌, ◌≤◌, ◌<◌, ◌*◌, ◌+◌, ℕ, List, [], length, drop, take, position, vec_len, Err, IfOk, OnOk, IsErr};
+ghost use Rattle.std.specs.Prelude.{◌≡◌, ◌≢◌, ◌≤◌, ◌<◌, ◌*◌, ◌+◌, ℕ, List, [], length, drop, take, position, vec_len, Err, IfOk, OnOk, IsErr};
 ghost use Rattle.rm_edge.specs.Outside.{File, Absent, HasCause, Rose};
 ghost use Rattle.rm_window.specs.Filling.{IsFront};
 ghost use Rattle.rm_window.specs.Window.{room_of, octets_of};
@@ -96,6 +96,8 @@ impl Requests {
         ensures constant { (each : List ℕ) → S.held shelf.new each ≡ S.held shelf.old each }
         ensures later { (each : List ℕ) → S.faults shelf.old each ≤ S.faults shelf.new each }
         ensures cause { HasCause (S.faults shelf.old name.now) (S.faults shelf.new name.now) result }
+        ensures quiet { OnOk result ((each : List ℕ) → S.faults shelf.new each ≡ S.faults shelf.old each) }
+        ensures apart { (each bytes : List ℕ) → each ≢ name.now → S.held shelf.old each ≡ File bytes → S.faults shelf.new each ≡ S.faults shelf.old each }
         ensures end { IfOk result (λ end. end ≡ position is_newline (octets_of self.new.window)) }
         ensures stays { Stays (reached_of self.old) (reached_of self.new) }
         ensures holds { (bytes : List ℕ) → S.held shelf.old name.now ≡ File bytes → IsFront (octets_of self.old.window) (drop self.old.at bytes)
@@ -138,6 +140,8 @@ impl Requests {
         ensures constant { (each : List ℕ) → S.held shelf.new each ≡ S.held shelf.old each }
         ensures later { (each : List ℕ) → S.faults shelf.old each ≤ S.faults shelf.new each }
         ensures cause { result ≡ Err RequestsFault.Read → Rose (S.faults shelf.old name.now) (S.faults shelf.new name.now) }
+        ensures quiet { result ≢ Err RequestsFault.Read → (each : List ℕ) → S.faults shelf.new each ≡ S.faults shelf.old each }
+        ensures apart { (each bytes : List ℕ) → each ≢ name.now → S.held shelf.old each ≡ File bytes → S.faults shelf.new each ≡ S.faults shelf.old each }
         ensures answers { Answers (S.held shelf.old name.now) (reached_of self.old) (reached_of self.new) (datagram_in self.new) result }
         ensures absent { S.held shelf.old name.now ≡ Absent → (reached_of self.old).read ≡ [] → result ≡ Err RequestsFault.Read }
     {

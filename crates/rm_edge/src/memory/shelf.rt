@@ -113,6 +113,7 @@ impl Shelf for MemShelf {
         ensures octets { Reads (held_in self.old name.now) at into.new result }
         ensures cause { HasCause (faults_in self.old name.now) (faults_in self.new name.now) result }
         ensures others { (each : List ℕ) → faults_in self.old each ≤ faults_in self.new each }
+        ensures quiet { OnOk result ((each : List ℕ) → faults_in self.new each ≡ faults_in self.old each) }
 
         // It fails at the listed calls and where there is no file, and nowhere else.
         ensures exact { IsErr result ↔ (IsToFail self.old ⊎ (held_in self.old name.now ≡ Absent)) }
@@ -125,7 +126,7 @@ impl Shelf for MemShelf {
         // A fault counts for the name alone, or for all absent names.
         ensures counted { faults_in self.new name.now ≡ (if is_err result
             then one_more (faults_in self.old name.now) else faults_in self.old name.now) }
-        ensures apart { (each : List ℕ) → each ≢ name.now → held_in self.old each ≢ Absent
+        ensures apart { (each bytes : List ℕ) → each ≢ name.now → held_in self.old each ≡ File bytes
             → faults_in self.new each ≡ faults_in self.old each }
 
         ensures calls { self.new.calls ≡ one_more self.old.calls }

@@ -1,5 +1,5 @@
-ghost use Rattle.std.specs.Prelude.{◌≡◌, ◌≤◌, ℕ, List, length, IfOk};
-ghost use Rattle.rm_edge.specs.Outside.{Held, Reads, HasCause};
+ghost use Rattle.std.specs.Prelude.{◌≡◌, ◌≢◌, ◌≤◌, ℕ, List, length, IfOk, OnOk};
+ghost use Rattle.rm_edge.specs.Outside.{Held, File, Reads, HasCause};
 
 use super::Failed;
 
@@ -8,7 +8,8 @@ pub trait Shelf {
     /// What the shelf tells of a name: its octets, that it has no file, or nothing.
     ghost held: { Self → List ℕ → Held };
 
-    /// How often a read of a name has failed. A name's count never falls.
+    /// How often a read of a name has failed. A name's count never falls. Names of which the shelf tells no file may share
+    /// a count.
     ghost faults: { Self → List ℕ → ℕ };
 
     /// Reads the file's octets from place `at` on, counted from 0, into the front of `into`, and
@@ -16,11 +17,15 @@ pub trait Shelf {
     /// that 0 for a buffer with room is the end of the file, or a place behind it.
     ///
     /// Failed comes only where the name's count of faults has risen. A name without a file always
-    /// fails.
+    /// fails. A read that doesn't fail leaves all counts as they were, and one that fails those of
+    /// the other names of which the shelf tells a file.
     fn read(&mut self, name: &str, at: u64, into: &mut [u8]) -> Result<usize, Failed>
         ensures most { IfOk result (λ count. count ≤ length into.old) }
         ensures constant { (each : List ℕ) → held self.new each ≡ held self.old each }
         ensures octets { Reads (held self.old name.now) at into.new result }
         ensures cause { HasCause (faults self.old name.now) (faults self.new name.now) result }
-        ensures others { (each : List ℕ) → faults self.old each ≤ faults self.new each };
+        ensures others { (each : List ℕ) → faults self.old each ≤ faults self.new each }
+        ensures quiet { OnOk result ((each : List ℕ) → faults self.new each ≡ faults self.old each) }
+        ensures apart { (each bytes : List ℕ) → each ≢ name.now → held self.old each ≡ File bytes
+            → faults self.new each ≡ faults self.old each };
 }

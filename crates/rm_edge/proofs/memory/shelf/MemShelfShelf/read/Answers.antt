@@ -13,6 +13,7 @@ returns-in_default c =
       octets = rw none (search rules);
       cause = rw none (record { later = omega arith; failed = omega arith });
       others = search rules;
+      quiet = search rules;
       exact = (λ _. inr (rw none refl), λ _. refl);
       count = search rules;
       counted = rw none (omega arith);
@@ -33,10 +34,11 @@ returns-then-contains c =
       octets = rw stands.file (search rules);
       cause = record { later = counts.later c.args.name.now; failed = omega (arith, counts.counted) };
       others = counts.later;
+      quiet = search rules;
       exact = search rules;
       count = search rules;
       counted = counts.counted;
-      apart = λ each other _. counts.apart each other;
+      apart = λ each bytes other _. counts.apart each other;
       calls = search rules;
       failing = search rules;
       pieces = search rules;
@@ -52,6 +54,7 @@ returns c =
       octets = rw stands.file (record { octets = c.read_at.ensures.octets; within = omega (arith, c.read_at.ensures.count); some = grind (arith, c.read_at.ensures.count, c.read_at.auto.into) });
       cause = record { later = omega arith; failed = search rules };
       others = search rules;
+      quiet = search rules;
       exact = rw stands.file (search rules);
       count = rw stands.file c.read_at.ensures.count;
       counted = search rules;
