@@ -1,4 +1,5 @@
 pub mod Outside
+pub mod Digits
 pub mod Link
 pub mod Clock
 pub mod MemShelf

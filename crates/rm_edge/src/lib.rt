@@ -3,6 +3,7 @@
 //! have an adapter over the real thing.
 #![tactic(auto)]
 
+mod digits;
 mod memory;
 mod outside;
 mod real;
@@ -10,6 +11,7 @@ mod real;
 mod tests;
 mod words;
 
+pub use digits::read_number;
 pub use memory::{ListClock, MemLink, MemShelf, MemSink};
 pub use outside::{Clock, Failed, Link, Peer, Shelf, Sink};
 pub use real::{FileShelf, StdSink};
