@@ -1,8 +1,9 @@
-ghost use Rattle.std.specs.Prelude.{◌≡◌, ◌≢◌, ◌≤◌, ◌+◌, ℕ, List, IfOk, IfErr, OnErr, ⊤};
+ghost use Rattle.std.specs.Prelude.{◌≡◌, ◌≤◌, ◌+◌, ℕ, List, IfOk, IfErr, OnErr, ⊤};
 ghost use Rattle.std.specs.Borrow.{sem};
 ghost use denote.Follow.{follows_so};
 ghost use mathlib.Core.Option.{none};
 ghost use Rattle.rm_edge.specs.Outside.{File, Absent, Rose};
+ghost use Rattle.rm_edge.specs.Shelves.{KeepsShelf};
 ghost use Rattle.rm_pcap.specs.Seen.{IsAhead, IsNear, FollowsSeen};
 ghost use Rattle.rm_pcap.specs.Progress.{begun};
 ghost use Rattle.rm_window.specs.Window.{room_of};
@@ -54,14 +55,10 @@ impl Capture {
         name: &str,
         lead: u32,
     ) -> Result<Capture, PcapFault>
-        ensures constant { (each : List ℕ) → S.held shelf.new each ≡ S.held shelf.old each }
-        ensures later { (each : List ℕ) → S.faults shelf.old each ≤ S.faults shelf.new each }
+        ensures shelf { KeepsShelf S.held S.faults shelf.old shelf.new (λ each. each ≡ name.now)
+            (result ≡ Err PcapFault.Read) }
         ensures cause { IfErr result (λ fault. fault ≡ PcapFault.Read
             → Rose (S.faults shelf.old name.now) (S.faults shelf.new name.now)) }
-        ensures quiet { result ≢ Err PcapFault.Read
-            → (each : List ℕ) → S.faults shelf.new each ≡ S.faults shelf.old each }
-        ensures apart { (each bytes : List ℕ) → each ≢ name.now → S.held shelf.old each ≡ File bytes
-            → S.faults shelf.new each ≡ S.faults shelf.old each }
         ensures absent { S.held shelf.old name.now ≡ Absent → result ≡ Err PcapFault.Read }
         ensures begun { IfOk result (λ capture.
             progress_of capture ≡ begun (progress_of capture).form lead) }
@@ -100,14 +97,10 @@ impl Capture {
 
     // Sees what stands next, unless it was seen already.
     fn look<S: Shelf>(&mut self, shelf: &mut S, name: &str) -> Result<Seen, PcapFault>
-        ensures constant { (each : List ℕ) → S.held shelf.new each ≡ S.held shelf.old each }
-        ensures later { (each : List ℕ) → S.faults shelf.old each ≤ S.faults shelf.new each }
+        ensures shelf { KeepsShelf S.held S.faults shelf.old shelf.new (λ each. each ≡ name.now)
+            (result ≡ Err PcapFault.Read) }
         ensures cause { IfErr result (λ fault. fault ≡ PcapFault.Read
             → Rose (S.faults shelf.old name.now) (S.faults shelf.new name.now)) }
-        ensures quiet { result ≢ Err PcapFault.Read
-            → (each : List ℕ) → S.faults shelf.new each ≡ S.faults shelf.old each }
-        ensures apart { (each bytes : List ℕ) → each ≢ name.now → S.held shelf.old each ≡ File bytes
-            → S.faults shelf.new each ≡ S.faults shelf.old each }
         ensures position { self.new.position ≡ self.old.position }
         ensures seen { IfOk result (λ seen. self.new.seen ≡ Some seen) }
         ensures follows { IfOk result (FollowsSeen self.old.position.reach) }
@@ -132,14 +125,10 @@ impl Capture {
 
     // Sees what stands next, and passes a record.
     fn pass<S: Shelf>(&mut self, shelf: &mut S, name: &str) -> Result<Seen, PcapFault>
-        ensures constant { (each : List ℕ) → S.held shelf.new each ≡ S.held shelf.old each }
-        ensures later { (each : List ℕ) → S.faults shelf.old each ≤ S.faults shelf.new each }
+        ensures shelf { KeepsShelf S.held S.faults shelf.old shelf.new (λ each. each ≡ name.now)
+            (result ≡ Err PcapFault.Read) }
         ensures cause { IfErr result (λ fault. fault ≡ PcapFault.Read
             → Rose (S.faults shelf.old name.now) (S.faults shelf.new name.now)) }
-        ensures quiet { result ≢ Err PcapFault.Read
-            → (each : List ℕ) → S.faults shelf.new each ≡ S.faults shelf.old each }
-        ensures apart { (each bytes : List ℕ) → each ≢ name.now → S.held shelf.old each ≡ File bytes
-            → S.faults shelf.new each ≡ S.faults shelf.old each }
         ensures follows { IfOk result (FollowsSeen self.old.position.reach) }
         ensures passed { IfOk result (IsPassed self.new.window) }
         ensures stays { IfOk result (λ seen. seen ≡ Seen.Cut → self.new.position.reach.at ≡ self.old.position.reach.at) }
@@ -163,14 +152,10 @@ impl Capture {
     ///
     /// The faults are those of `next`, and after a fault the capture is as before. It takes no memory.
     pub fn peek<S: Shelf>(&mut self, shelf: &mut S, name: &str) -> Result<Option<u32>, PcapFault>
-        ensures constant { (each : List ℕ) → S.held shelf.new each ≡ S.held shelf.old each }
-        ensures later { (each : List ℕ) → S.faults shelf.old each ≤ S.faults shelf.new each }
+        ensures shelf { KeepsShelf S.held S.faults shelf.old shelf.new (λ each. each ≡ name.now)
+            (result ≡ Err PcapFault.Read) }
         ensures cause { IfErr result (λ fault. fault ≡ PcapFault.Read
             → Rose (S.faults shelf.old name.now) (S.faults shelf.new name.now)) }
-        ensures quiet { result ≢ Err PcapFault.Read
-            → (each : List ℕ) → S.faults shelf.new each ≡ S.faults shelf.old each }
-        ensures apart { (each bytes : List ℕ) → each ≢ name.now → S.held shelf.old each ≡ File bytes
-            → S.faults shelf.new each ≡ S.faults shelf.old each }
         ensures looks { IfOk result
             (LooksAt (S.held shelf.old name.now) (progress_of self.old) (progress_of self.new)) }
         ensures same { OnErr result (progress_of self.new ≡ progress_of self.old) }
@@ -189,14 +174,10 @@ impl Capture {
     /// read again. Included, Original, Late and TooMany come where the next record has that fault, Read only
     /// where a read failed, and after a fault the capture is as before. It takes no memory.
     pub fn next<S: Shelf>(&mut self, shelf: &mut S, name: &str) -> Result<Step<'_>, PcapFault>
-        ensures constant { (each : List ℕ) → S.held shelf.new each ≡ S.held shelf.old each }
-        ensures later { (each : List ℕ) → S.faults shelf.old each ≤ S.faults shelf.new each }
+        ensures shelf { KeepsShelf S.held S.faults shelf.old shelf.new (λ each. each ≡ name.now)
+            (result ≡ Err PcapFault.Read) }
         ensures cause { IfErr result (λ fault. fault ≡ PcapFault.Read
             → Rose (S.faults shelf.old name.now) (S.faults shelf.new name.now)) }
-        ensures quiet { result ≢ Err PcapFault.Read
-            → (each : List ℕ) → S.faults shelf.new each ≡ S.faults shelf.old each }
-        ensures apart { (each bytes : List ℕ) → each ≢ name.now → S.held shelf.old each ≡ File bytes
-            → S.faults shelf.new each ≡ S.faults shelf.old each }
         ensures faults { IfErr result (Fails (S.held shelf.old name.now) (progress_of self.old)) }
         ensures* after { sem 𝓛 (follows_so the_row the_row self.entry.ghost_name none (λ _ _. ⊤)
             (λ after. Steps (S.held shelf.old name.now) (progress_of self.old) (progress_of after) result)) }

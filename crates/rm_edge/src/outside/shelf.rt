@@ -1,5 +1,6 @@
-ghost use Rattle.std.specs.Prelude.{◌≡◌, ◌≢◌, ◌≤◌, ℕ, List, length, IfOk, OnOk};
-ghost use Rattle.rm_edge.specs.Outside.{Held, File, Reads, HasCause};
+ghost use Rattle.std.specs.Prelude.{◌≡◌, ◌≤◌, ℕ, List, length, IfOk, IsErr};
+ghost use Rattle.rm_edge.specs.Outside.{Held, Reads, HasCause};
+ghost use Rattle.rm_edge.specs.Shelves.{KeepsShelf};
 
 use super::Failed;
 
@@ -21,11 +22,7 @@ pub trait Shelf {
     /// the other names of which the shelf tells a file.
     fn read(&mut self, name: &str, at: u64, into: &mut [u8]) -> Result<usize, Failed>
         ensures most { IfOk result (λ count. count ≤ length into.old) }
-        ensures constant { (each : List ℕ) → held self.new each ≡ held self.old each }
+        ensures shelf { KeepsShelf held faults self.old self.new (λ each. each ≡ name.now) (IsErr result) }
         ensures octets { Reads (held self.old name.now) at into.new result }
-        ensures cause { HasCause (faults self.old name.now) (faults self.new name.now) result }
-        ensures others { (each : List ℕ) → faults self.old each ≤ faults self.new each }
-        ensures quiet { OnOk result ((each : List ℕ) → faults self.new each ≡ faults self.old each) }
-        ensures apart { (each bytes : List ℕ) → each ≢ name.now → held self.old each ≡ File bytes
-            → faults self.new each ≡ faults self.old each };
+        ensures cause { HasCause (faults self.old name.now) (faults self.new name.now) result };
 }
