@@ -39,8 +39,7 @@ pub fn one_text_by_answers()
 pub fn every_text_has_answers()
     ensures { (settings : Settings) (frames : List Frame) (stop : Stop) (requests : List TimedDatagram) (text : List ℕ) → IsText settings frames stop requests text
         → (choices : List Choice) × IsTextBy settings frames stop requests choices text }
-{
-}
+{}
 
 /// A law: from an orderly journal on, there are lines of all events.
 pub(crate) fn every_line()
