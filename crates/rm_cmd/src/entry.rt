@@ -1,12 +1,14 @@
 // Runs the words of a command line.
-ghost use Rattle.std.specs.Prelude.{◌≡◌, ◌≢◌, ◌+◌, ◌↔◌, ◌⊎◌, ℕ, List, Ok, true};
+ghost use Rattle.std.specs.Prelude.{◌≡◌, ◌≢◌, ◌↔◌, ◌⊎◌, ◌≤◌, ℕ, List, Ok, true};
 ghost use Rattle.hex.specs.Hex.{decode_of};
 ghost use Rattle.rm_edge.specs.Outside.{Rose};
+ghost use Rattle.rm_edge.specs.Shelves.{KeepsShelf};
 ghost use Rattle.rm_words.specs.Grammar.{Command as Meant, StandFor, is_hex};
 ghost use Rattle.rm_words.specs.Told.{options_of};
+ghost use Rattle.rm_probe.specs.Uses.{file_use, sink_use};
 ghost use Rattle.rm_probe.specs.Ends.{IsComplete, IsExact, IsSilent};
-ghost use Rattle.rm_probe.specs.declared.status.Status.TheVariants.{Done, NoMemory, Usage};
-ghost use Rattle.rm_cmd.specs.Commands.{AreSet, Decodes, EndsWith, OfDecode, OfReplay};
+ghost use Rattle.rm_probe.specs.declared.status.Status.TheVariants.{Done, NoMemory, ReadFault, Usage};
+ghost use Rattle.rm_cmd.specs.Commands.{AreSet, Decodes, EndsWith, IsFileOf, OfDecode, OfReplay};
 
 use rm_agent::Settings;
 use rm_decode::Unwritten;
@@ -38,20 +40,22 @@ pub fn run<F: Shelf, K: Sink, L: Link, T: Clock>(
 
     // The whole truth of each status, `Done` among them: the octets added are exactly a text of both files.
     ensures ends { OfReplay words.now (λ capture requests options.
-        EndsWith options (F.held shelf.old capture) (F.held shelf.old requests)
-        (F.faults shelf.old capture + F.faults shelf.old requests) (F.faults shelf.new capture + F.faults shelf.new requests)
-        (K.faults out.old) (K.faults out.new) (K.content out.old) (K.content out.new) result) }
+        EndsWith options (file_use F.held F.faults shelf.old shelf.new capture) (file_use F.held F.faults shelf.old shelf.new requests)
+        (sink_use K.content K.faults out.old out.new) result) }
     ensures exact { OfReplay words.now (λ capture requests options. IsExact options.lead (F.held shelf.old capture) (F.held shelf.old requests) result) }
     ensures complete { OfReplay words.now (λ capture requests options.
-        IsComplete options.lead (F.held shelf.old capture) (F.held shelf.old requests)
-        (F.faults shelf.old capture + F.faults shelf.old requests) (F.faults shelf.new capture + F.faults shelf.new requests)
-        (K.faults out.old) (K.faults out.new) result) }
+        IsComplete options.lead (file_use F.held F.faults shelf.old shelf.new capture) (file_use F.held F.faults shelf.old shelf.new requests)
+        (sink_use K.content K.faults out.old out.new) result) }
 
     // Of `decode` too: the octets added are exactly the text of those that its digits are.
     ensures decodes { OfDecode words.now (λ octets. Decodes octets (K.faults out.old) (K.faults out.new) (K.content out.old) (K.content out.new) result) }
     ensures decodes_whole { OfDecode words.now (λ octets. (Rose (K.faults out.old) (K.faults out.new) → ⊥) → (result ≡ Done) ⊎ (result ≡ NoMemory)) }
 
     ensures silent { IsSilent result → K.content out.new ≡ K.content out.old }
+
+    // The shelf keeps what it holds, and its counts but for failed reads of the command's files.
+    ensures shelf { KeepsShelf F.held F.faults shelf.old shelf.new (IsFileOf words.now) (result ≡ ReadFault) }
+    ensures later { K.faults out.old ≤ K.faults out.new }
 
     // The link and the clock keep what they hold.
     ensures bound { L.bound link.new ≡ L.bound link.old }
@@ -82,14 +86,14 @@ fn run_replay<F: Shelf, K: Sink>(
     shelf: &mut F,
     out: &mut K,
 ) -> Status
-    ensures ends { EndsWith (options_of options) (F.held shelf.old capture.now) (F.held shelf.old requests.now)
-        (F.faults shelf.old capture.now + F.faults shelf.old requests.now) (F.faults shelf.new capture.now + F.faults shelf.new requests.now)
-        (K.faults out.old) (K.faults out.new) (K.content out.old) (K.content out.new) result }
+    ensures ends { EndsWith (options_of options) (file_use F.held F.faults shelf.old shelf.new capture.now)
+        (file_use F.held F.faults shelf.old shelf.new requests.now) (sink_use K.content K.faults out.old out.new) result }
     ensures exact { IsExact options.lead (F.held shelf.old capture.now) (F.held shelf.old requests.now) result }
-    ensures complete { IsComplete options.lead (F.held shelf.old capture.now) (F.held shelf.old requests.now)
-        (F.faults shelf.old capture.now + F.faults shelf.old requests.now) (F.faults shelf.new capture.now + F.faults shelf.new requests.now)
-        (K.faults out.old) (K.faults out.new) result }
+    ensures complete { IsComplete options.lead (file_use F.held F.faults shelf.old shelf.new capture.now)
+        (file_use F.held F.faults shelf.old shelf.new requests.now) (sink_use K.content K.faults out.old out.new) result }
     ensures silent { IsSilent result → K.content out.new ≡ K.content out.old }
+    ensures shelf { KeepsShelf F.held F.faults shelf.old shelf.new (λ each. (each ≡ capture.now) ⊎ (each ≡ requests.now)) (result ≡ ReadFault) }
+    ensures later { K.faults out.old ≤ K.faults out.new }
     ensures command { result ≢ Usage }
 {
     let lead = options.lead;
@@ -102,6 +106,7 @@ fn run_decode<K: Sink>(alloc: Global, digits: &str, out: &mut K) -> Status
     requires digits { is_hex digits.now ≡ true }
     ensures decodes { (octets : List ℕ) × (decode_of digits.now ≡ Ok octets)
         × Decodes octets (K.faults out.old) (K.faults out.new) (K.content out.old) (K.content out.new) result }
+    ensures later { K.faults out.old ≤ K.faults out.new }
     ensures silent { IsSilent result → K.content out.new ≡ K.content out.old }
     ensures command { result ≢ Usage }
 {

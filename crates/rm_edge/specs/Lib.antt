@@ -1,4 +1,6 @@
 pub mod Outside
+pub mod Shelves
+pub mod Digits
 pub mod Link
 pub mod Clock
 pub mod MemShelf

@@ -2,6 +2,7 @@
 //! time is told. Each of the four has a form in memory, for tests, and an adapter over the real thing.
 #![tactic(auto)]
 
+mod digits;
 mod memory;
 mod outside;
 mod real;
@@ -9,6 +10,7 @@ mod real;
 mod tests;
 mod words;
 
+pub use digits::read_number;
 pub use memory::{ListClock, MemLink, MemShelf, MemSink};
 pub use outside::{Clock, Failed, Link, Peer, Shelf, Sink};
 pub use real::{FileShelf, HostClock, StdSink, UdpLink};

@@ -3,6 +3,7 @@ ghost use Rattle.std.specs.Borrow.{sem};
 ghost use denote.Follow.{follows_so};
 ghost use mathlib.Core.Option.{none};
 ghost use Rattle.rm_edge.specs.Outside.{File, Absent, Rose};
+ghost use Rattle.rm_edge.specs.Shelves.{KeepsShelf};
 ghost use Rattle.rm_pcap.specs.Seen.{IsAhead, IsNear, FollowsSeen};
 ghost use Rattle.rm_pcap.specs.Progress.{begun};
 ghost use Rattle.rm_window.specs.Window.{room_of};
@@ -54,8 +55,8 @@ impl Capture {
         name: &str,
         lead: u32,
     ) -> Result<Capture, PcapFault>
-        ensures constant { (each : List ℕ) → S.held shelf.new each ≡ S.held shelf.old each }
-        ensures later { (each : List ℕ) → S.faults shelf.old each ≤ S.faults shelf.new each }
+        ensures shelf { KeepsShelf S.held S.faults shelf.old shelf.new (λ each. each ≡ name.now)
+            (result ≡ Err PcapFault.Read) }
         ensures cause { IfErr result (λ fault. fault ≡ PcapFault.Read
             → Rose (S.faults shelf.old name.now) (S.faults shelf.new name.now)) }
         ensures absent { S.held shelf.old name.now ≡ Absent → result ≡ Err PcapFault.Read }
@@ -96,8 +97,8 @@ impl Capture {
 
     // Sees what stands next, unless it was seen already.
     fn look<S: Shelf>(&mut self, shelf: &mut S, name: &str) -> Result<Seen, PcapFault>
-        ensures constant { (each : List ℕ) → S.held shelf.new each ≡ S.held shelf.old each }
-        ensures later { (each : List ℕ) → S.faults shelf.old each ≤ S.faults shelf.new each }
+        ensures shelf { KeepsShelf S.held S.faults shelf.old shelf.new (λ each. each ≡ name.now)
+            (result ≡ Err PcapFault.Read) }
         ensures cause { IfErr result (λ fault. fault ≡ PcapFault.Read
             → Rose (S.faults shelf.old name.now) (S.faults shelf.new name.now)) }
         ensures position { self.new.position ≡ self.old.position }
@@ -124,8 +125,8 @@ impl Capture {
 
     // Sees what stands next, and passes a record.
     fn pass<S: Shelf>(&mut self, shelf: &mut S, name: &str) -> Result<Seen, PcapFault>
-        ensures constant { (each : List ℕ) → S.held shelf.new each ≡ S.held shelf.old each }
-        ensures later { (each : List ℕ) → S.faults shelf.old each ≤ S.faults shelf.new each }
+        ensures shelf { KeepsShelf S.held S.faults shelf.old shelf.new (λ each. each ≡ name.now)
+            (result ≡ Err PcapFault.Read) }
         ensures cause { IfErr result (λ fault. fault ≡ PcapFault.Read
             → Rose (S.faults shelf.old name.now) (S.faults shelf.new name.now)) }
         ensures follows { IfOk result (FollowsSeen self.old.position.reach) }
@@ -151,8 +152,8 @@ impl Capture {
     ///
     /// The faults are those of `next`, and after a fault the capture is as before. It takes no memory.
     pub fn peek<S: Shelf>(&mut self, shelf: &mut S, name: &str) -> Result<Option<u32>, PcapFault>
-        ensures constant { (each : List ℕ) → S.held shelf.new each ≡ S.held shelf.old each }
-        ensures later { (each : List ℕ) → S.faults shelf.old each ≤ S.faults shelf.new each }
+        ensures shelf { KeepsShelf S.held S.faults shelf.old shelf.new (λ each. each ≡ name.now)
+            (result ≡ Err PcapFault.Read) }
         ensures cause { IfErr result (λ fault. fault ≡ PcapFault.Read
             → Rose (S.faults shelf.old name.now) (S.faults shelf.new name.now)) }
         ensures looks { IfOk result
@@ -173,8 +174,8 @@ impl Capture {
     /// read again. Included, Original, Late and TooMany come where the next record has that fault, Read only
     /// where a read failed, and after a fault the capture is as before. It takes no memory.
     pub fn next<S: Shelf>(&mut self, shelf: &mut S, name: &str) -> Result<Step<'_>, PcapFault>
-        ensures constant { (each : List ℕ) → S.held shelf.new each ≡ S.held shelf.old each }
-        ensures later { (each : List ℕ) → S.faults shelf.old each ≤ S.faults shelf.new each }
+        ensures shelf { KeepsShelf S.held S.faults shelf.old shelf.new (λ each. each ≡ name.now)
+            (result ≡ Err PcapFault.Read) }
         ensures cause { IfErr result (λ fault. fault ≡ PcapFault.Read
             → Rose (S.faults shelf.old name.now) (S.faults shelf.new name.now)) }
         ensures faults { IfErr result (Fails (S.held shelf.old name.now) (progress_of self.old)) }

@@ -1,5 +1,6 @@
 ghost use Rattle.std.specs.Prelude.{◌≡◌, ◌≤◌, ◌+◌, ℕ, List, length, drop, None, Some, IfOk, IfErr, MatchResult};
 ghost use Rattle.rm_edge.specs.Outside.{File, Rose};
+ghost use Rattle.rm_edge.specs.Shelves.{KeepsShelf};
 ghost use Rattle.rm_pcap.specs.Records.{fault_at, time_of, found_at};
 ghost use Rattle.rm_window.specs.Filling.{IsFront};
 ghost use Rattle.rm_pcap.specs.Calls.{IsFaultAt, IsBroken};
@@ -91,8 +92,8 @@ impl Position {
     ) -> Result<Seen, PcapFault>
         requires near { IsNear self.reach }
         requires room { room_of window.old ≡ 327680 }
-        ensures constant { (each : List ℕ) → S.held shelf.new each ≡ S.held shelf.old each }
-        ensures later { (each : List ℕ) → S.faults shelf.old each ≤ S.faults shelf.new each }
+        ensures shelf { KeepsShelf S.held S.faults shelf.old shelf.new (λ each. each ≡ name.now)
+            (result ≡ Err PcapFault.Read) }
         ensures cause { IfErr result (λ fault. fault ≡ PcapFault.Read
             → Rose (S.faults shelf.old name.now) (S.faults shelf.new name.now)) }
         ensures room { room_of window.new ≡ room_of window.old }

@@ -7,8 +7,8 @@ use Rattle.rm_val.specs.Val.{Val, int, octets, name}
 use Rattle.rm_ber.specs.Grammar.{StandsFirst, ValueFirst}
 use Rattle.rm_pdu.specs.declared.kind.Kind.{Kind}
 use Rattle.rm_pdu.specs.declared.kind.Kind.TheVariants.{Get, Next, Response, Set, Bulk, Inform, Trap, Report}
-use Rattle.rm_pdu.specs.Message.{kind_tag, Binding}
-use Rattle.rm_pdu.specs.Spells.{IsBinding, AreBindings}
+use Rattle.rm_pdu.specs.Message.{kind_tag, Binding, Message}
+use Rattle.rm_pdu.specs.Spells.{IsBinding, AreBindings, IsPdu, Spells}
 use Rattle.rm_pdu.specs.Parse.{Awaited, whole, version, community, pdu, request_id, first_number, second_number, bindings, binding, binding_name, binding_value, binding_end, pdu_end, message_end, datagram_end, Point, LeadsTo, Begins, begins, goes_on, is_read, octets_left, IsStuck, IsOtherTag, Parse, too_long, malformed, other_version, not_request, message, IsParse}
 use Rattle.rm_pdu.proofs.FirstThings.{OneElement, OneValue, ElementOrNone, ValueOrNone}
 use Rattle.rm_pdu.proofs.Steps.{one_outer, is_plain, stuck_plain, other_tag}
@@ -382,34 +382,14 @@ every_short known requests bytes short =
     all_bindings known requests bytes (length list) list after_list (after_pdu ∷ after_message ∷ []) short (omega arith) in_list (λ held are at_end_of_pdu.
     at_pdu_end requests bytes after_list after_pdu (after_message ∷ []) short at_end_of_pdu (λ list_ends at_end_of_message.
     at_message_end requests bytes after_pdu after_message [] short at_end_of_message (λ pdu_ends at_end_of_datagram.
-    at_datagram_end requests bytes after_message [] short at_end_of_datagram (λ message_ends. (
-      message (record { community = text; kind = kind; id = id; first = first; second = second; bindings = held }),
-      (
-        short,
-        record {
-          content = content;
-          after_version = after_version;
-          after_community = after_community;
-          pdu = inside;
-          opens = subst (λ (x : List ℕ). StandsFirst 0x30 content x bytes) message_ends opens_message;
-          version = is_version;
-          community = is_community;
-          opens_pdu = subst (λ (x : List ℕ). StandsFirst (kind_tag kind) inside x after_community) pdu_ends opens_pdu;
-          is_pdu = record {
-            after_id = after_id;
-            after_first = after_first;
-            after_second = after_second;
-            list = list;
-            id = is_id;
-            first = is_first;
-            second = is_second;
-            opens = subst (λ (x : List ℕ). StandsFirst 0x30 list x after_second) list_ends opens_list;
-            bindings = are;
-          };
-        },
-        read,
-      ),
-    )))))))))))))
+    at_datagram_end requests bytes after_message [] short at_end_of_datagram (λ message_ends.
+    let opens_whole = subst (λ (x : List ℕ). StandsFirst 0x30 content x bytes) message_ends opens_message in
+    let opens_inside = subst (λ (x : List ℕ). StandsFirst (kind_tag kind) inside x after_community) pdu_ends opens_pdu in
+    let opens_all = subst (λ (x : List ℕ). StandsFirst 0x30 list x after_second) list_ends opens_list in
+    let m : Message = record { community = text; kind = kind; id = id; first = first; second = second; bindings = held } in
+    let is_pdu : IsPdu inside m = record { after_id = after_id; after_first = after_first; after_second = after_second; list = list; id = is_id; first = is_first; second = is_second; opens = opens_all; bindings = are } in
+    let spells : Spells bytes m = record { content = content; after_version = after_version; after_community = after_community; pdu = inside; opens = opens_whole; version = is_version; community = is_community; opens_pdu = opens_inside; is_pdu = is_pdu } in
+    (message m, (short, spells, read))))))))))))))
 
 -- octets are something
 pub every_parse : OneElement → OneValue → ElementOrNone → ValueOrNone → (requests : Bool) (bytes : List ℕ) → (v : Parse) × IsParse requests bytes v

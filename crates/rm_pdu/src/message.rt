@@ -5,8 +5,8 @@ ghost use Rattle.rm_ber.specs.Grammar.{StandsFirst, ValueFirst, end_of};
 ghost use Rattle.rm_pdu.specs.declared.kind.Kind.{Kind};
 ghost use Rattle.rm_pdu.specs.Message.{Binding, kind_tag};
 ghost use Rattle.rm_pdu.specs.Placed.{IsPlaced};
-ghost use Rattle.rm_pdu.specs.Parse.{version, pdu, request_id, bindings, binding, binding_name, binding_end, pdu_end, is_read, is_request, Parse, IsParse};
-ghost use Rattle.rm_pdu.specs.Answers.{IsAnswer};
+ghost use Rattle.rm_pdu.specs.Parse.{version, pdu, request_id, bindings, binding, binding_name, binding_end, pdu_end, is_read, is_request};
+ghost use Rattle.rm_pdu.specs.Answers.{IsVerdict};
 ghost use Rattle.rm_pdu.specs.Reading.{IsAt, Fails, Envelope, AreNumbers, OneBinding, AllBindings, WholePdu, IsRead};
 ghost use Rattle.rm_pdu.specs.declared.message.Fault.TheVariants.{Malformed};
 
@@ -251,9 +251,9 @@ fn read_whole<'a>(bytes: &'a [u8], requests: bool, into: &mut Places) -> Result<
 
 // Reads a message, of requests alone or of any kind of PDU.
 fn read<'a>(bytes: &'a [u8], requests: bool, into: &mut Places) -> Result<Message<'a>, Fault>
-    ensures parse { (v : Parse) × IsParse requests bytes.entry.now v × IsAnswer bytes.entry.now v result into.new }
-    ensures emptied { OnErr result (into.new ≡ []) }
+    ensures { IsVerdict requests bytes.entry.now result into.new }
 {
+    one_parse();
     into.clear();
     if bytes.len() > MOST_OCTETS {
         return Err(Fault::TooLong);
@@ -275,22 +275,14 @@ fn read<'a>(bytes: &'a [u8], requests: bool, into: &mut Places) -> Result<Messag
 /// after another version, `NotRequest` at the tag of another PDU, whatever follows it, and `Malformed` with the offset
 /// of the tag of an element that breaks a rule or of the first octet that is left over.
 pub fn read_message<'a>(bytes: &'a [u8], into: &mut Places) -> Result<Message<'a>, Fault>
-    // The octets have one parse, and this is it.
-    ensures parse { (v : Parse) × IsParse true bytes.entry.now v × IsAnswer bytes.entry.now v result into.new }
-    ensures only { (v : Parse) → IsParse true bytes.entry.now v → IsAnswer bytes.entry.now v result into.new }
-    ensures emptied { OnErr result (into.new ≡ []) }
+    ensures { IsVerdict true bytes.entry.now result into.new }
 {
-    one_parse();
     read(bytes, true, into)
 }
 
 /// Reads a message with any kind of PDU, like `read_message`; `NotRequest` never comes.
 pub fn read_any<'a>(bytes: &'a [u8], into: &mut Places) -> Result<Message<'a>, Fault>
-    // The octets have one parse, and this is it.
-    ensures parse { (v : Parse) × IsParse false bytes.entry.now v × IsAnswer bytes.entry.now v result into.new }
-    ensures only { (v : Parse) → IsParse false bytes.entry.now v → IsAnswer bytes.entry.now v result into.new }
-    ensures emptied { OnErr result (into.new ≡ []) }
+    ensures { IsVerdict false bytes.entry.now result into.new }
 {
-    one_parse();
     read(bytes, false, into)
 }

@@ -1,6 +1,6 @@
 -- How the parts of a run make its end.
-use Rattle.std.proofs.Common.{◌≡◌, ℕ, ◌+◌, ◌≤◌, List, [], Option, Some, None, Result, Ok, Err, refl, sym, ap, ◌∙◌, subst, arith, inl, inr}
-use Rattle.rm_edge.specs.Outside.{Held, File, OfFile, AddsFront, Rose}
+use Rattle.std.proofs.Common.{◌≡◌, ◌⊎◌, ℕ, List, [], Option, Some, None, Result, Ok, Err, refl, sym, ap, ◌∙◌, subst, arith, inl, inr}
+use Rattle.rm_edge.specs.Outside.{Held, File, OfFile, AddsFront}
 use Rattle.rm_model.specs.Journal.{Frame}
 use Rattle.rm_pcap.specs.Records.{Stop, Broken, AreRecords, ReadsAs, beginning}
 use Rattle.rm_pcap.specs.Header.{header_of}
@@ -17,6 +17,7 @@ use Rattle.rm_requests.specs.declared.fault.RequestsFault.TheVariants.{Line, Too
 use Rattle.rm_probe.specs.Text.{IsText}
 use Rattle.rm_probe.specs.Steps.{FindsAnother, IsNotCapture, IsNotLeft, IsNotRequests, JudgesCapture, Leaves, Writes}
 use Rattle.rm_probe.specs.Requests.{JudgesRequests, status_by}
+use Rattle.rm_probe.specs.Uses.{FileUse, SinkUse, HasReadFault, HasPutFault, IsUntouched}
 use Rattle.rm_probe.specs.Ends.{Ends, OfBoth, JudgesFiles, IsExact, IsComplete, IsSilent, Comes}
 use Rattle.rm_probe.specs.declared.status.Status.{Status}
 use Rattle.rm_probe.specs.declared.status.Status.TheVariants.{Done, Usage, BadCapture, BadRequests, ReadFault, WriteFault, NoMemory, LinkFault, TooLong}
@@ -48,42 +49,32 @@ module _ (lead : ℕ) where
   writes_none settings bytes frames stop asked old Magic header kind capture front = absurd (let g = good_header bytes frames stop (Err Magic) header capture in let e = g.1 in cc)
   writes_none settings bytes frames stop asked old Version header kind capture front = absurd (let g = good_header bytes frames stop (Err Version) header capture in let e = g.1 in cc)
   writes_none settings bytes frames stop asked old LinkType header kind capture front = absurd (let g = good_header bytes frames stop (Err LinkType) header capture in let e = g.1 in cc)
-  writes_none settings bytes frames stop asked old (Included at) header kind capture front = absurd kind
-  writes_none settings bytes frames stop asked old (Original at) header kind capture front = absurd kind
-  writes_none settings bytes frames stop asked old (Late at) header kind capture front = absurd kind
-  writes_none settings bytes frames stop asked old TooMany header kind capture front = absurd kind
+  writes_none settings bytes frames stop asked old fault header kind capture front = absurd kind
 
   -- the two files judged, the capture first
-  pub first_refused : (c r : Held) (cs cs' rs rs' : ℕ) (status : Status) → JudgesCapture {T = Unit {0}} lead c cs cs' (Err status) → rs ≤ rs' → JudgesFiles lead c r (cs + rs) (cs' + rs') (Err status)
-  first_refused c r cs cs' rs rs' (BadCapture at) h le = h
-  first_refused c r cs cs' rs rs' TooLong h le = inl h
-  first_refused c r cs cs' rs rs' ReadFault h le = omega arith
-  first_refused c r cs cs' rs rs' NoMemory h le = tt
-  first_refused c r cs cs' rs rs' Done h le = absurd h
-  first_refused c r cs cs' rs rs' Usage h le = absurd h
-  first_refused c r cs cs' rs rs' (BadRequests line) h le = absurd h
-  first_refused c r cs cs' rs rs' WriteFault h le = absurd h
-  first_refused c r cs cs' rs rs' LinkFault h le = absurd h
+  pub first_refused : (c r : FileUse) (status : Status) → JudgesCapture {T = Unit {0}} lead c.held c.faults c.faults_after (Err status) → JudgesFiles lead c r (Err status)
+  first_refused c r (BadCapture at) h = h
+  first_refused c r TooLong h = inl h
+  first_refused c r ReadFault h = inl h
+  first_refused c r NoMemory h = tt
+  first_refused c r status h = absurd h
 
   -- a fault of the request file
-  pub then_refused : (c r : Held) (reads reads' : ℕ) (fault : RequestsFault) → OfFile c (IsCaptureFile lead) → JudgesRequests {T = Unit {0}} r (Err fault) → (fault ≡ ReadFailed → Rose reads reads')
-      → JudgesFiles lead c r reads reads' (Err (status_by fault))
-  then_refused c r reads reads' (Line line) form judged risen = (form, judged)
-  then_refused c r reads reads' TooManyLines form judged risen = inr (form, judged)
-  then_refused c r reads reads' ReadFailed form judged risen = risen refl
+  pub then_refused : (c r : FileUse) (fault : RequestsFault) → OfFile c.held (IsCaptureFile lead) → JudgesRequests {T = Unit {0}} r.held (Err fault) → (fault ≡ ReadFailed → HasReadFault r)
+      → JudgesFiles lead c r (Err (status_by fault))
+  then_refused c r (Line line) form judged risen = (form, judged)
+  then_refused c r TooManyLines form judged risen = inr (form, judged)
+  then_refused c r ReadFailed form judged risen = inr (risen refl)
 
   -- a run that ends by what was judged
-  pub refused : (settings : Settings) (c r : Held) (reads reads' writes writes' : ℕ) (old : Option (List ℕ)) (status : Status) → JudgesFiles lead c r reads reads' (Err status) → Ends settings lead c r reads reads' writes writes' old old status
-  refused settings c r reads reads' writes writes' old (BadCapture at) judged = of_told c (CallsFor lead (BadCapture at)) _ (λ bytes is called. (called, refl)) judged
-  refused settings c r reads reads' writes writes' old (BadRequests line) (form, wrong) = (form, of_told r (IsWrongAt line) _ (λ lines is w. (w, refl)) wrong)
-  refused settings c r reads reads' writes writes' old TooLong (inl called) = inl (of_told c (CallsFor lead TooLong) _ (λ bytes is k. (k, refl)) called)
-  refused settings c r reads reads' writes writes' old TooLong (inr (form, many)) = inr (form, of_told r HasTooManyLines _ (λ lines is m. (m, refl)) many)
-  refused settings c r reads reads' writes writes' old ReadFault judged = (judged, inl refl)
-  refused settings c r reads reads' writes writes' old NoMemory judged = refl
-  refused settings c r reads reads' writes writes' old Done judged = absurd judged
-  refused settings c r reads reads' writes writes' old Usage judged = absurd judged
-  refused settings c r reads reads' writes writes' old WriteFault judged = absurd judged
-  refused settings c r reads reads' writes writes' old LinkFault judged = absurd judged
+  pub refused : (settings : Settings) (c r : FileUse) (out : SinkUse) (status : Status) → IsUntouched out → JudgesFiles lead c r (Err status) → Ends settings lead c r out status
+  refused settings c r out (BadCapture at) still judged = of_told c.held (CallsFor lead (BadCapture at)) _ (λ bytes is called. (called, still)) judged
+  refused settings c r out (BadRequests line) still (form, wrong) = (form, of_told r.held (IsWrongAt line) _ (λ lines is w. (w, still)) wrong)
+  refused settings c r out TooLong still (inl called) = inl (of_told c.held (CallsFor lead TooLong) _ (λ bytes is k. (k, still)) called)
+  refused settings c r out TooLong still (inr (form, many)) = inr (form, of_told r.held HasTooManyLines _ (λ lines is m. (m, still)) many)
+  refused settings c r out ReadFault still judged = (judged, inl still)
+  refused settings c r out NoMemory still judged = still
+  refused settings c r out status still judged = absurd judged
 
   -- a fact of both files
   both_of : (c r : Held) (P : List Frame → Stop → List TimedDatagram → Type 0) → OfFile c (IsCaptureFile lead) → OfFile r IsRequestFile
@@ -91,22 +82,22 @@ module _ (lead : ℕ) where
   both_of c r P form are p = (form, are, of_told c (IsCaptureFile lead) _ (λ bytes is good. of_told r IsRequestFile _ (λ lines isr requests frames stop asked. p bytes lines frames stop asked is isr) are) form)
 
   -- how the run itself ends
-  pub written : (settings : Settings) (c r : Held) (reads reads' writes writes' : ℕ) (old new : Option (List ℕ)) (status : Status)
-      → OfFile c (IsCaptureFile lead) → OfFile r IsRequestFile
-      → ((bytes lines : List ℕ) (frames : List Frame) (stop : Stop) (asked : List TimedDatagram) → c ≡ File bytes → r ≡ File lines → IsCapture lead bytes frames stop → AreRequests lines asked → Writes settings frames stop asked old new status)
-      → FindsAnother (IsNotCapture lead c) (IsNotRequests r) status
-      → (status ≡ ReadFault → Rose reads reads') → (status ≡ WriteFault → Rose writes writes') → (IsSilent status → status ≡ NoMemory) → (IsSilent status → new ≡ old)
-      → Ends settings lead c r reads reads' writes writes' old new status
-  written settings c r reads reads' writes writes' old new Done form are text finds risen cut kinds silent = both_of c r _ form are text
-  written settings c r reads reads' writes writes' old new WriteFault form are text finds risen cut kinds silent = (cut refl, both_of c r _ form are text)
-  written settings c r reads reads' writes writes' old new ReadFault form are text finds risen cut kinds silent = (risen refl, inr (both_of c r _ form are text))
-  written settings c r reads reads' writes writes' old new (BadCapture at) form are text finds risen cut kinds silent = of_told c (IsCaptureFile lead) _ (λ bytes is good. absurd (finds bytes is good)) form
-  written settings c r reads reads' writes writes' old new (BadRequests line) form are text finds risen cut kinds silent = (form, of_told r IsRequestFile _ (λ lines is good. absurd (finds lines is good)) are)
-  written settings c r reads reads' writes writes' old new TooLong form are text (inl another) risen cut kinds silent = inl (of_told c (IsCaptureFile lead) _ (λ bytes is good. absurd (another bytes is good)) form)
-  written settings c r reads reads' writes writes' old new TooLong form are text (inr another) risen cut kinds silent = inr (form, of_told r IsRequestFile _ (λ lines is good. absurd (another lines is good)) are)
-  written settings c r reads reads' writes writes' old new NoMemory form are text finds risen cut kinds silent = silent tt
-  written settings c r reads reads' writes writes' old new Usage form are text finds risen cut kinds silent = absurd (let e = kinds tt in cc)
-  written settings c r reads reads' writes writes' old new LinkFault form are text finds risen cut kinds silent = absurd (let e = kinds tt in cc)
+  pub written : (settings : Settings) (c r : FileUse) (out : SinkUse) (status : Status)
+      → OfFile c.held (IsCaptureFile lead) → OfFile r.held IsRequestFile
+      → ((bytes lines : List ℕ) (frames : List Frame) (stop : Stop) (asked : List TimedDatagram) → c.held ≡ File bytes → r.held ≡ File lines → IsCapture lead bytes frames stop → AreRequests lines asked → Writes settings frames stop asked out.content out.content_after status)
+      → FindsAnother (IsNotCapture lead c.held) (IsNotRequests r.held) status
+      → (status ≡ ReadFault → HasReadFault c ⊎ HasReadFault r) → (status ≡ WriteFault → HasPutFault out) → (IsSilent status → status ≡ NoMemory) → (IsSilent status → IsUntouched out)
+      → Ends settings lead c r out status
+  written settings c r out Done form are text finds risen cut kinds silent = both_of c.held r.held _ form are text
+  written settings c r out WriteFault form are text finds risen cut kinds silent = (cut refl, both_of c.held r.held _ form are text)
+  written settings c r out ReadFault form are text finds risen cut kinds silent = (risen refl, inr (both_of c.held r.held _ form are text))
+  written settings c r out (BadCapture at) form are text finds risen cut kinds silent = of_told c.held (IsCaptureFile lead) _ (λ bytes is good. absurd (finds bytes is good)) form
+  written settings c r out (BadRequests line) form are text finds risen cut kinds silent = (form, of_told r.held IsRequestFile _ (λ lines is good. absurd (finds lines is good)) are)
+  written settings c r out TooLong form are text (inl another) risen cut kinds silent = inl (of_told c.held (IsCaptureFile lead) _ (λ bytes is good. absurd (another bytes is good)) form)
+  written settings c r out TooLong form are text (inr another) risen cut kinds silent = inr (form, of_told r.held IsRequestFile _ (λ lines is good. absurd (another lines is good)) are)
+  written settings c r out NoMemory form are text finds risen cut kinds silent = silent tt
+  written settings c r out Usage form are text finds risen cut kinds silent = absurd (let e = kinds tt in cc)
+  written settings c r out LinkFault form are text finds risen cut kinds silent = absurd (let e = kinds tt in cc)
 
   -- what another file means where the capture is begun again, and where it isn't
   pub another_left : (c : Held) (form : Form) (progress : Progress) (NoRequests : Type 0) (status : Status) → ((bytes : List ℕ) → c ≡ File bytes → header_of bytes ≡ Ok form) → progress ≡ begun form lead
@@ -122,12 +113,7 @@ module _ (lead : ℕ) where
       by_status (BadRequests line) finds = finds
       by_status TooLong (inl left) = inl (none left)
       by_status TooLong (inr requests) = inr requests
-      by_status Done finds = tt
-      by_status Usage finds = tt
-      by_status ReadFault finds = tt
-      by_status WriteFault finds = tt
-      by_status NoMemory finds = tt
-      by_status LinkFault finds = tt
+      by_status status finds = tt
 
   pub another_begun : (c : Held) (NoRequests : Type 0) (fault : PcapFault) → ((bytes : List ℕ) → c ≡ File bytes → BeginsAs bytes (Err fault)) → IsFirstFault fault
       → FindsAnother (IsNotCapture lead c) NoRequests (status_of fault)
@@ -136,10 +122,7 @@ module _ (lead : ℕ) where
   another_begun c NoRequests Magic header kind = λ bytes is (frames, stop, capture). let g = good_header bytes frames stop (Err Magic) (header bytes is) capture in let e = g.1 in cc
   another_begun c NoRequests Version header kind = λ bytes is (frames, stop, capture). let g = good_header bytes frames stop (Err Version) (header bytes is) capture in let e = g.1 in cc
   another_begun c NoRequests LinkType header kind = λ bytes is (frames, stop, capture). let g = good_header bytes frames stop (Err LinkType) (header bytes is) capture in let e = g.1 in cc
-  another_begun c NoRequests (Included at) header kind = absurd kind
-  another_begun c NoRequests (Original at) header kind = absurd kind
-  another_begun c NoRequests (Late at) header kind = absurd kind
-  another_begun c NoRequests TooMany header kind = absurd kind
+  another_begun c NoRequests fault header kind = absurd kind
 
   -- a file reads in one way
   abbrev pub OneReading : Type 0
@@ -194,43 +177,42 @@ module _ (lead : ℕ) where
     bad_requests = λ bytes lines line is good isr wrong. free (BadRequests line);
   }
 
-  pub is_exact : (settings : Settings) → OneReading → (c r : Held) (reads reads' writes writes' : ℕ) (old new : Option (List ℕ)) (status : Status) → Ends settings lead c r reads reads' writes writes' old new status → IsExact lead c r status
-  is_exact settings one c r reads reads' writes writes' old new Done ends = of_forms one c r Done ends.0 ends.1
-  is_exact settings one c r reads reads' writes writes' old new WriteFault ends = of_forms one c r WriteFault ends.1.0 ends.1.1
-  is_exact settings one c r reads reads' writes writes' old new (BadCapture at) ends =
-      of_fault one c r (BadCapture at) (λ bytes is. (told c bytes (λ b. CallsFor lead (BadCapture at) b × (new ≡ old)) is ends).0)
-  is_exact settings one c r reads reads' writes writes' old new (BadRequests at) ends =
-      let wrong_at = λ (lines : List ℕ) (isr : r ≡ File lines). (told r lines (λ b. IsWrongAt at b × (new ≡ old)) isr ends.1).0 in
+  pub is_exact : (settings : Settings) → OneReading → (c r : FileUse) (out : SinkUse) (status : Status) → Ends settings lead c r out status → IsExact lead c.held r.held status
+  is_exact settings one c r out Done ends = of_forms one c.held r.held Done ends.0 ends.1
+  is_exact settings one c r out WriteFault ends = of_forms one c.held r.held WriteFault ends.1.0 ends.1.1
+  is_exact settings one c r out (BadCapture at) ends =
+      of_fault one c.held r.held (BadCapture at) (λ bytes is. (told c.held bytes (λ b. CallsFor lead (BadCapture at) b × IsUntouched out) is ends).0)
+  is_exact settings one c r out (BadRequests at) ends =
+      let wrong_at = λ (lines : List ℕ) (isr : r.held ≡ File lines). (told r.held lines (λ b. IsWrongAt at b × IsUntouched out) isr ends.1).0 in
       record {
-        bad_capture = λ bytes fault is broken. absurd (not_broken one bytes fault broken (told c bytes (IsCaptureFile lead) is ends.0));
+        bad_capture = λ bytes fault is broken. absurd (not_broken one bytes fault broken (told c.held bytes (IsCaptureFile lead) is ends.0));
         long_requests = λ bytes lines is good isr many. absurd (not_both lines at many (wrong_at lines isr));
         bad_requests = λ bytes lines line is good isr wrong. inl (ap BadRequests (same_line lines at line (wrong_at lines isr).0 wrong.0));
       }
-  is_exact settings one c r reads reads' writes writes' old new TooLong (inl called) =
-      of_fault one c r TooLong (λ bytes is. (told c bytes (λ b. CallsFor lead TooLong b × (new ≡ old)) is called).0)
-  is_exact settings one c r reads reads' writes writes' old new TooLong (inr many) = record {
-    bad_capture = λ bytes fault is broken. absurd (not_broken one bytes fault broken (told c bytes (IsCaptureFile lead) is many.0));
+  is_exact settings one c r out TooLong (inl called) =
+      of_fault one c.held r.held TooLong (λ bytes is. (told c.held bytes (λ b. CallsFor lead TooLong b × IsUntouched out) is called).0)
+  is_exact settings one c r out TooLong (inr many) = record {
+    bad_capture = λ bytes fault is broken. absurd (not_broken one bytes fault broken (told c.held bytes (IsCaptureFile lead) is many.0));
     long_requests = λ bytes lines is good isr more. inl refl;
-    bad_requests = λ bytes lines line is good isr wrong. absurd (not_both lines line (told r lines (λ b. HasTooManyLines b × (new ≡ old)) isr many.1).0 wrong);
+    bad_requests = λ bytes lines line is good isr wrong. absurd (not_both lines line (told r.held lines (λ b. HasTooManyLines b × IsUntouched out) isr many.1).0 wrong);
   }
-  is_exact settings one c r reads reads' writes writes' old new ReadFault ends = of_free c r ReadFault (λ other. inr (inr refl))
-  is_exact settings one c r reads reads' writes writes' old new NoMemory ends = of_free c r NoMemory (λ other. inr (inl refl))
-  is_exact settings one c r reads reads' writes writes' old new Usage ends = absurd ends
-  is_exact settings one c r reads reads' writes writes' old new LinkFault ends = absurd ends
+  is_exact settings one c r out ReadFault ends = of_free c.held r.held ReadFault (λ other. inr (inr refl))
+  is_exact settings one c r out NoMemory ends = of_free c.held r.held NoMemory (λ other. inr (inl refl))
+  is_exact settings one c r out status ends = absurd ends
 
-  pub is_complete : (settings : Settings) → OneReading → (c r : Held) (reads reads' writes writes' : ℕ) (old new : Option (List ℕ)) (status : Status) → Ends settings lead c r reads reads' writes writes' old new status
-      → IsComplete lead c r reads reads' writes writes' status
-  is_complete settings one c r reads reads' writes writes' old new Done ends bytes lines is isr good are unread unput = inl refl
-  is_complete settings one c r reads reads' writes writes' old new NoMemory ends bytes lines is isr good are unread unput = inr refl
-  is_complete settings one c r reads reads' writes writes' old new WriteFault ends bytes lines is isr good are unread unput = absurd (unput ends.0)
-  is_complete settings one c r reads reads' writes writes' old new ReadFault ends bytes lines is isr good are unread unput = absurd (unread ends.0)
-  is_complete settings one c r reads reads' writes writes' old new (BadCapture at) ends bytes lines is isr good are unread unput =
-      absurd (let k = (told c bytes (λ b. CallsFor lead (BadCapture at) b × (new ≡ old)) is ends).0 in not_broken one bytes k.0 k.1 good)
-  is_complete settings one c r reads reads' writes writes' old new (BadRequests at) ends bytes lines is isr good are unread unput =
-      absurd (not_wrong lines at (told r lines (λ b. IsWrongAt at b × (new ≡ old)) isr ends.1).0 are)
-  is_complete settings one c r reads reads' writes writes' old new TooLong (inl called) bytes lines is isr good are unread unput =
-      absurd (let k = (told c bytes (λ b. CallsFor lead TooLong b × (new ≡ old)) is called).0 in not_broken one bytes k.0 k.1 good)
-  is_complete settings one c r reads reads' writes writes' old new TooLong (inr many) bytes lines is isr good are unread unput =
-      absurd (not_many lines (told r lines (λ b. HasTooManyLines b × (new ≡ old)) isr many.1).0 are)
-  is_complete settings one c r reads reads' writes writes' old new Usage ends bytes lines is isr good are unread unput = absurd ends
-  is_complete settings one c r reads reads' writes writes' old new LinkFault ends bytes lines is isr good are unread unput = absurd ends
+  pub is_complete : (settings : Settings) → OneReading → (c r : FileUse) (out : SinkUse) (status : Status) → Ends settings lead c r out status
+      → IsComplete lead c r out status
+  is_complete settings one c r out Done ends bytes lines is isr good are unread unasked unput = inl refl
+  is_complete settings one c r out NoMemory ends bytes lines is isr good are unread unasked unput = inr refl
+  is_complete settings one c r out WriteFault ends bytes lines is isr good are unread unasked unput = absurd (unput ends.0)
+  is_complete settings one c r out ReadFault (inl rose, ends) bytes lines is isr good are unread unasked unput = absurd (unread rose)
+  is_complete settings one c r out ReadFault (inr rose, ends) bytes lines is isr good are unread unasked unput = absurd (unasked rose)
+  is_complete settings one c r out (BadCapture at) ends bytes lines is isr good are unread unasked unput =
+      absurd (let k = (told c.held bytes (λ b. CallsFor lead (BadCapture at) b × IsUntouched out) is ends).0 in not_broken one bytes k.0 k.1 good)
+  is_complete settings one c r out (BadRequests at) ends bytes lines is isr good are unread unasked unput =
+      absurd (not_wrong lines at (told r.held lines (λ b. IsWrongAt at b × IsUntouched out) isr ends.1).0 are)
+  is_complete settings one c r out TooLong (inl called) bytes lines is isr good are unread unasked unput =
+      absurd (let k = (told c.held bytes (λ b. CallsFor lead TooLong b × IsUntouched out) is called).0 in not_broken one bytes k.0 k.1 good)
+  is_complete settings one c r out TooLong (inr many) bytes lines is isr good are unread unasked unput =
+      absurd (not_many lines (told r.held lines (λ b. HasTooManyLines b × IsUntouched out) isr many.1).0 are)
+  is_complete settings one c r out status ends bytes lines is isr good are unread unasked unput = absurd ends

@@ -251,7 +251,7 @@ keeps_begun probe progress first keeps = subst (λ (m : ℕ). Keeps m probe prog
 -- a capture whose frames pass up to a moment
 pub record Advancing {F N : Type 0} (held : F → List ℕ → Held) (faults : F → List ℕ → ℕ) (first now : F) (name : List ℕ) (since : N → N → List Note → Type 0) (notes notes' : N) (moment : ℕ) (old progress : Progress) (probe probe' : Probe) : Type 0 where
   pub same : (each : List ℕ) → held now each ≡ held first each
-  pub later : (each : List ℕ) → faults first each ≤ faults now each
+  pub quiet : (each : List ℕ) → faults now each ≡ faults first each
   pub settings : settings_of probe' ≡ settings_of probe
   pub more : List Note
   pub sent : Sent since notes notes' more

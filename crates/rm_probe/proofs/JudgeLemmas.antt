@@ -87,7 +87,7 @@ many_not_asked taken asked reached bytes has are last some = omega (arith, has.a
 -- how far a request file was judged
 pub record Judging {F : Type 0} (held : F → List ℕ → Held) (faults : F → List ℕ → ℕ) (first now : F) (name : List ℕ) (reached : Reached) : Type 0 where
   pub same : (each : List ℕ) → held now each ≡ held first each
-  pub later : (each : List ℕ) → faults first each ≤ faults now each
+  pub quiet : (each : List ℕ) → faults now each ≡ faults first each
   pub few : reached.number ≤ 1000001
   pub none : held first name ≡ Absent → reached.read ≡ []
   pub file : (bytes : List ℕ) → held first name ≡ File bytes → (taken : List TimedDatagram) × HasTaken taken reached bytes

@@ -133,7 +133,7 @@ judging_stops progress lead bytes stop found judging =
 -- a capture that is judged so far
 pub record JudgedSoFar {F : Type 0} (held : F → List ℕ → Held) (faults : F → List ℕ → ℕ) (first now : F) (name : List ℕ) (lead : ℕ) (progress : Progress) : Type 0 where
   pub same : (each : List ℕ) → held now each ≡ held first each
-  pub later : (each : List ℕ) → faults first each ≤ faults now each
+  pub quiet : (each : List ℕ) → faults now each ≡ faults first each
   pub judging : OfFile (held first name) (λ bytes. Judging lead bytes progress)
 
 -- a fact of a file, from one of its octets

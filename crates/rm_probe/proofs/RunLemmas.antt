@@ -191,7 +191,7 @@ module _ (settings : Settings) where
   pub record Running {F K : Type 0} (held : F → List ℕ → Held) (reads : F → List ℕ → ℕ) (shelf shelf' : F) (name requests : List ℕ) (content : K → Option (List ℕ)) (writes : K → ℕ) (first now : K)
       (begun progress : Progress) (reached : Reached) (probe : Probe) : Type 0 where
     pub same : (each : List ℕ) → held shelf' each ≡ held shelf each
-    pub reads_later : (each : List ℕ) → reads shelf each ≤ reads shelf' each
+    pub quiet : (each : List ℕ) → reads shelf' each ≡ reads shelf each
     pub later : writes first ≤ writes now
     pub taken : List TimedDatagram
     pub number : reached.number ≡ 1 + length taken

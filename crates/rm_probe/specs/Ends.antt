@@ -1,6 +1,6 @@
--- How a run ends: what each status says of the files, of the counts of faults, and of the octets written.
-use Rattle.std.specs.Prelude.{◌≡◌, ◌⊎◌, ℕ, List, Option, Result, Ok, Err, ⊤}
-use Rattle.rm_edge.specs.Outside.{Held, File, OfFile, Adds, AddsFront, Rose}
+-- How a run ends: what each status says of the two files and of the sink.
+use Rattle.std.specs.Prelude.{◌≡◌, ◌⊎◌, ℕ, List, Result, Ok, Err, ⊤}
+use Rattle.rm_edge.specs.Outside.{Held, File, OfFile, Adds, AddsFront}
 use Rattle.rm_model.specs.Journal.{Frame}
 use Rattle.rm_pcap.specs.Records.{Stop}
 use Rattle.rm_pcap.specs.declared.fault.PcapFault.{PcapFault}
@@ -9,6 +9,7 @@ use Rattle.rm_requests.specs.Lines.{TimedDatagram, HasTooManyLines, AreRequests,
 use Rattle.rm_requests.specs.Reading.{beginning, reached_of}
 use Rattle.rm_requests.specs.declared.requests.Requests.{Requests}
 use Rattle.rm_probe.specs.Text.{IsText}
+use Rattle.rm_probe.specs.Uses.{FileUse, SinkUse, HasReadFault, HasPutFault, IsUntouched}
 use Rattle.rm_agent.specs.declared.settings.Settings.{Settings}
 use Rattle.rm_probe.specs.declared.status.Status.{Status}
 use Rattle.rm_probe.specs.declared.status.Status.TheVariants.{Done, Usage, BadCapture, BadRequests, ReadFault, WriteFault, NoMemory, LinkFault, TooLong}
@@ -20,34 +21,31 @@ OfBoth lead capture requests P = OfFile capture (IsCaptureFile lead) × OfFile r
     (frames : List Frame) (stop : Stop) (asked : List TimedDatagram) → IsCapture lead bytes frames stop → AreRequests lines asked → P frames stop asked))
 
 -- the octets added are a text of both files
-abbrev pub WritesText : Settings → ℕ → Held → Held → Option (List ℕ) → Option (List ℕ) → Type 0
-WritesText settings lead capture requests old new =
-    OfBoth lead capture requests (λ frames stop asked. (text : List ℕ) × IsText settings frames stop asked text × Adds old new text)
+abbrev pub WritesText : Settings → ℕ → FileUse → FileUse → SinkUse → Type 0
+WritesText settings lead capture requests out =
+    OfBoth lead capture.held requests.held (λ frames stop asked. (text : List ℕ) × IsText settings frames stop asked text × Adds out.content out.content_after text)
 
 -- the octets added are a front of such a text
-abbrev pub WritesFront : Settings → ℕ → Held → Held → Option (List ℕ) → Option (List ℕ) → Type 0
-WritesFront settings lead capture requests old new =
-    OfBoth lead capture requests (λ frames stop asked. (text : List ℕ) × IsText settings frames stop asked text × AddsFront old new text)
+abbrev pub WritesFront : Settings → ℕ → FileUse → FileUse → SinkUse → Type 0
+WritesFront settings lead capture requests out =
+    OfBoth lead capture.held requests.held (λ frames stop asked. (text : List ℕ) × IsText settings frames stop asked text × AddsFront out.content out.content_after text)
 
--- What a status says: of what is held under the two names, of the counts of failed reads and of failed puts
--- before and after, and of the octets put before and after. Both files are read again while the lines are written: a
--- read may fail then, and a shelf that doesn't tell what it holds may then have other files.
-abbrev pub Ends : Settings → ℕ → Held → Held → ℕ → ℕ → ℕ → ℕ → Option (List ℕ) → Option (List ℕ) → Status → Type 0
-Ends settings lead capture requests reads reads' writes writes' old new Done = WritesText settings lead capture requests old new
-Ends settings lead capture requests reads reads' writes writes' old new (BadCapture at) =
-    OfFile capture (λ bytes. CallsFor lead (BadCapture at) bytes × (new ≡ old))
-Ends settings lead capture requests reads reads' writes writes' old new (BadRequests line) =
-    OfFile capture (IsCaptureFile lead) × OfFile requests (λ lines. IsWrongAt line lines × (new ≡ old))
-Ends settings lead capture requests reads reads' writes writes' old new TooLong =
-    OfFile capture (λ bytes. CallsFor lead TooLong bytes × (new ≡ old))
-    ⊎ (OfFile capture (IsCaptureFile lead) × OfFile requests (λ lines. HasTooManyLines lines × (new ≡ old)))
-Ends settings lead capture requests reads reads' writes writes' old new ReadFault =
-    Rose reads reads' × ((new ≡ old) ⊎ WritesFront settings lead capture requests old new)
-Ends settings lead capture requests reads reads' writes writes' old new WriteFault =
-    Rose writes writes' × WritesFront settings lead capture requests old new
-Ends settings lead capture requests reads reads' writes writes' old new NoMemory = new ≡ old
-Ends settings lead capture requests reads reads' writes writes' old new Usage = ⊥
-Ends settings lead capture requests reads reads' writes writes' old new LinkFault = ⊥
+-- What a status says of the two files and of the sink. Both files are read again while the lines are written: a read may
+-- fail then, and a shelf that doesn't tell what it holds may then have other files.
+abbrev pub Ends : Settings → ℕ → FileUse → FileUse → SinkUse → Status → Type 0
+Ends settings lead capture requests out Done = WritesText settings lead capture requests out
+Ends settings lead capture requests out (BadCapture at) = OfFile capture.held (λ bytes. CallsFor lead (BadCapture at) bytes × IsUntouched out)
+Ends settings lead capture requests out (BadRequests line) =
+    OfFile capture.held (IsCaptureFile lead) × OfFile requests.held (λ lines. IsWrongAt line lines × IsUntouched out)
+Ends settings lead capture requests out TooLong =
+    OfFile capture.held (λ bytes. CallsFor lead TooLong bytes × IsUntouched out)
+    ⊎ (OfFile capture.held (IsCaptureFile lead) × OfFile requests.held (λ lines. HasTooManyLines lines × IsUntouched out))
+Ends settings lead capture requests out ReadFault =
+    (HasReadFault capture ⊎ HasReadFault requests) × (IsUntouched out ⊎ WritesFront settings lead capture requests out)
+Ends settings lead capture requests out WriteFault = HasPutFault out × WritesFront settings lead capture requests out
+Ends settings lead capture requests out NoMemory = IsUntouched out
+Ends settings lead capture requests out Usage = ⊥
+Ends settings lead capture requests out LinkFault = ⊥
 
 -- with these nothing was written, whatever the shelf tells
 abbrev pub IsSilent : Status → Type 0
@@ -69,20 +67,20 @@ pub record IsExact (lead : ℕ) (capture requests : Held) (result : Status) : Ty
       → Comes (BadRequests line) result
 
 -- Where both files are of the form and no call failed, the run is done, or found no memory.
-abbrev pub IsComplete : ℕ → Held → Held → ℕ → ℕ → ℕ → ℕ → Status → Type 0
-IsComplete lead capture requests reads reads' writes writes' result =
-    (bytes lines : List ℕ) → capture ≡ File bytes → requests ≡ File lines
-    → IsCaptureFile lead bytes → IsRequestFile lines → (Rose reads reads' → ⊥) → (Rose writes writes' → ⊥)
+abbrev pub IsComplete : ℕ → FileUse → FileUse → SinkUse → Status → Type 0
+IsComplete lead capture requests out result =
+    (bytes lines : List ℕ) → capture.held ≡ File bytes → requests.held ≡ File lines → IsCaptureFile lead bytes → IsRequestFile lines
+    → (HasReadFault capture → ⊥) → (HasReadFault requests → ⊥) → (HasPutFault out → ⊥)
     → (result ≡ Done) ⊎ (result ≡ NoMemory)
 
 -- What judging both files answers: what reads the request file again from its first line on, or for what a run ends before anything is written.
-abbrev pub JudgesFiles : ℕ → Held → Held → ℕ → ℕ → Result Requests Status → Type 0
-JudgesFiles lead capture requests reads reads' (Ok reader) =
-    OfFile capture (IsCaptureFile lead) × OfFile requests IsRequestFile × (reached_of reader ≡ beginning)
-JudgesFiles lead capture requests reads reads' (Err (BadCapture at)) = OfFile capture (CallsFor lead (BadCapture at))
-JudgesFiles lead capture requests reads reads' (Err (BadRequests line)) = OfFile capture (IsCaptureFile lead) × OfFile requests (IsWrongAt line)
-JudgesFiles lead capture requests reads reads' (Err TooLong) =
-    OfFile capture (CallsFor lead TooLong) ⊎ (OfFile capture (IsCaptureFile lead) × OfFile requests HasTooManyLines)
-JudgesFiles lead capture requests reads reads' (Err ReadFault) = Rose reads reads'
-JudgesFiles lead capture requests reads reads' (Err NoMemory) = ⊤
-JudgesFiles lead capture requests reads reads' (Err other) = ⊥
+abbrev pub JudgesFiles : ℕ → FileUse → FileUse → Result Requests Status → Type 0
+JudgesFiles lead capture requests (Ok reader) =
+    OfFile capture.held (IsCaptureFile lead) × OfFile requests.held IsRequestFile × (reached_of reader ≡ beginning)
+JudgesFiles lead capture requests (Err (BadCapture at)) = OfFile capture.held (CallsFor lead (BadCapture at))
+JudgesFiles lead capture requests (Err (BadRequests line)) = OfFile capture.held (IsCaptureFile lead) × OfFile requests.held (IsWrongAt line)
+JudgesFiles lead capture requests (Err TooLong) =
+    OfFile capture.held (CallsFor lead TooLong) ⊎ (OfFile capture.held (IsCaptureFile lead) × OfFile requests.held HasTooManyLines)
+JudgesFiles lead capture requests (Err ReadFault) = HasReadFault capture ⊎ HasReadFault requests
+JudgesFiles lead capture requests (Err NoMemory) = ⊤
+JudgesFiles lead capture requests (Err other) = ⊥

@@ -7,4 +7,5 @@ pub mod Text
 pub mod Probe
 pub mod Steps
 pub mod Status
+pub mod Uses
 pub mod Ends

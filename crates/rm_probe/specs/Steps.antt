@@ -9,7 +9,7 @@ use Rattle.rm_pcap.specs.declared.fault.PcapFault.{PcapFault}
 use Rattle.rm_pcap.specs.declared.fault.PcapFault.TheVariants.{Included, Original, Late, TooMany, Read}
 use Rattle.rm_probe.specs.Advance.{IsAdvanced}
 use Rattle.rm_agent.specs.Orderly.{IsOrderly}
-use Rattle.rm_probe.specs.Notes.{Note, trap_lines}
+use Rattle.rm_probe.specs.Notes.{Note, Sent, trap_lines}
 use Rattle.rm_probe.specs.Capture.{IsCaptureFile, IsFaultless, CallsFor, status_of}
 use Rattle.rm_requests.specs.Lines.{TimedDatagram, IsRequestFile}
 use Rattle.rm_probe.specs.declared.replaying.NumberedDatagram.{NumberedDatagram}
@@ -80,6 +80,10 @@ pub record Advanced (settings : Settings) (moment : ℕ) (bytes : List ℕ) (pro
   pub passing : ArePassing settings journal (take_while (is_by moment) frames) notes reached
   pub stands : Stands probe reached
   pub count : progress.reach.count + length (frames_after moment frames) ≡ before + length frames
+
+-- notifications came, and this is a fact of them and of the octets that the file has, where they are told
+abbrev pub Notifies : {N : Type 0} → (since : N → N → List Note → Type 0) → N → N → Held → (List Note → List ℕ → Type 0) → Type 0
+Notifies since old new held P = (more : List Note) × Sent since old new more × ((bytes : List ℕ) → held ≡ File bytes → P more bytes)
 
 -- Whatever the frames left and the journal are, those up to the moment go from the one to the other. Where a read fails, some of
 -- them do. Another fault is that of the records left.

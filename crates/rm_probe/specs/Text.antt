@@ -1,5 +1,5 @@
 -- What a run writes: one line for each datagram and one for each notification, in the order of events, and a last line.
-use Rattle.std.specs.Prelude.{◌≡◌, ℕ, true, List, [], ◌∷◌, ◌++◌, length, take, decimal, codes, Some, None}
+use Rattle.std.specs.Prelude.{◌≡◌, ◌⊎◌, ℕ, true, List, [], ◌∷◌, ◌++◌, length, take, drop, slice_get, decimal, codes, Some, None}
 use Rattle.hex.specs.Hex.{encode_lower}
 use Rattle.rm_model.specs.Journal.{Frame, Journal, passes}
 use Rattle.rm_pcap.specs.Records.{Stop, CutAt}
@@ -77,6 +77,24 @@ AreWithoutChoice settings journal (Asks number request ∷ events) =
     → ReservesNothing ready request.datagram
     × ((line : List ℕ) (after : Journal) → IsAnswer settings ready number request line after → AreWithoutChoice settings after events)
 
+-- an answer to a datagram: its line, and the journal after it
+pub record Choice : Type 0 where
+  pub line : List ℕ
+  pub after : Journal
+
+-- The lines may be written for the events, from a journal on, with these answers to the datagrams in their order. Where a datagram
+-- is no SetRequest that reserves storage, its answer is left open here: there is one.
+unfoldable pub AreLinesBy : Settings → Journal → List Event → List Choice → List ℕ → Type 0
+AreLinesBy settings journal [] choices text = text ≡ []
+AreLinesBy settings journal (Comes frame ∷ events) choices text =
+    (notes : List Note) × (rest : List ℕ) × (ready : Journal) × IsAdvanced settings frame.moment journal notes ready
+    × (text ≡ trap_lines notes ++ rest) × AreLinesBy settings (passes frame ∷ ready) events choices rest
+AreLinesBy settings journal (Asks number request ∷ events) choices text =
+    (notes : List Note) × (line rest : List ℕ) × (ready after : Journal) × IsAdvanced settings request.moment journal notes ready
+    × IsAnswer settings ready number request line after
+    × (ReservesNothing ready request.datagram ⊎ (slice_get choices 0 ≡ Some (record { line = line; after = after })))
+    × (text ≡ trap_lines notes ++ (line ++ rest)) × AreLinesBy settings after events (drop 1 choices) rest
+
 -- what the last line begins with: whether the capture was cut short
 abbrev pub last_word : Stop → List ℕ
 last_word (CutAt at) = codes "cut"
@@ -90,4 +108,10 @@ last_line stop frames requests = last_word stop ++ codes " " ++ decimal frames +
 pub record IsText (settings : Settings) (frames : List Frame) (stop : Stop) (requests : List TimedDatagram) (text : List ℕ) : Type 0 where
   pub lines : List ℕ
   pub are_lines : AreLines settings [] (events 1 frames requests) lines
+  pub whole : text ≡ lines ++ last_line stop (length frames) (length requests)
+
+-- the text may be written with these answers
+pub record IsTextBy (settings : Settings) (frames : List Frame) (stop : Stop) (requests : List TimedDatagram) (choices : List Choice) (text : List ℕ) : Type 0 where
+  pub lines : List ℕ
+  pub are_lines : AreLinesBy settings [] (events 1 frames requests) choices lines
   pub whole : text ≡ lines ++ last_line stop (length frames) (length requests)

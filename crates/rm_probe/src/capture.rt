@@ -1,6 +1,8 @@
 // The capture, which is judged whole before anything is written.
-ghost use Rattle.std.specs.Prelude.{◌≡◌, ◌≤◌, ℕ, List};
+ghost use Rattle.std.specs.Prelude.{◌≡◌, Err};
+ghost use Rattle.rm_edge.specs.Shelves.{KeepsShelf};
 ghost use Rattle.rm_probe.specs.Steps.{JudgesCapture};
+ghost use Rattle.rm_probe.specs.declared.status.Status.TheVariants.{ReadFault};
 
 use crate::status::Status;
 use rm_edge::Shelf;
@@ -10,8 +12,7 @@ use std::alloc::Global;
 /// Reads a capture, whose first frame stands at the moment `lead`, to its end, and tells the status of its first fault,
 /// if it has one.
 pub fn judge<F: Shelf>(alloc: Global, shelf: &mut F, name: &str, lead: u32) -> Result<(), Status>
-    ensures constant { (each : List ℕ) → F.held shelf.new each ≡ F.held shelf.old each }
-    ensures later { (each : List ℕ) → F.faults shelf.old each ≤ F.faults shelf.new each }
+    ensures shelf { KeepsShelf F.held F.faults shelf.old shelf.new (λ each. each ≡ name.now) (result ≡ Err ReadFault) }
     ensures judged { JudgesCapture lead (F.held shelf.old name.now) (F.faults shelf.old name.now) (F.faults shelf.new name.now) result }
 {
     let mut capture = match Capture::begin(alloc, shelf, name, lead) {

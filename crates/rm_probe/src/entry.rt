@@ -1,6 +1,9 @@
 // The top call.
-ghost use Rattle.std.specs.Prelude.{◌≡◌, ◌+◌};
+ghost use Rattle.std.specs.Prelude.{◌≡◌, ◌⊎◌, ◌≤◌};
+ghost use Rattle.rm_edge.specs.Shelves.{KeepsShelf};
+ghost use Rattle.rm_probe.specs.Uses.{file_use, sink_use};
 ghost use Rattle.rm_probe.specs.Ends.{Ends, IsComplete, IsExact, IsSilent};
+ghost use Rattle.rm_probe.specs.declared.status.Status.TheVariants.{ReadFault};
 
 use crate::judging::judge;
 use crate::probe::Probe;
@@ -29,14 +32,16 @@ pub fn replay<F: Shelf, K: Sink>(
     out: &mut K,
 ) -> Status
     // The whole truth of each status, `Done` among them: the octets added are exactly a text of both files.
-    ensures ends { Ends settings lead (F.held shelf.old capture.now) (F.held shelf.old requests.now)
-        (F.faults shelf.old capture.now + F.faults shelf.old requests.now) (F.faults shelf.new capture.now + F.faults shelf.new requests.now)
-        (K.faults out.old) (K.faults out.new) (K.content out.old) (K.content out.new) result }
+    ensures ends { Ends settings lead (file_use F.held F.faults shelf.old shelf.new capture.now) (file_use F.held F.faults shelf.old shelf.new requests.now)
+        (sink_use K.content K.faults out.old out.new) result }
     ensures exact { IsExact lead (F.held shelf.old capture.now) (F.held shelf.old requests.now) result }
-    ensures complete { IsComplete lead (F.held shelf.old capture.now) (F.held shelf.old requests.now)
-        (F.faults shelf.old capture.now + F.faults shelf.old requests.now) (F.faults shelf.new capture.now + F.faults shelf.new requests.now)
-        (K.faults out.old) (K.faults out.new) result }
+    ensures complete { IsComplete lead (file_use F.held F.faults shelf.old shelf.new capture.now) (file_use F.held F.faults shelf.old shelf.new requests.now)
+        (sink_use K.content K.faults out.old out.new) result }
     ensures silent { IsSilent result → K.content out.new ≡ K.content out.old }
+
+    // The shelf keeps what it holds, and its counts but for failed reads of the two files. The count of failed puts doesn't fall.
+    ensures shelf { KeepsShelf F.held F.faults shelf.old shelf.new (λ each. (each ≡ capture.now) ⊎ (each ≡ requests.now)) (result ≡ ReadFault) }
+    ensures later { K.faults out.old ≤ K.faults out.new }
 {
     one_reading();
     let Ok(probe) = Probe::new(alloc, settings) else {

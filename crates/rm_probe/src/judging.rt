@@ -1,6 +1,9 @@
 // Both files, which are judged before anything is written.
-ghost use Rattle.std.specs.Prelude.{◌≡◌, ◌+◌, ◌≤◌, ℕ, List};
+ghost use Rattle.std.specs.Prelude.{◌≡◌, ◌⊎◌, Err};
+ghost use Rattle.rm_edge.specs.Shelves.{KeepsShelf};
+ghost use Rattle.rm_probe.specs.Uses.{file_use};
 ghost use Rattle.rm_probe.specs.Ends.{JudgesFiles};
+ghost use Rattle.rm_probe.specs.declared.status.Status.TheVariants.{ReadFault};
 
 use crate::status::Status;
 use crate::{capture, requests};
@@ -16,10 +19,9 @@ pub fn judge<F: Shelf>(
     requests: &str,
     shelf: &mut F,
 ) -> Result<Requests, Status>
-    ensures constant { (each : List ℕ) → F.held shelf.new each ≡ F.held shelf.old each }
-    ensures later { (each : List ℕ) → F.faults shelf.old each ≤ F.faults shelf.new each }
-    ensures judged { JudgesFiles lead (F.held shelf.old capture.now) (F.held shelf.old requests.now)
-        (F.faults shelf.old capture.now + F.faults shelf.old requests.now) (F.faults shelf.new capture.now + F.faults shelf.new requests.now) result }
+    ensures shelf { KeepsShelf F.held F.faults shelf.old shelf.new (λ each. (each ≡ capture.now) ⊎ (each ≡ requests.now)) (result ≡ Err ReadFault) }
+    ensures judged { JudgesFiles lead (file_use F.held F.faults shelf.old shelf.new capture.now)
+        (file_use F.held F.faults shelf.old shelf.new requests.now) result }
 {
     match capture::judge(alloc, shelf, capture, lead) {
         Ok(()) => (),

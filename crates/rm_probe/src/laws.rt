@@ -6,7 +6,7 @@ ghost use Rattle.rm_agent.specs.declared.settings.Settings.{Settings};
 ghost use Rattle.rm_agent.specs.Orderly.{IsOrderly};
 ghost use Rattle.rm_requests.specs.Lines.{TimedDatagram};
 ghost use Rattle.rm_probe.specs.Events.{Event, events};
-ghost use Rattle.rm_probe.specs.Text.{AreLines, AreWithoutChoice, IsText};
+ghost use Rattle.rm_probe.specs.Text.{AreLines, AreWithoutChoice, Choice, IsText, IsTextBy};
 
 use rm_agent::{
     advance_is_orderly, every_advance, every_reply, frame_is_orderly, one_advance, one_reply,
@@ -24,6 +24,22 @@ pub fn one_text()
     one_reply();
     one_advance();
 }
+
+/// A law: of the same frames and datagrams there is one text with the same answers to the SetRequests that reserve storage.
+pub fn one_text_by_answers()
+    ensures { (settings : Settings) (frames : List Frame) (stop : Stop) (requests : List TimedDatagram) (choices : List Choice) (text other : List ℕ)
+        → IsTextBy settings frames stop requests choices text → IsTextBy settings frames stop requests choices other → text ≡ other }
+{
+    one_parse();
+    one_reply();
+    one_advance();
+}
+
+/// A law: each text is written with some answers.
+pub fn every_text_has_answers()
+    ensures { (settings : Settings) (frames : List Frame) (stop : Stop) (requests : List TimedDatagram) (text : List ℕ) → IsText settings frames stop requests text
+        → (choices : List Choice) × IsTextBy settings frames stop requests choices text }
+{}
 
 /// A law: from an orderly journal on, there are lines of all events.
 pub(crate) fn every_line()

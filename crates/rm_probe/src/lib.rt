@@ -17,7 +17,7 @@ mod status;
 mod tests;
 
 pub use entry::replay;
-pub use laws::one_text;
+pub use laws::{every_text_has_answers, one_text, one_text_by_answers};
 pub use notes::Notes;
 pub use output::Output;
 pub use probe::Probe;

@@ -25,14 +25,12 @@ impl Probe {
     ghost use Rattle.rm_pcap.specs.Progress.{frame_of};
     ghost use Rattle.rm_probe.specs.Advance.{IsAdvanced};
     ghost use Rattle.rm_probe.specs.Text.{answer_text, IsAnswered};
-    ghost use Rattle.rm_probe.specs.Probe.{settings_of, last_given, frames_given, Stands};
+    ghost use Rattle.rm_probe.specs.Probe.{settings_of, last_given, frames_given, IsFresh, Stands};
 
     /// The probe before the first frame. NoMemory where there is none for the storage that tables take at first.
     pub fn new(alloc: Global, settings: Settings) -> Result<Probe, NoMemory>
-        ensures stands { IfOk result (λ probe. Stands probe []) }
+        ensures fresh { IfOk result IsFresh }
         ensures settings { IfOk result (λ probe. settings_of probe ≡ settings) }
-        ensures last { IfOk result (λ probe. last_given probe ≡ 0) }
-        ensures frames { IfOk result (λ probe. frames_given probe ≡ 0) }
     {
         Ok(Probe {
             agent: Agent::new(alloc, settings)?,

@@ -1,6 +1,7 @@
 // The text of a run: a capture and a request file are read again, which were judged before, and the datagrams are answered.
-ghost use Rattle.std.specs.Prelude.{◌≡◌, ◌+◌, ◌≤◌, ◌<◌, ◌^◌, ℕ, false, List, Some, Ok, Err, OnOk, IfErr, []};
+ghost use Rattle.std.specs.Prelude.{◌≡◌, ◌⊎◌, ◌≤◌, ◌<◌, ◌^◌, ℕ, false, List, Some, Ok, Err, OnOk, IfErr, []};
 ghost use Rattle.rm_edge.specs.Outside.{Rose, File};
+ghost use Rattle.rm_edge.specs.Shelves.{KeepsShelf};
 ghost use Rattle.rm_model.specs.Journal.{Frame, Journal};
 ghost use Rattle.rm_pcap.specs.View.{progress_of};
 ghost use Rattle.rm_pcap.specs.Records.{Stop, Stops};
@@ -10,7 +11,7 @@ ghost use Rattle.rm_requests.specs.Lines.{TimedDatagram, AreRequests};
 ghost use Rattle.rm_requests.specs.Reading.{beginning, reached_of};
 ghost use Rattle.rm_probe.specs.Notes.{Note, Sent};
 ghost use Rattle.rm_probe.specs.Probe.{settings_of, last_given, frames_given, IsFresh, Stands};
-ghost use Rattle.rm_probe.specs.Steps.{Advances, Answers, FindsAnother, Finishes, HasBegun, IsForeign, IsLastLine, IsNextLine, IsNotCapture, IsNotLeft, IsNotRequests, IsOfRecord, Keeps, Leaves, Writes, WritesLine, done, timed, written_by};
+ghost use Rattle.rm_probe.specs.Steps.{Advances, Answers, FindsAnother, Finishes, HasBegun, IsForeign, IsLastLine, IsNextLine, IsNotCapture, IsNotLeft, IsNotRequests, IsOfRecord, Keeps, Leaves, Notifies, Writes, WritesLine, done, timed, written_by};
 ghost use Rattle.rm_probe.specs.Ends.{IsSilent};
 ghost use Rattle.rm_probe.specs.declared.status.Status.TheVariants.{ReadFault, WriteFault, NoMemory};
 
@@ -53,13 +54,11 @@ impl Replaying {
     ) -> Result<(), PcapFault>
         requires later { last_given self.old.probe ≤ moment }
         requires keeps { Keeps (last_given self.old.probe) self.old.probe (progress_of self.old.capture) }
-        ensures constant { (each : List ℕ) → F.held shelf.new each ≡ F.held shelf.old each }
-        ensures later { (each : List ℕ) → F.faults shelf.old each ≤ F.faults shelf.new each }
+        ensures shelf { KeepsShelf F.held F.faults shelf.old shelf.new (λ each. each ≡ name.now) (result ≡ Err Read) }
         ensures cause { result ≡ Err Read → Rose (F.faults shelf.old name.now) (F.faults shelf.new name.now) }
         ensures kinds { IfErr result IsOfRecord }
-        ensures passed { (more : List Note) × Sent N.since notes.old notes.new more
-            × ((bytes : List ℕ) → F.held shelf.old name.now ≡ File bytes
-            → Advances moment bytes (progress_of self.old.capture) (progress_of self.new.capture) self.old.probe self.new.probe more result) }
+        ensures passed { Notifies N.since notes.old notes.new (F.held shelf.old name.now) (λ more bytes.
+            Advances moment bytes (progress_of self.old.capture) (progress_of self.new.capture) self.old.probe self.new.probe more result) }
         ensures settings { settings_of self.new.probe ≡ settings_of self.old.probe }
         ensures keeps { OnOk result (Keeps moment self.new.probe (progress_of self.new.capture)) }
         ensures all { moment ≡ 4294967295 → OnOk result ((stop : Stop) × ((progress_of self.new.capture).ahead ≡ Some (Stops stop))) }
@@ -90,13 +89,11 @@ impl Replaying {
         requires empty { line.old.items ≡ [] }
         requires moment { last_given self.old.probe < 2 ^ 32 }
         requires keeps { Keeps (last_given self.old.probe) self.old.probe (progress_of self.old.capture) }
-        ensures constant { (each : List ℕ) → F.held shelf.new each ≡ F.held shelf.old each }
-        ensures later { (each : List ℕ) → F.faults shelf.old each ≤ F.faults shelf.new each }
+        ensures shelf { KeepsShelf F.held F.faults shelf.old shelf.new (λ each. each ≡ name.now) (result ≡ Err Read) }
         ensures cause { result ≡ Err Read → Rose (F.faults shelf.old name.now) (F.faults shelf.new name.now) }
         ensures kinds { IfErr result IsOfRecord }
-        ensures last { (more : List Note) × Sent N.since notes.old notes.new more
-            × ((bytes : List ℕ) → F.held shelf.old name.now ≡ File bytes
-            → Finishes bytes (progress_of self.old.capture) self.old.probe requests more line.new.items result) }
+        ensures last { Notifies N.since notes.old notes.new (F.held shelf.old name.now) (λ more bytes.
+            Finishes bytes (progress_of self.old.capture) self.old.probe requests more line.new.items result) }
     {
         self.advance(shelf, name, u32::MAX, notes)?;
         let frames = u64::from(self.capture.count());
@@ -117,7 +114,7 @@ impl Replaying {
         requires later { last_given self.old.probe ≤ request.moment }
         requires keeps { Keeps (last_given self.old.probe) self.old.probe (progress_of self.old.capture) }
         requires output { out.old.failed ≡ false }
-        ensures constant { (each : List ℕ) → F.held shelf.new each ≡ F.held shelf.old each }
+        ensures shelf { KeepsShelf F.held F.faults shelf.old shelf.new (λ each. each ≡ name.now) (result ≡ Err ReadFault) }
         ensures line { (bytes : List ℕ) (frames : List Frame) (stop : Stop) (journal : Journal) → F.held shelf.old name.now ≡ File bytes
             → Leaves (progress_of self.old.capture) bytes frames stop → Stands self.old.probe journal
             → WritesLine (IsNextLine bytes (progress_of self.old.capture) (progress_of self.new.capture) (settings_of self.old.probe) self.new.probe
@@ -127,9 +124,7 @@ impl Replaying {
         ensures keeps { OnOk result (Keeps (last_given self.new.probe) self.new.probe (progress_of self.new.capture)) }
         ensures last { OnOk result (last_given self.new.probe ≡ request.entry.moment) }
         ensures output { OnOk result (out.new.failed ≡ false) }
-        ensures same_reference { out.new.sink.ghost_name ≡ out.old.sink.ghost_name }
-        ensures write_later { K.faults out.old.sink.now ≤ K.faults out.new.sink.now }
-        ensures read_later { (each : List ℕ) → F.faults shelf.old each ≤ F.faults shelf.new each }
+        ensures sink { (out.new.sink.ghost_name ≡ out.old.sink.ghost_name) × (K.faults out.old.sink.now ≤ K.faults out.new.sink.now) }
         ensures reads { result ≡ Err ReadFault → Rose (F.faults shelf.old name.now) (F.faults shelf.new name.now) }
         ensures writes { result ≡ Err WriteFault → Rose (K.faults out.old.sink.now) (K.faults out.new.sink.now) }
         ensures loud { IfErr result (λ status. IsForeign status → ⊥) }
@@ -155,10 +150,9 @@ impl Replaying {
             → Leaves (progress_of self.old.capture) bytes frames stop → Stands self.old.probe journal
             → WritesLine (IsLastLine (settings_of self.old.probe) (progress_of self.old.capture).reach.count requests frames stop journal)
             (HasBegun (settings_of self.old.probe) 4294967295 frames journal) stop (K.content out.old.sink.now) (K.content out.new.sink.now) (done result) }
-        ensures same_reference { out.new.sink.ghost_name ≡ out.old.sink.ghost_name }
-        ensures write_later { K.faults out.old.sink.now ≤ K.faults out.new.sink.now }
-        ensures read_later { (each : List ℕ) → F.faults shelf.old each ≤ F.faults shelf.new each }
+        ensures sink { (out.new.sink.ghost_name ≡ out.old.sink.ghost_name) × (K.faults out.old.sink.now ≤ K.faults out.new.sink.now) }
         ensures reads { result ≡ ReadFault → Rose (F.faults shelf.old name.now) (F.faults shelf.new name.now) }
+        ensures shelf { KeepsShelf F.held F.faults shelf.old shelf.new (λ each. each ≡ name.now) (result ≡ ReadFault) }
         ensures writes { result ≡ WriteFault → Rose (K.faults out.old.sink.now) (K.faults out.new.sink.now) }
         ensures loud { IsForeign result → ⊥ }
     {
@@ -192,9 +186,9 @@ impl Replaying {
         ensures finds { FindsAnother (IsNotLeft (F.held shelf.old name.now) (progress_of self.old.capture)) (IsNotRequests (F.held shelf.old requests.now)) result }
         ensures same_reference { out.new.sink.ghost_name ≡ out.old.sink.ghost_name }
         ensures write_later { K.faults out.old.sink.now ≤ K.faults out.new.sink.now }
-        ensures read_later { (each : List ℕ) → F.faults shelf.old each ≤ F.faults shelf.new each }
-        ensures reads { result ≡ ReadFault → Rose (F.faults shelf.old name.now + F.faults shelf.old requests.now)
-            (F.faults shelf.new name.now + F.faults shelf.new requests.now) }
+        ensures reads { result ≡ ReadFault → Rose (F.faults shelf.old name.now) (F.faults shelf.new name.now)
+            ⊎ Rose (F.faults shelf.old requests.now) (F.faults shelf.new requests.now) }
+        ensures shelf { KeepsShelf F.held F.faults shelf.old shelf.new (λ each. (each ≡ name.now) ⊎ (each ≡ requests.now)) (result ≡ ReadFault) }
         ensures writes { result ≡ WriteFault → Rose (K.faults out.old.sink.now) (K.faults out.new.sink.now) }
         ensures loud { IsSilent result → ⊥ }
     {
@@ -268,12 +262,12 @@ pub fn write_run<F: Shelf, K: Sink>(
         → IsCapture lead bytes frames stop → AreRequests lines asked
         → Writes (settings_of probe) frames stop asked (K.content out.old) (K.content out.new) result }
     ensures finds { FindsAnother (IsNotCapture lead (F.held shelf.old name.now)) (IsNotRequests (F.held shelf.old requests.now)) result }
-    ensures reads { result ≡ ReadFault → Rose (F.faults shelf.old name.now + F.faults shelf.old requests.now)
-        (F.faults shelf.new name.now + F.faults shelf.new requests.now) }
+    ensures reads { result ≡ ReadFault → Rose (F.faults shelf.old name.now) (F.faults shelf.new name.now)
+        ⊎ Rose (F.faults shelf.old requests.now) (F.faults shelf.new requests.now) }
+    ensures shelf { KeepsShelf F.held F.faults shelf.old shelf.new (λ each. (each ≡ name.now) ⊎ (each ≡ requests.now)) (result ≡ ReadFault) }
     ensures writes { result ≡ WriteFault → Rose (K.faults out.old) (K.faults out.new) }
     ensures silent { IsSilent result → K.content out.new ≡ K.content out.old }
     ensures later { K.faults out.old ≤ K.faults out.new }
-    ensures read_later { (each : List ℕ) → F.faults shelf.old each ≤ F.faults shelf.new each }
     ensures kinds { IsSilent result → result ≡ NoMemory }
 {
     every_line();

@@ -1,6 +1,7 @@
 // The request file, which is judged whole before anything is written.
-ghost use Rattle.std.specs.Prelude.{◌≡◌, ◌≤◌, ℕ, List, Err};
+ghost use Rattle.std.specs.Prelude.{◌≡◌, Err};
 ghost use Rattle.rm_edge.specs.Outside.{Rose};
+ghost use Rattle.rm_edge.specs.Shelves.{KeepsShelf};
 ghost use Rattle.rm_requests.specs.Reading.{beginning, reached_of};
 ghost use Rattle.rm_requests.specs.declared.fault.RequestsFault.TheVariants.{Read};
 ghost use Rattle.rm_probe.specs.Requests.{JudgesRequests};
@@ -15,8 +16,7 @@ pub fn judge<F: Shelf>(
     name: &str,
 ) -> Result<(), RequestsFault>
     requires { reached_of requests.old ≡ beginning }
-    ensures constant { (each : List ℕ) → F.held shelf.new each ≡ F.held shelf.old each }
-    ensures later { (each : List ℕ) → F.faults shelf.old each ≤ F.faults shelf.new each }
+    ensures shelf { KeepsShelf F.held F.faults shelf.old shelf.new (λ each. each ≡ name.now) (result ≡ Err Read) }
     ensures cause { result ≡ Err Read → Rose (F.faults shelf.old name.now) (F.faults shelf.new name.now) }
     ensures judged { JudgesRequests (F.held shelf.old name.now) result }
 {

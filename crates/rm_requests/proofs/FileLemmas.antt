@@ -11,13 +11,14 @@ use Rattle.std.proofs.lemmas.Bool.{lt-ltb, le-ltb}
 use Rattle.std.proofs.lemmas.Bool.Decides.{nat_tests}
 use Rattle.rm_window.specs.Filling.{IsFront}
 use Rattle.rm_window.proofs.WindowLemmas.{front_of, front_short, front_behind}
-use Rattle.rm_requests.specs.Lines.{TimedDatagram, moment_of, datagram_of, is_blank, both, parts_of, request_of, requests_from, with_first}
+use Rattle.rm_requests.specs.Lines.{TimedDatagram, datagram_of, is_blank, both, parts_of, request_of, requests_from, with_first}
+use Rattle.rm_edge.specs.Digits.{number_in}
 use Rattle.rm_requests.specs.Reading.{Reached, is_newline, left, lines_left, IsFirst, HoldsLine, IsWrongAfter, Passes}
 use Rattle.rm_requests.proofs.LineLemmas.{lines_first, lines_last, none_stands}
 
 -- the digits of a moment, and those of a datagram, are so many at most
-moment_short : (digits : List ℕ) (moment : ℕ) → moment_of digits ≡ Some moment → length digits ≤ 10
-unfolding moment_of
+moment_short : (digits : List ℕ) (moment : ℕ) → number_in digits ≡ Some moment → length digits ≤ 10
+unfolding number_in
 moment_short digits moment is = grind (arith, nat_tests)
 
 datagram_short : (digits datagram : List ℕ) → datagram_of digits ≡ Some datagram → length digits ≤ 131070
@@ -38,7 +39,7 @@ line_short line request is = by_blank (position is_blank line) refl is
     by_blank None stands e = absurd cc
     by_blank (Some blank) stands e =
         let within = (position-Some is_blank line blank 0 stands).0 in
-        let (m, d, moment, datagram) = by_parts (moment_of (take blank line)) (datagram_of (drop (blank + 1) line)) e in
+        let (m, d, moment, datagram) = by_parts (number_in (take blank line)) (datagram_of (drop (blank + 1) line)) e in
         omega (arith, moment_short (take blank line) m moment, datagram_short (drop (blank + 1) line) d datagram, length-take-le blank line (omega (arith, within)), length-drop (blank + 1) line)
 
 pub line_long : (line : List ℕ) → 131081 < length line → request_of line ≡ None

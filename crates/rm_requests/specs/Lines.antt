@@ -5,28 +5,12 @@ use Rattle.std.specs.Prelude.{◌≡◌, ◌≤◌, ◌<◌, ℕ, ◌+◌, ◌-�
 use Rattle.std.specs.Str.Lines.{lines}
 use Rattle.hex.specs.Hex.{decode_of}
 use Rattle.hex.specs.declared.error.FromHexError.{FromHexError}
+use Rattle.rm_edge.specs.Digits.{number_in}
 
 -- a datagram, and the moment in milliseconds at which it comes
 pub record TimedDatagram : Type 0 where
   pub moment : ℕ
   pub datagram : List ℕ
-
-abbrev pub is_digit : ℕ → Bool
-is_digit c = nat_le 48 c && nat_le c 57
-
--- the number that n and the decimal digits after it are, if they are digits
-abbrev pub number_of : ℕ → List ℕ → Option ℕ
-number_of n [] = Some n
-number_of n (c ∷ cs) = if is_digit c then number_of (10 * n + (c - 48)) cs else None
-
-abbrev pub below : ℕ → Option ℕ → Option ℕ
-below limit None = None
-below limit (Some n) = if nat_lt n limit then Some n else None
-
--- the moment that one to ten digits are, if it is at most 4294967295
-unfoldable pub moment_of : List ℕ → Option ℕ
-moment_of digits =
-    if nat_le 1 (length digits) && nat_le (length digits) 10 then below (2 ^ 32) (number_of 0 digits) else None
 
 abbrev pub ok_value : {A : Type 0} → Result A FromHexError → Option A
 ok_value (Ok x) = Some x
@@ -47,7 +31,7 @@ is_blank c = c == 32
 -- the moment before the first blank, and the datagram after it
 abbrev pub parts_of : Option ℕ → List ℕ → Option TimedDatagram
 parts_of None line = None
-parts_of (Some blank) line = both (moment_of (take blank line)) (datagram_of (drop (blank + 1) line))
+parts_of (Some blank) line = both (number_in (take blank line)) (datagram_of (drop (blank + 1) line))
 
 -- the datagram of a line, if it is of the form
 unfoldable pub request_of : List ℕ → Option TimedDatagram

@@ -2,7 +2,9 @@
 ghost use Rattle.std.specs.Prelude.{◌≡◌, ◌+◌, ◌≤◌, ◌<◌, ◌^◌, length, take, MatchOption, Some, None, position, ◌==◌};
 ghost use Rattle.std.specs.Str.Lines.{strip_carriage_return};
 ghost use Rattle.rm_requests.specs.Reading.{is_newline, IsFirst, IsWrongAfter};
-ghost use Rattle.rm_requests.specs.Lines.{is_blank, moment_of, datagram_of, request_of};
+ghost use Rattle.rm_requests.specs.Lines.{is_blank, datagram_of, request_of};
+
+use rm_edge::read_number;
 
 /// How many octets the longest datagram of a line has.
 pub const MOST_DATAGRAM: usize = 65_535;
@@ -35,23 +37,6 @@ pub fn first_line(bytes: &[u8], end: Option<usize>) -> (&[u8], usize)
     }
 }
 
-#[tactic(auto, unfolding(crate::specs::Lines::moment_of))]
-fn read_moment(digits: &[u8]) -> Option<u32>
-    ensures { result ≡ moment_of digits.now }
-{
-    if digits.is_empty() || digits.len() > 10 {
-        return None;
-    }
-    let mut value = 0u64;
-    for digit in digits {
-        if !digit.is_ascii_digit() {
-            return None;
-        }
-        value = 10 * value + u64::from(*digit - b'0');
-    }
-    u32::try_from(value).ok()
-}
-
 #[tactic(auto, unfolding(crate::specs::Lines::datagram_of))]
 fn read_datagram(digits: &[u8], into: &mut [u8]) -> Option<usize>
     requires { 65535 ≤ length into.old }
@@ -81,7 +66,7 @@ fn read_request(line: &[u8], into: &mut [u8]) -> Option<(u32, usize)>
         (λ found. (found.0 < 2 ^ 32) × (found.1 ≤ 65535) × (request_of line.now ≡ Some (record { moment = found.0; datagram = take found.1 into.new }))) }
 {
     let blank = first_blank(line)?;
-    let moment = read_moment(&line[..blank])?;
+    let moment = read_number(&line[..blank])?;
     let count = read_datagram(&line[blank + 1..], into)?;
     Some((moment, count))
 }

@@ -1,6 +1,7 @@
 // A request file that is read line by line.
 ghost use Rattle.std.specs.Prelude.{◌≡◌, ◌≤◌, ◌<◌, ◌*◌, ◌+◌, ℕ, List, [], length, drop, take, position, vec_len, Err, IfOk, OnOk, IsErr};
 ghost use Rattle.rm_edge.specs.Outside.{File, Absent, HasCause, Rose};
+ghost use Rattle.rm_edge.specs.Shelves.{KeepsShelf};
 ghost use Rattle.rm_window.specs.Filling.{IsFront};
 ghost use Rattle.rm_window.specs.Window.{room_of, octets_of};
 
@@ -93,8 +94,7 @@ impl Requests {
 
     // Where the first line feed stands in the window. It has one, or all that the file has left, or more than any line has.
     fn line_end<S: Shelf>(&mut self, shelf: &mut S, name: &str) -> Result<Option<usize>, Failed>
-        ensures constant { (each : List ℕ) → S.held shelf.new each ≡ S.held shelf.old each }
-        ensures later { (each : List ℕ) → S.faults shelf.old each ≤ S.faults shelf.new each }
+        ensures shelf { KeepsShelf S.held S.faults shelf.old shelf.new (λ each. each ≡ name.now) (IsErr result) }
         ensures cause { HasCause (S.faults shelf.old name.now) (S.faults shelf.new name.now) result }
         ensures end { IfOk result (λ end. end ≡ position is_newline (octets_of self.new.window)) }
         ensures stays { Stays (reached_of self.old) (reached_of self.new) }
@@ -135,8 +135,7 @@ impl Requests {
         shelf: &mut S,
         name: &str,
     ) -> Result<Option<Request>, RequestsFault>
-        ensures constant { (each : List ℕ) → S.held shelf.new each ≡ S.held shelf.old each }
-        ensures later { (each : List ℕ) → S.faults shelf.old each ≤ S.faults shelf.new each }
+        ensures shelf { KeepsShelf S.held S.faults shelf.old shelf.new (λ each. each ≡ name.now) (result ≡ Err RequestsFault.Read) }
         ensures cause { result ≡ Err RequestsFault.Read → Rose (S.faults shelf.old name.now) (S.faults shelf.new name.now) }
         ensures answers { Answers (S.held shelf.old name.now) (reached_of self.old) (reached_of self.new) (datagram_in self.new) result }
         ensures absent { S.held shelf.old name.now ≡ Absent → (reached_of self.old).read ≡ [] → result ≡ Err RequestsFault.Read }

@@ -9,7 +9,7 @@ use Rattle.rm_edge.specs.Outside.{Held, File, Absent, Reads, Gives}
 
 pub record SoFar {F : Type 0} (held : F → List ℕ → Held) (faults : F → List ℕ → ℕ) (first now : F) (name into : List ℕ) (at filled : ℕ) : Type 0 where
   pub same : (each : List ℕ) → held now each ≡ held first each
-  pub later : (each : List ℕ) → faults first each ≤ faults now each
+  pub quiet : (each : List ℕ) → faults now each ≡ faults first each
   pub within : filled ≤ length into
   pub front : (bytes : List ℕ) → held first name ≡ File bytes → take filled into ≡ take filled (drop at bytes)
   pub few : (bytes : List ℕ) → held first name ≡ File bytes → filled ≤ length (drop at bytes)

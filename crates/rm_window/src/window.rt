@@ -1,5 +1,6 @@
 ghost use Rattle.std.specs.Prelude.{◌≡◌, ◌≤◌, ◌<◌, ◌+◌, ◌-◌, ◌^◌, ℕ, List, [], length, take, drop, vec_len, IfOk, IsErr};
 ghost use Rattle.rm_edge.specs.Outside.{File, Absent, HasCause};
+ghost use Rattle.rm_edge.specs.Shelves.{KeepsShelf};
 ghost use Rattle.rm_window.specs.Filling.{IsFront, Holds};
 
 use crate::filling::fill;
@@ -102,8 +103,7 @@ impl Window {
     ) -> Result<usize, Failed>
         requires near { at + room_of self.old < 2 ^ 64 }
         requires fits { need ≤ room_of self.old }
-        ensures constant { (each : List ℕ) → S.held shelf.new each ≡ S.held shelf.old each }
-        ensures later { (each : List ℕ) → S.faults shelf.old each ≤ S.faults shelf.new each }
+        ensures shelf { KeepsShelf S.held S.faults shelf.old shelf.new (λ each. each ≡ name.now) (IsErr result) }
         ensures cause { HasCause (S.faults shelf.old name.now) (S.faults shelf.new name.now) result }
         ensures room { room_of self.new ≡ room_of self.old }
         ensures keeps { IsFront (octets_of self.old) (octets_of self.new) }

@@ -5,28 +5,19 @@ ghost use Rattle.std.specs.Char.{is_ascii_graphic, is_ascii_hexdigit};
 ghost use Rattle.rm_words.specs.Grammar.{number_within, community_of, is_community, is_hex};
 
 use arrayvec::ArrayVec;
+use rm_edge::read_number;
 
 /// A community, of 1 to 64 octets.
 pub type Community = ArrayVec<u8, 64>;
 
 /// The number that one to ten decimal digits are, if it is within a range.
-#[tactic(auto, unfolding(crate::specs::Grammar::number_within))]
+#[tactic(auto, unfolding(crate::specs::Grammar::number_within, rm_edge::specs::Digits::number_in))]
 pub fn number(text: &[u8], low: u32, high: u32) -> Option<u32>
     ensures is { result ≡ number_within low high text.now }
     ensures within { IfSome result (λ n. (low ≤ n) × (n ≤ high)) }
 {
-    if text.is_empty() || text.len() > 10 {
-        return None;
-    }
-    let mut value = 0u64;
-    for digit in text {
-        if !digit.is_ascii_digit() {
-            return None;
-        }
-        value = 10 * value + u64::from(*digit - b'0');
-    }
-    match u32::try_from(value) {
-        Ok(value) if low <= value && value <= high => Some(value),
+    match read_number(text) {
+        Some(value) if low <= value && value <= high => Some(value),
         _ => None,
     }
 }

@@ -1,5 +1,6 @@
 ghost use Rattle.std.specs.Prelude.{◌≡◌, ◌≢◌, ◌-◌, ◌≤◌, ◌↔◌, ◌⊎◌, ℕ, List, [], ◌∷◌, ◌++◌, OnOk, OnErr, IfOk, IsErr, is_err, if◌then◌else◌, length, min, position};
 ghost use Rattle.rm_edge.specs.Outside.{Absent, File, Reads, HasCause, OfFile, one_more};
+ghost use Rattle.rm_edge.specs.Shelves.{KeepsShelf};
 ghost use Rattle.rm_edge.specs.MemShelf.{is_named, held_in, faults_in, IsToFail};
 
 use super::stored_file::StoredFile;
@@ -109,10 +110,9 @@ impl Shelf for MemShelf {
 
     fn read(&mut self, name: &str, at: u64, into: &mut [u8]) -> Result<usize, Failed>
         ensures most { IfOk result (λ count. count ≤ length into.old) }
-        ensures constant { (each : List ℕ) → held_in self.new each ≡ held_in self.old each }
+        ensures shelf { KeepsShelf held_in faults_in self.old self.new (λ each. each ≡ name.now) (IsErr result) }
         ensures octets { Reads (held_in self.old name.now) at into.new result }
         ensures cause { HasCause (faults_in self.old name.now) (faults_in self.new name.now) result }
-        ensures others { (each : List ℕ) → faults_in self.old each ≤ faults_in self.new each }
 
         // It fails at the listed calls and where there is no file, and nowhere else.
         ensures exact { IsErr result ↔ (IsToFail self.old ⊎ (held_in self.old name.now ≡ Absent)) }
@@ -125,8 +125,6 @@ impl Shelf for MemShelf {
         // A fault counts for the name alone, or for all absent names.
         ensures counted { faults_in self.new name.now ≡ (if is_err result
             then one_more (faults_in self.old name.now) else faults_in self.old name.now) }
-        ensures apart { (each : List ℕ) → each ≢ name.now → held_in self.old each ≢ Absent
-            → faults_in self.new each ≡ faults_in self.old each }
 
         ensures calls { self.new.calls ≡ one_more self.old.calls }
         ensures failing { self.new.failing ≡ self.old.failing }

@@ -1,11 +1,13 @@
-use Rattle.std.proofs.Common.{◌≡◌, ◌⊎◌, ◌+◌, List, ℕ, subst, ap}
+use Rattle.std.proofs.Common.{◌≡◌, ◌⊎◌, List, ℕ, subst, ap}
 use Rattle.rm_edge.specs.Outside.{Rose}
+use Rattle.rm_edge.proofs.Keeping.{keeps_all, keeps_more}
 use Rattle.rm_words.specs.Grammar.{StandFor}
 use Rattle.rm_words.specs.Told.{options_of, command_of}
 use Rattle.rm_words.specs.declared.command.Command.{Command}
+use Rattle.rm_probe.specs.Uses.{file_use, sink_use}
 use Rattle.rm_probe.specs.Ends.{IsExact, IsComplete}
-use Rattle.rm_probe.specs.declared.status.Status.TheVariants.{Done, NoMemory}
-use Rattle.rm_cmd.specs.Commands.{EndsWith, Decodes}
+use Rattle.rm_probe.specs.declared.status.Status.TheVariants.{Done, NoMemory, ReadFault}
+use Rattle.rm_cmd.specs.Commands.{EndsWith, Decodes, IsFileOf}
 use Rattle.rm_cmd.proofs.CommandLemmas.{of_replay, no_decode, of_decode, no_replay, digits_of, done_or_none}
 use Rattle.rm_cmd.proofs.entry.run.Goals as goal
 
@@ -16,9 +18,8 @@ pub returns-in-Some-Replay-clause-ends : goal.returns-in-Some-Replay-clause-ends
 returns-in-Some-Replay-clause-ends g c =
     of_replay c.one_command.ensures c.args.words.now c.in-Some-Replay.capture.now c.in-Some-Replay.requests.now (options_of c.in-Some-Replay.options)
     (λ capture requests options.
-    EndsWith options (g.F.Shelf.held c.args.shelf.now capture) (g.F.Shelf.held c.args.shelf.now requests)
-    (g.F.Shelf.faults c.args.shelf.now capture + g.F.Shelf.faults c.args.shelf.now requests) (g.F.Shelf.faults c.run_replay.new.shelf capture + g.F.Shelf.faults c.run_replay.new.shelf requests)
-    (g.K.Sink.faults c.args.out.now) (g.K.Sink.faults c.run_replay.new.out) (g.K.Sink.content c.args.out.now) (g.K.Sink.content c.run_replay.new.out) c.run_replay.result)
+    EndsWith options (file_use g.F.Shelf.held g.F.Shelf.faults c.args.shelf.now c.run_replay.new.shelf capture) (file_use g.F.Shelf.held g.F.Shelf.faults c.args.shelf.now c.run_replay.new.shelf requests)
+    (sink_use g.K.Sink.content g.K.Sink.faults c.args.out.now c.run_replay.new.out) c.run_replay.result)
     (stands c.args.words.now c.in-Some-Replay.field-0 _ c.in-Some-Replay.field-0-is c.in-Some-Replay.ensures) c.run_replay.ensures.ends
 
 pub returns-in-Some-Replay-clause-exact : goal.returns-in-Some-Replay-clause-exact
@@ -31,9 +32,8 @@ pub returns-in-Some-Replay-clause-complete : goal.returns-in-Some-Replay-clause-
 returns-in-Some-Replay-clause-complete g c =
     of_replay c.one_command.ensures c.args.words.now c.in-Some-Replay.capture.now c.in-Some-Replay.requests.now (options_of c.in-Some-Replay.options)
     (λ capture requests options.
-    IsComplete options.lead (g.F.Shelf.held c.args.shelf.now capture) (g.F.Shelf.held c.args.shelf.now requests)
-    (g.F.Shelf.faults c.args.shelf.now capture + g.F.Shelf.faults c.args.shelf.now requests) (g.F.Shelf.faults c.run_replay.new.shelf capture + g.F.Shelf.faults c.run_replay.new.shelf requests)
-    (g.K.Sink.faults c.args.out.now) (g.K.Sink.faults c.run_replay.new.out) c.run_replay.result)
+    IsComplete options.lead (file_use g.F.Shelf.held g.F.Shelf.faults c.args.shelf.now c.run_replay.new.shelf capture) (file_use g.F.Shelf.held g.F.Shelf.faults c.args.shelf.now c.run_replay.new.shelf requests)
+    (sink_use g.K.Sink.content g.K.Sink.faults c.args.out.now c.run_replay.new.out) c.run_replay.result)
     (stands c.args.words.now c.in-Some-Replay.field-0 _ c.in-Some-Replay.field-0-is c.in-Some-Replay.ensures) c.run_replay.ensures.complete
 
 pub returns-in-Some-Replay-clause-decodes : goal.returns-in-Some-Replay-clause-decodes
@@ -48,13 +48,20 @@ returns-in-Some-Replay-clause-decodes_whole g c =
     (λ octets. (Rose (g.K.Sink.faults c.args.out.now) (g.K.Sink.faults c.run_replay.new.out) → ⊥) → (c.run_replay.result ≡ Done) ⊎ (c.run_replay.result ≡ NoMemory))
     (stands c.args.words.now c.in-Some-Replay.field-0 _ c.in-Some-Replay.field-0-is c.in-Some-Replay.ensures)
 
+pub returns-in-Some-Replay-clause-shelf : goal.returns-in-Some-Replay-clause-shelf
+returns-in-Some-Replay-clause-shelf g c =
+    keeps_more g.F.Shelf.held g.F.Shelf.faults c.args.shelf.now c.run_replay.new.shelf _ (IsFileOf c.args.words.now) _ (c.run_replay.result ≡ ReadFault) c.run_replay.ensures.shelf
+    (λ each is. (_, stands c.args.words.now c.in-Some-Replay.field-0 _ c.in-Some-Replay.field-0-is c.in-Some-Replay.ensures, is)) (λ e. e)
+
+pub returns-in-Some-Decode-clause-shelf : goal.returns-in-Some-Decode-clause-shelf
+returns-in-Some-Decode-clause-shelf g c = keeps_all g.F.Shelf.held g.F.Shelf.faults c.args.shelf.now (IsFileOf c.args.words.now) (c.run_decode.result ≡ ReadFault)
+
 pub returns-in-Some-Decode-clause-ends : goal.returns-in-Some-Decode-clause-ends
 returns-in-Some-Decode-clause-ends g c =
     no_replay c.one_command.ensures c.args.words.now c.in-Some-Decode.digits.now
     (λ capture requests options.
-    EndsWith options (g.F.Shelf.held c.args.shelf.now capture) (g.F.Shelf.held c.args.shelf.now requests)
-    (g.F.Shelf.faults c.args.shelf.now capture + g.F.Shelf.faults c.args.shelf.now requests) (g.F.Shelf.faults c.args.shelf.now capture + g.F.Shelf.faults c.args.shelf.now requests)
-    (g.K.Sink.faults c.args.out.now) (g.K.Sink.faults c.run_decode.new.out) (g.K.Sink.content c.args.out.now) (g.K.Sink.content c.run_decode.new.out) c.run_decode.result)
+    EndsWith options (file_use g.F.Shelf.held g.F.Shelf.faults c.args.shelf.now c.args.shelf.now capture) (file_use g.F.Shelf.held g.F.Shelf.faults c.args.shelf.now c.args.shelf.now requests)
+    (sink_use g.K.Sink.content g.K.Sink.faults c.args.out.now c.run_decode.new.out) c.run_decode.result)
     (stands c.args.words.now c.in-Some-Decode.field-0 _ c.in-Some-Decode.field-0-is c.in-Some-Decode.ensures)
 
 pub returns-in-Some-Decode-clause-exact : goal.returns-in-Some-Decode-clause-exact
@@ -67,9 +74,8 @@ pub returns-in-Some-Decode-clause-complete : goal.returns-in-Some-Decode-clause-
 returns-in-Some-Decode-clause-complete g c =
     no_replay c.one_command.ensures c.args.words.now c.in-Some-Decode.digits.now
     (λ capture requests options.
-    IsComplete options.lead (g.F.Shelf.held c.args.shelf.now capture) (g.F.Shelf.held c.args.shelf.now requests)
-    (g.F.Shelf.faults c.args.shelf.now capture + g.F.Shelf.faults c.args.shelf.now requests) (g.F.Shelf.faults c.args.shelf.now capture + g.F.Shelf.faults c.args.shelf.now requests)
-    (g.K.Sink.faults c.args.out.now) (g.K.Sink.faults c.run_decode.new.out) c.run_decode.result)
+    IsComplete options.lead (file_use g.F.Shelf.held g.F.Shelf.faults c.args.shelf.now c.args.shelf.now capture) (file_use g.F.Shelf.held g.F.Shelf.faults c.args.shelf.now c.args.shelf.now requests)
+    (sink_use g.K.Sink.content g.K.Sink.faults c.args.out.now c.run_decode.new.out) c.run_decode.result)
     (stands c.args.words.now c.in-Some-Decode.field-0 _ c.in-Some-Decode.field-0-is c.in-Some-Decode.ensures)
 
 pub returns-in-Some-Decode-clause-decodes : goal.returns-in-Some-Decode-clause-decodes

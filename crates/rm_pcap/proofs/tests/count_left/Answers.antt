@@ -9,7 +9,7 @@ loop-count-preserved g c =
     let new = progress_of c.next.follows.lender-at-none in
     let held = g.S.Shelf.held in
     one_more held c.args.shelf.now c.loop-count.shelf c.next.new.shelf c.args.name.now (progress_of c.args.capture.now) now new c.loop-count.count c.in-Ok-Next.field-0-0
-    c.loop-count.invariant c.next.ensures.constant (passed_one (held c.loop-count.shelf c.args.name.now) now new c.in-Ok-Next.field-0-0 (rw (c.in-Ok-Next.is, c.in-Ok-Next.field-0-is) at c.next.follows.holds-at-none))
+    c.loop-count.invariant c.next.ensures.shelf.constant (passed_one (held c.loop-count.shelf c.args.name.now) now new c.in-Ok-Next.field-0-0 (rw (c.in-Ok-Next.is, c.in-Ok-Next.field-0-is) at c.next.follows.holds-at-none))
 
 pub returns-in-Ok-End : goal.returns-in-Ok-End
 returns-in-Ok-End g c =

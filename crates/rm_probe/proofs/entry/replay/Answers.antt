@@ -1,47 +1,65 @@
-use Rattle.std.proofs.Common.{◌+◌, ◌∙◌, ℕ, arith, refl, subst}
+use Rattle.std.proofs.Common.{◌≡◌, ◌∙◌, arith, inl, inr, refl, subst}
 use Rattle.rm_agent.specs.declared.settings.Settings.{Settings}
 use Rattle.rm_probe.specs.Steps.{Writes}
+use Rattle.rm_probe.specs.Uses.{file_use, sink_use}
 use Rattle.rm_probe.proofs.EndLemmas.{written, refused, is_exact, is_complete}
+use Rattle.rm_edge.proofs.Keeping.{keeps_more, keeps_then}
+use Rattle.rm_probe.specs.declared.status.Status.TheVariants.{ReadFault}
 use Rattle.rm_probe.proofs.entry.replay.Goals as goal
 
-pub returns-in-Ok-judge : goal.returns-in-Ok-judge
-returns-in-Ok-judge g c =
+pub returns-in-Ok-judge-clause-ends : goal.returns-in-Ok-judge-clause-ends
+returns-in-Ok-judge-clause-ends g c =
     let (form, are, place) = c.in-Ok-judge.ensures.judged in
+    let same = c.judge.ensures.shelf.constant in
+    let quiet = c.in-Ok-judge.ensures.shelf.quiet (λ e. cc) in
     let w = c.write_run.ensures in
-    let capture = g.F.Shelf.held c.args.shelf.now c.args.capture.now in
-    let requests = g.F.Shelf.held c.args.shelf.now c.args.requests.now in
-    let reads : ℕ = g.F.Shelf.faults c.args.shelf.now c.args.capture.now + g.F.Shelf.faults c.args.shelf.now c.args.requests.now in
-    let reads' : ℕ = g.F.Shelf.faults c.write_run.new.shelf c.args.capture.now + g.F.Shelf.faults c.write_run.new.shelf c.args.requests.now in
-    let writes = g.K.Sink.faults c.args.out.now in
-    let writes' = g.K.Sink.faults c.write_run.new.out in
-    let old = g.K.Sink.content c.args.out.now in
-    let new = g.K.Sink.content c.write_run.new.out in
-    let ends = written c.args.lead c.args.settings capture requests reads reads' writes writes' old new c.write_run.result form are
+    written c.args.lead c.args.settings (file_use g.F.Shelf.held g.F.Shelf.faults c.args.shelf.now c.write_run.new.shelf c.args.capture.now)
+    (file_use g.F.Shelf.held g.F.Shelf.faults c.args.shelf.now c.write_run.new.shelf c.args.requests.now)
+    (sink_use g.K.Sink.content g.K.Sink.faults c.args.out.now c.write_run.new.out) c.write_run.result form are
     (λ bytes lines frames stop asked is isr capture are.
-    subst (λ (s : Settings). Writes s frames stop asked old new c.write_run.result) c.in-Ok.ensures.settings
-    (w.text bytes lines frames stop asked (c.judge.ensures.constant c.args.capture.now ∙ is) (c.judge.ensures.constant c.args.requests.now ∙ isr) capture are))
-    (rw (c.judge.ensures.constant c.args.capture.now, c.judge.ensures.constant c.args.requests.now) at w.finds)
-    (λ e. let rose = w.reads e in omega (arith, rose, c.judge.ensures.later c.args.capture.now, c.judge.ensures.later c.args.requests.now))
-    w.writes w.kinds w.silent in
-    record {
-      ends = ends;
-      exact = is_exact c.args.lead c.args.settings c.one_reading.ensures capture requests reads reads' writes writes' old new c.write_run.result ends;
-      complete = is_complete c.args.lead c.args.settings c.one_reading.ensures capture requests reads reads' writes writes' old new c.write_run.result ends;
-      silent = w.silent;
-    }
+    subst (λ (s : Settings). Writes s frames stop asked (g.K.Sink.content c.args.out.now) (g.K.Sink.content c.write_run.new.out) c.write_run.result) c.in-Ok.ensures.settings
+    (w.text bytes lines frames stop asked (same c.args.capture.now ∙ is) (same c.args.requests.now ∙ isr) capture are))
+    (rw (same c.args.capture.now, same c.args.requests.now) at w.finds)
+    (λ e. elim (w.reads e) [
+      | inl rose ↦ inl (omega (arith, rose, quiet c.args.capture.now))
+      | inr rose ↦ inr (omega (arith, rose, quiet c.args.requests.now))
+    ])
+    w.writes w.kinds w.silent
 
-pub returns-in-Err : goal.returns-in-Err
-returns-in-Err g c =
-    let capture = g.F.Shelf.held c.args.shelf.now c.args.capture.now in
-    let requests = g.F.Shelf.held c.args.shelf.now c.args.requests.now in
-    let reads : ℕ = g.F.Shelf.faults c.args.shelf.now c.args.capture.now + g.F.Shelf.faults c.args.shelf.now c.args.requests.now in
-    let reads' : ℕ = g.F.Shelf.faults c.judge.new.shelf c.args.capture.now + g.F.Shelf.faults c.judge.new.shelf c.args.requests.now in
-    let writes = g.K.Sink.faults c.args.out.now in
-    let old = g.K.Sink.content c.args.out.now in
-    let ends = refused c.args.lead c.args.settings capture requests reads reads' writes writes old c.in-Err.status c.in-Err.ensures.judged in
-    record {
-      ends = ends;
-      exact = is_exact c.args.lead c.args.settings c.one_reading.ensures capture requests reads reads' writes writes old old c.in-Err.status ends;
-      complete = is_complete c.args.lead c.args.settings c.one_reading.ensures capture requests reads reads' writes writes old old c.in-Err.status ends;
-      silent = λ _. refl;
-    }
+pub returns-in-Ok-judge-clause-exact : goal.returns-in-Ok-judge-clause-exact
+returns-in-Ok-judge-clause-exact g c =
+    is_exact c.args.lead c.args.settings c.one_reading.ensures (file_use g.F.Shelf.held g.F.Shelf.faults c.args.shelf.now c.write_run.new.shelf c.args.capture.now)
+    (file_use g.F.Shelf.held g.F.Shelf.faults c.args.shelf.now c.write_run.new.shelf c.args.requests.now)
+    (sink_use g.K.Sink.content g.K.Sink.faults c.args.out.now c.write_run.new.out) c.write_run.result (returns-in-Ok-judge-clause-ends g c)
+
+pub returns-in-Ok-judge-clause-complete : goal.returns-in-Ok-judge-clause-complete
+returns-in-Ok-judge-clause-complete g c =
+    is_complete c.args.lead c.args.settings c.one_reading.ensures (file_use g.F.Shelf.held g.F.Shelf.faults c.args.shelf.now c.write_run.new.shelf c.args.capture.now)
+    (file_use g.F.Shelf.held g.F.Shelf.faults c.args.shelf.now c.write_run.new.shelf c.args.requests.now)
+    (sink_use g.K.Sink.content g.K.Sink.faults c.args.out.now c.write_run.new.out) c.write_run.result (returns-in-Ok-judge-clause-ends g c)
+
+pub returns-in-Err-clause-ends : goal.returns-in-Err-clause-ends
+returns-in-Err-clause-ends g c =
+    refused c.args.lead c.args.settings (file_use g.F.Shelf.held g.F.Shelf.faults c.args.shelf.now c.judge.new.shelf c.args.capture.now)
+    (file_use g.F.Shelf.held g.F.Shelf.faults c.args.shelf.now c.judge.new.shelf c.args.requests.now)
+    (sink_use g.K.Sink.content g.K.Sink.faults c.args.out.now c.args.out.now) c.in-Err.status refl c.in-Err.ensures.judged
+
+pub returns-in-Err-clause-exact : goal.returns-in-Err-clause-exact
+returns-in-Err-clause-exact g c =
+    is_exact c.args.lead c.args.settings c.one_reading.ensures (file_use g.F.Shelf.held g.F.Shelf.faults c.args.shelf.now c.judge.new.shelf c.args.capture.now)
+    (file_use g.F.Shelf.held g.F.Shelf.faults c.args.shelf.now c.judge.new.shelf c.args.requests.now)
+    (sink_use g.K.Sink.content g.K.Sink.faults c.args.out.now c.args.out.now) c.in-Err.status (returns-in-Err-clause-ends g c)
+
+pub returns-in-Err-clause-complete : goal.returns-in-Err-clause-complete
+returns-in-Err-clause-complete g c =
+    is_complete c.args.lead c.args.settings c.one_reading.ensures (file_use g.F.Shelf.held g.F.Shelf.faults c.args.shelf.now c.judge.new.shelf c.args.capture.now)
+    (file_use g.F.Shelf.held g.F.Shelf.faults c.args.shelf.now c.judge.new.shelf c.args.requests.now)
+    (sink_use g.K.Sink.content g.K.Sink.faults c.args.out.now c.args.out.now) c.in-Err.status (returns-in-Err-clause-ends g c)
+
+pub returns-in-Ok-judge-clause-shelf : goal.returns-in-Ok-judge-clause-shelf
+returns-in-Ok-judge-clause-shelf g c =
+    keeps_then g.F.Shelf.held g.F.Shelf.faults c.args.shelf.now c.judge.new.shelf c.write_run.new.shelf _ _ _ _ _ _ c.in-Ok-judge.ensures.shelf c.write_run.ensures.shelf (λ each is. is) (λ each is. is) (λ e. absurd cc) (λ e. e)
+
+pub returns-in-Err-clause-shelf : goal.returns-in-Err-clause-shelf
+returns-in-Err-clause-shelf g c =
+    keeps_more g.F.Shelf.held g.F.Shelf.faults c.args.shelf.now c.judge.new.shelf _ _ _ _ c.in-Err.ensures.shelf (λ each is. is) (λ e. let same : c.in-Err.status ≡ ReadFault = cc in same)

@@ -8,7 +8,7 @@ use Rattle.rm_probe.proofs.requests.judge.Goals as goal
 pub loop-fault-init : goal.loop-fault-init
 loop-fault-init g c = record {
   same = λ each. refl;
-  later = λ each. omega arith;
+  quiet = λ each. refl;
   few = omega (arith, ap (λ (p : Reached). p.number) c.requires);
   none = λ absent. ap (λ (p : Reached). p.read) c.requires;
   file = λ bytes is. ([], subst (λ (p : Reached). HasTaken [] p bytes) (sym c.requires) (taken_none bytes));
@@ -20,8 +20,8 @@ loop-fault-preserved g c =
     let takes = rw c.in-Ok-Some.field-0-is at c.in-Ok-Some.ensures.answers in
     let request : TimedDatagram = record { moment = c.in-Ok-Some.field-0-0.moment; datagram = datagram_in c.next.new.self } in
     record {
-      same = λ each. c.in-Ok-Some.ensures.constant each ∙ i.same each;
-      later = λ each. omega (arith, i.later each, c.in-Ok-Some.ensures.later each);
+      same = λ each. c.in-Ok-Some.ensures.shelf.constant each ∙ i.same each;
+      quiet = λ each. c.in-Ok-Some.ensures.shelf.quiet (λ e. cc) each ∙ i.quiet each;
       few = omega (arith, takes.next, takes.few);
       none = λ absent. absurd (let e = sym c.in-Ok-Some.is ∙ c.next.ensures.absent (i.same c.args.name.now ∙ absent) (i.none absent) in cc);
       file = λ bytes is.

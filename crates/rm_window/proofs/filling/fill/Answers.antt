@@ -15,8 +15,8 @@ loop-filled-preserved g c =
     read_more bytes c.loop-filled.into c.read.new.into c.args.at c.loop-filled.filled c.in_ok-count.count room i.within (omega (arith, c.in_ok-count.ensures.most, c.read.auto.into))
     (gives_of held bytes c.read.new.into _ c.in_ok-count.count (i.same c.args.name.now ∙ is) c.in_ok-count.ensures.octets) (i.front bytes is) (i.few bytes is) in
     record {
-      same = λ each. c.read.ensures.constant each ∙ i.same each;
-      later = λ each. omega (arith, i.later each, c.read.ensures.others each);
+      same = λ each. c.read.ensures.shelf.constant each ∙ i.same each;
+      quiet = λ each. c.in_ok-count.ensures.shelf.quiet (λ e. cc) each ∙ i.quiet each;
       within = omega (arith, long, c.in_ok-count.ensures.most, mid_len c.loop-filled.filled (length c.loop-filled.into) c.loop-filled.into (omega arith));
       front = λ bytes is. (more bytes is).front;
       few = λ bytes is. (more bytes is).few;

@@ -35,7 +35,7 @@ returns-in_err-record-clause-faults g c =
 pub returns-then-count-whole-clause-found : goal.returns-then-count-whole-clause-found
 returns-then-count-whole-clause-found g c = λ bytes is front.
     let h = c.in-Ok.ensures.holds bytes is front in
-    let more = c.in-Ok-hold.ensures.holds bytes (c.hold.ensures.constant c.args.name.now ∙ is) h.front in
+    let more = c.in-Ok-hold.ensures.holds bytes (c.hold.ensures.shelf.constant c.args.name.now ∙ is) h.front in
     let header = is_header c.args.self.reach bytes c.octets.result.now (octets_of c.hold.new.self) c.octets.ensures h (omega (arith, c.in-Ok.ensures.count, c.if-count-lt-RECORD_HEADER.false)) in (
       more.front,
       found_short c.args.self.form c.args.self.lead c.args.self.reach bytes c.octets.result.now (octets_of c.hold-2.new.self) c.in_ok-record.record header
@@ -45,7 +45,7 @@ returns-then-count-whole-clause-found g c = λ bytes is front.
 pub returns-clause-found : goal.returns-clause-found
 returns-clause-found g c = λ bytes is front.
     let h = c.in-Ok.ensures.holds bytes is front in
-    let more = c.in-Ok-hold.ensures.holds bytes (c.hold.ensures.constant c.args.name.now ∙ is) h.front in
+    let more = c.in-Ok-hold.ensures.holds bytes (c.hold.ensures.shelf.constant c.args.name.now ∙ is) h.front in
     let header = is_header c.args.self.reach bytes c.octets.result.now (octets_of c.hold.new.self) c.octets.ensures h (omega (arith, c.in-Ok.ensures.count, c.if-count-lt-RECORD_HEADER.false)) in (
       more.front,
       found_whole c.args.self.form c.args.self.lead c.args.self.reach bytes c.octets.result.now (octets_of c.hold-2.new.self) c.in_ok-record.record header

@@ -13,7 +13,7 @@ use Rattle.rm_probe.proofs.replaying.Replaying.advance.Goals as goal
 pub loop-next-init : goal.loop-next-init
 loop-next-init g c = record {
   same = λ each. refl;
-  later = λ each. omega arith;
+  quiet = λ each. refl;
   settings = refl;
   more = [];
   sent = sent_none g.N.Notes.since c.args.notes.now;
@@ -69,8 +69,8 @@ loop-next-preserved g c =
     found found' c.in-Some.next c.in-Next.frame looks (sym c.in-Some.is ∙ moment_is) c.if-next-moment.false passes shows i.keeps in
     let (more, sent, counted) = c.frame.ensures.passes in
     record {
-      same = λ each. c.in_ok-frame.ensures.constant each ∙ c.in_ok-next.ensures.constant each ∙ i.same each;
-      later = λ each. omega (arith, i.later each, c.in_ok-next.ensures.later each, c.in_ok-frame.ensures.later each);
+      same = λ each. c.in_ok-frame.ensures.shelf.constant each ∙ c.in_ok-next.ensures.shelf.constant each ∙ i.same each;
+      quiet = λ each. c.in_ok-frame.ensures.shelf.quiet (λ e. cc) each ∙ c.in_ok-next.ensures.shelf.quiet (λ e. cc) each ∙ i.quiet each;
       settings = c.frame.ensures.settings ∙ i.settings;
       more = i.more ++ more;
       sent = sent_more g.N.Notes.since c.args.notes.now c.loop-next.notes c.frame.new.notes i.more more i.sent sent;
@@ -78,6 +78,6 @@ loop-next-preserved g c =
       keeps = may.keeps c.frame.new.self c.frame.ensures.last c.frame.ensures.frames;
       passed = λ bytes is frames stop journal left stands.
           passed_found (settings_of c.args.self.now.probe) c.args.moment (g.F.Shelf.held c.loop-next.shelf c.args.name.now) (g.F.Shelf.held c.peek.new.shelf c.args.name.now) bytes (progress_of c.loop-next.self.capture) (progress_of c.peek.new.self) (progress_of c.next.follows.lender-at-none)
-          c.loop-next.self.probe c.frame.new.self (progress_of c.args.self.now.capture).reach.count frames stop journal i.more more found found' c.in-Some.next c.in-Next.frame (i.same c.args.name.now ∙ is) (c.in_ok-next.ensures.constant c.args.name.now) looks
+          c.loop-next.self.probe c.frame.new.self (progress_of c.args.self.now.capture).reach.count frames stop journal i.more more found found' c.in-Some.next c.in-Next.frame (i.same c.args.name.now ∙ is) (c.in_ok-next.ensures.shelf.constant c.args.name.now) looks
           (sym c.in-Some.is ∙ moment_is) c.if-next-moment.false passes shows (subst (λ (s : Settings). LetsPass s c.loop-next.self.probe c.frame.new.self (frame_of c.in-Next.frame) more) i.settings counted) (i.passed bytes is frames stop journal left stands);
     }

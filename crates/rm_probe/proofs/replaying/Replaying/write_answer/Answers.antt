@@ -7,23 +7,14 @@ use Rattle.rm_probe.specs.Steps.{HasBegun, IsNextLine, timed}
 use Rattle.rm_probe.proofs.WritingLemmas.{put_writes, put_rose, next_is, advance_stops, stops_writing}
 use Rattle.rm_probe.proofs.replaying.Replaying.write_answer.Goals as goal
 
-pub returns-in_err-advance-clause-same_reference : goal.returns-in_err-advance-clause-same_reference
-returns-in_err-advance-clause-same_reference g c =
-    (c.in_err-advance.ensures.passed.1 c.args.out.now [] (refl, nothing_noted (g.K.Sink.content c.args.out.now.sink.now) (g.K.Sink.faults c.args.out.now.sink.now) c.args.out.now.failed)).0
+pub returns-in_err-advance-clause-sink : goal.returns-in_err-advance-clause-sink
+returns-in_err-advance-clause-sink g c =
+    let noted = c.in_err-advance.ensures.passed.1 c.args.out.now [] (refl, nothing_noted (g.K.Sink.content c.args.out.now.sink.now) (g.K.Sink.faults c.args.out.now.sink.now) c.args.out.now.failed) in (noted.0, noted.1.later)
 
-pub returns-in_err-advance-clause-write_later : goal.returns-in_err-advance-clause-write_later
-returns-in_err-advance-clause-write_later g c =
-    (c.in_err-advance.ensures.passed.1 c.args.out.now [] (refl, nothing_noted (g.K.Sink.content c.args.out.now.sink.now) (g.K.Sink.faults c.args.out.now.sink.now) c.args.out.now.failed)).1.later
-
-pub returns-clause-same_reference : goal.returns-clause-same_reference
-returns-clause-same_reference g c =
+pub returns-clause-sink : goal.returns-clause-sink
+returns-clause-sink g c =
     let noted = c.answer.ensures.answers.1 c.args.out.now c.in_ok-advance.ensures.passed.0 (c.in_ok-advance.ensures.passed.1 c.args.out.now [] (refl, nothing_noted (g.K.Sink.content c.args.out.now.sink.now) (g.K.Sink.faults c.args.out.now.sink.now) c.args.out.now.failed)) in
-    c.put.ensures.same_reference ∙ noted.0
-
-pub returns-clause-write_later : goal.returns-clause-write_later
-returns-clause-write_later g c =
-    let noted = c.answer.ensures.answers.1 c.args.out.now c.in_ok-advance.ensures.passed.0 (c.in_ok-advance.ensures.passed.1 c.args.out.now [] (refl, nothing_noted (g.K.Sink.content c.args.out.now.sink.now) (g.K.Sink.faults c.args.out.now.sink.now) c.args.out.now.failed)) in
-    omega (arith, noted.1.later, c.put.ensures.later)
+    (c.put.ensures.same_reference ∙ noted.0, omega (arith, noted.1.later, c.put.ensures.later))
 
 pub returns-clause-writes : goal.returns-clause-writes
 returns-clause-writes g c =

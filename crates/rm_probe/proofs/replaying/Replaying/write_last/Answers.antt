@@ -1,28 +1,22 @@
-use Rattle.std.proofs.Common.{◌∙◌, [], ◌++◌, refl, arith, ap}
+use Rattle.std.proofs.Common.{◌≡◌, ◌∙◌, [], ◌++◌, refl, arith, ap}
 use Rattle.rm_probe.specs.Notes.{nothing_noted, trap_lines}
 use Rattle.rm_pcap.specs.View.{progress_of}
 use Rattle.rm_probe.specs.Probe.{settings_of}
 use Rattle.rm_probe.specs.Steps.{HasBegun, IsLastLine}
 use Rattle.rm_probe.proofs.WritingLemmas.{put_writes, put_rose, finish_stops, stops_writing}
+use Rattle.rm_edge.proofs.Keeping.{keeps_more}
+use Rattle.rm_pcap.specs.declared.fault.PcapFault.TheVariants.{Read}
+use Rattle.rm_probe.specs.Capture.{status_of}
 use Rattle.rm_probe.proofs.replaying.Replaying.write_last.Goals as goal
 
-pub returns-in-Err-clause-same_reference : goal.returns-in-Err-clause-same_reference
-returns-in-Err-clause-same_reference g c =
-    (c.in-Err.ensures.last.1 c.args.out.now [] (refl, nothing_noted (g.K.Sink.content c.args.out.now.sink.now) (g.K.Sink.faults c.args.out.now.sink.now) c.args.out.now.failed)).0
+pub returns-in-Err-clause-sink : goal.returns-in-Err-clause-sink
+returns-in-Err-clause-sink g c =
+    let noted = c.in-Err.ensures.last.1 c.args.out.now [] (refl, nothing_noted (g.K.Sink.content c.args.out.now.sink.now) (g.K.Sink.faults c.args.out.now.sink.now) c.args.out.now.failed) in (noted.0, noted.1.later)
 
-pub returns-in-Err-clause-write_later : goal.returns-in-Err-clause-write_later
-returns-in-Err-clause-write_later g c =
-    (c.in-Err.ensures.last.1 c.args.out.now [] (refl, nothing_noted (g.K.Sink.content c.args.out.now.sink.now) (g.K.Sink.faults c.args.out.now.sink.now) c.args.out.now.failed)).1.later
-
-pub returns-clause-same_reference : goal.returns-clause-same_reference
-returns-clause-same_reference g c =
+pub returns-clause-sink : goal.returns-clause-sink
+returns-clause-sink g c =
     let noted = c.in-Ok.ensures.last.1 c.args.out.now [] (refl, nothing_noted (g.K.Sink.content c.args.out.now.sink.now) (g.K.Sink.faults c.args.out.now.sink.now) c.args.out.now.failed) in
-    c.put.ensures.same_reference ∙ noted.0
-
-pub returns-clause-write_later : goal.returns-clause-write_later
-returns-clause-write_later g c =
-    let noted = c.in-Ok.ensures.last.1 c.args.out.now [] (refl, nothing_noted (g.K.Sink.content c.args.out.now.sink.now) (g.K.Sink.faults c.args.out.now.sink.now) c.args.out.now.failed) in
-    omega (arith, noted.1.later, c.put.ensures.later)
+    (c.put.ensures.same_reference ∙ noted.0, omega (arith, noted.1.later, c.put.ensures.later))
 
 pub returns-clause-writes : goal.returns-clause-writes
 returns-clause-writes g c =
@@ -52,3 +46,7 @@ returns-in-Err-clause-line g c = λ bytes frames stop journal is left stands.
     let stopped = finish_stops bytes progress c.args.self.now.probe c.args.requests more c.finish.new.line.items c.in-Err.fault (finishes bytes is) frames stop journal left stands in
     rw c.from.ensures (stops_writing (IsLastLine (settings_of c.args.self.now.probe) progress.reach.count c.args.requests frames stop journal) (HasBegun (settings_of c.args.self.now.probe) 4294967295 frames journal) stop
     (g.K.Sink.content c.args.out.now.sink.now) (g.K.Sink.content c.finish.new.notes.sink.now) more c.in-Err.fault c.in-Err.ensures.kinds stopped noted.1.front).1
+
+pub returns-in-Err-clause-shelf : goal.returns-in-Err-clause-shelf
+returns-in-Err-clause-shelf g c =
+    keeps_more g.F.Shelf.held g.F.Shelf.faults c.args.shelf.now c.finish.new.shelf _ _ _ _ c.in-Err.ensures.shelf (λ each is. is) (λ e. let same : c.in-Err.fault ≡ Read = cc in c.from.ensures ∙ ap status_of same)

@@ -9,14 +9,12 @@ returns-in_default c =
     let none = file_in-None c.self.inside.files.items c.args.name.now place in
     rw (← c.self.view_is) record {
       most = search rules;
-      constant = search rules;
+      shelf = record { constant = search rules; later = search rules; quiet = search rules; apart = search rules };
       octets = rw none (search rules);
       cause = rw none (record { later = omega arith; failed = omega arith });
-      others = search rules;
       exact = (λ _. inr (rw none refl), λ _. refl);
       count = search rules;
       counted = rw none (omega arith);
-      apart = search rules;
       calls = search rules;
       failing = search rules;
       pieces = search rules;
@@ -29,14 +27,12 @@ returns-then-contains c =
     let counts = counts_fault c.self.inside.files.items c.in-Some.place c.self.inside.absent_faults c.index_mut.result.now c.count_fault.new.self c.args.name.now stands c.count_fault.ensures.counted c.count_fault.ensures.later in
     rw (← c.self.view_is) record {
       most = search rules;
-      constant = counts.constant;
+      shelf = record { constant = counts.constant; later = counts.later; quiet = search rules; apart = λ each bytes other _. counts.apart each other };
       octets = rw stands.file (search rules);
       cause = record { later = counts.later c.args.name.now; failed = omega (arith, counts.counted) };
-      others = counts.later;
       exact = search rules;
       count = search rules;
       counted = counts.counted;
-      apart = λ each other _. counts.apart each other;
       calls = search rules;
       failing = search rules;
       pieces = search rules;
@@ -48,14 +44,12 @@ returns c =
     let stands = stands_at c.self.inside.files.items c.args.name.now c.in-Some.place c.index.result.now place c.index.ensures in
     rw (← c.self.view_is) record {
       most = omega (arith, c.read_at.ensures.count);
-      constant = search rules;
+      shelf = record { constant = search rules; later = search rules; quiet = search rules; apart = search rules };
       octets = rw stands.file (record { octets = c.read_at.ensures.octets; within = omega (arith, c.read_at.ensures.count); some = grind (arith, c.read_at.ensures.count, c.read_at.auto.into) });
       cause = record { later = omega arith; failed = search rules };
-      others = search rules;
       exact = rw stands.file (search rules);
       count = rw stands.file c.read_at.ensures.count;
       counted = search rules;
-      apart = search rules;
       calls = search rules;
       failing = search rules;
       pieces = search rules;

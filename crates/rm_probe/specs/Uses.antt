@@ -1,0 +1,36 @@
+-- What a run finds of a file and of a sink, and what it does to their counts of faults.
+use Rattle.std.specs.Prelude.{◌≡◌, ℕ, List, Option}
+use Rattle.rm_edge.specs.Outside.{Held, Rose}
+
+-- a file: what is held under its name, and how often reads of it have failed, before and after
+pub record FileUse : Type 0 where
+  pub held : Held
+  pub faults : ℕ
+  pub faults_after : ℕ
+
+-- a sink: its octets, and how often puts have failed, before and after
+pub record SinkUse : Type 0 where
+  pub content : Option (List ℕ)
+  pub faults : ℕ
+  pub content_after : Option (List ℕ)
+  pub faults_after : ℕ
+
+-- the file of that name on a shelf, by what shelves hold and count
+abbrev pub file_use : {F : Type 0} → (F → List ℕ → Held) → (F → List ℕ → ℕ) → F → F → List ℕ → FileUse
+file_use held faults old new name = record { held = held old name; faults = faults old name; faults_after = faults new name }
+
+-- a sink, by what sinks hold and count
+abbrev pub sink_use : {K : Type 0} → (K → Option (List ℕ)) → (K → ℕ) → K → K → SinkUse
+sink_use content faults old new = record { content = content old; faults = faults old; content_after = content new; faults_after = faults new }
+
+-- a read of the file failed
+abbrev pub HasReadFault : FileUse → Type 0
+HasReadFault file = Rose file.faults file.faults_after
+
+-- a put failed
+abbrev pub HasPutFault : SinkUse → Type 0
+HasPutFault out = Rose out.faults out.faults_after
+
+-- nothing was put
+abbrev pub IsUntouched : SinkUse → Type 0
+IsUntouched out = out.content_after ≡ out.content
