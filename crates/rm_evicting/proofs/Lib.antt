@@ -1,0 +1,9 @@
+pub mod Recency
+pub mod Stamps
+pub mod RowLemmas
+pub mod Evicting
+pub mod Steps
+pub mod Keys
+pub mod RankLemmas
+pub mod EntryLemmas
+pub mod Examples

@@ -1,0 +1,5 @@
+pub mod Mention
+pub mod Held
+pub mod Row
+pub mod Stands
+pub mod Neighbours

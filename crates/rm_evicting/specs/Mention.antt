@@ -1,0 +1,14 @@
+-- What frames bring to a table whose rows are found by a key, the newest first.
+use Rattle.std.specs.Prelude.{ℕ, List, [], ◌∷◌}
+
+-- a reference to a key, with its stamp, its tick and what it adds to the row; or what a bad frame adds where its key is held
+pub data Mention (K C : Type 0) : Type 0 where
+  refers : (key : K) (stamp tick : ℕ) (gain : C) → Mention K C
+  strays : (key : K) (gain : C) → Mention K C
+
+module _ {K C : Type 0} where
+  -- the keys referred to
+  abbrev pub keys : List (Mention K C) → List K
+  keys [] = []
+  keys (refers key stamp tick gain ∷ earlier) = key ∷ keys earlier
+  keys (strays key gain ∷ earlier) = keys earlier

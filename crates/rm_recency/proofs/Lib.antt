@@ -1,0 +1,5 @@
+pub mod SetLemmas
+pub mod ThreadLemmas
+pub mod RowLemmas
+pub mod Chains
+pub mod Rings

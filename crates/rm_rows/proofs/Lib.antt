@@ -1,0 +1,11 @@
+mod FindLemmas
+mod KeptLemmas
+mod MoveLemmas
+mod TouchLemmas
+mod ValueLemmas
+mod RankLemmas
+mod WalkLemmas
+mod NextLemmas
+pub mod Members
+pub mod RowsBy
+pub mod Steps

@@ -1,0 +1,4 @@
+pub mod Table
+pub mod Index
+pub mod TableLending
+pub mod Stored

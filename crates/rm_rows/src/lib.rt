@@ -1,0 +1,13 @@
+//! The rows of a table of bounded size, of which the one that was referred to least recently gives way to a new one.
+#![tactic(auto)]
+
+mod index;
+mod ranks;
+mod rows;
+#[cfg(test)]
+mod tests;
+mod touch;
+mod walk;
+
+pub use rows::{Blank, Rows};
+pub use touch::Touch;
