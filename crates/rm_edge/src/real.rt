@@ -1,4 +1,5 @@
 // The real outside. These adapters tell nothing of what they hold.
+mod faults;
 mod file_shelf;
 mod host_clock;
 mod std_sink;

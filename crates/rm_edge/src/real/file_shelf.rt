@@ -1,34 +1,29 @@
 ghost use Rattle.std.specs.Prelude.{◌≡◌, ◌≤◌, length, IfOk};
 ghost use Rattle.rm_edge.specs.Outside.{Untold};
 
+use super::faults::Faults;
 use crate::outside::{Failed, Shelf};
 use std::io::{Read, Seek, SeekFrom};
-use std::marker::Model;
 use std::rt::Files;
 use std::{fs, io};
 
 /// The files of the system by their paths. A read opens its file and closes it again. An error is
-/// a fault of every name. Contracts see the shelf as its count of faults.
+/// a fault of every name.
 #[derive(Drop)]
 pub struct FileShelf<R> {
     rt: R,
-    faults: u64,
-}
-
-impl<R> Model for FileShelf<R> {
-    ghost use Rattle.std.specs.Prelude.{ℕ};
-
-    ghost Value = { ℕ };
-
-    ghost view = { λ s. s.faults };
+    faults: Faults,
 }
 
 impl<R: Files> FileShelf<R> {
     /// A shelf with no file open and no fault.
     pub fn new(rt: R) -> FileShelf<R>
-        ensures { result ≡ 0 }
+        ensures { result.faults ≡ 0 }
     {
-        FileShelf { rt, faults: 0 }
+        FileShelf {
+            rt,
+            faults: Faults::new(),
+        }
     }
 }
 
@@ -43,15 +38,9 @@ fn read_file<R: Files>(rt: &R, name: &str, at: u64, into: &mut [u8]) -> io::Resu
 impl<R: Files> Shelf for FileShelf<R> {
     ghost held = { λ _ _. Untold };
 
-    ghost faults = { λ s _. s };
+    ghost faults = { λ s _. s.faults };
 
     fn read(&mut self, name: &str, at: u64, into: &mut [u8]) -> Result<usize, Failed> {
-        match read_file(&self.rt, name, at, into) {
-            Ok(count) => Ok(count),
-            Err(_) => {
-                self.faults = self.faults.saturating_add(1);
-                Err(Failed)
-            }
-        }
+        self.faults.check(read_file(&self.rt, name, at, into).ok())
     }
 }

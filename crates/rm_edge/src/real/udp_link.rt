@@ -1,35 +1,26 @@
 ghost use Rattle.std.specs.Prelude.{◌≡◌, ◌≤◌, None, length, IfSome};
 
+use super::faults::Faults;
 use crate::outside::{Failed, Link, Peer};
-use std::marker::Model;
 use std::net::{Ipv4Addr, Net, SocketAddr, SocketAddrV4, UdpSocket};
 
-/// A socket of UDP on 127.0.0.1. A receive or a send before a port is bound is a fault, and so is each error. Contracts see the link as its
-/// count of faults.
+/// A socket of UDP on 127.0.0.1. A receive or a send before a port is bound is a fault, and so is each error.
 #[derive(Drop)]
 pub struct UdpLink<R> {
     rt: R,
     socket: Option<UdpSocket>,
-    faults: u64,
-}
-
-impl<R> Model for UdpLink<R> {
-    ghost use Rattle.std.specs.Prelude.{ℕ};
-
-    ghost Value = { ℕ };
-
-    ghost view = { λ l. l.faults };
+    faults: Faults,
 }
 
 impl<R: Net> UdpLink<R> {
     /// A link with no port bound and no fault.
     pub fn new(rt: R) -> UdpLink<R>
-        ensures { result ≡ 0 }
+        ensures { result.faults ≡ 0 }
     {
         UdpLink {
             rt,
             socket: None,
-            faults: 0,
+            faults: Faults::new(),
         }
     }
 
@@ -65,38 +56,22 @@ impl<R: Net> Link for UdpLink<R> {
 
     ghost sent = { λ _. None };
 
-    ghost faults = { λ l. l };
+    ghost faults = { λ l. l.faults };
 
     fn bind(&mut self, port: u16) -> Result<(), Failed> {
-        match UdpSocket::bind(&self.rt, SocketAddrV4::new(Ipv4Addr::LOCALHOST, port)) {
-            Ok(socket) => {
-                self.socket = Some(socket);
-                Ok(())
-            }
-            Err(_) => {
-                self.faults = self.faults.saturating_add(1);
-                Err(Failed)
-            }
-        }
+        let local = SocketAddrV4::new(Ipv4Addr::LOCALHOST, port);
+        let socket = self.faults.check(UdpSocket::bind(&self.rt, local).ok())?;
+        self.socket = Some(socket);
+        Ok(())
     }
 
     fn receive(&mut self, into: &mut [u8]) -> Result<(Peer, usize), Failed> {
-        match self.receive_from(into) {
-            Some(found) => Ok(found),
-            None => {
-                self.faults = self.faults.saturating_add(1);
-                Err(Failed)
-            }
-        }
+        let found = self.receive_from(into);
+        self.faults.check(found)
     }
 
     fn send(&mut self, to: Peer, bytes: &[u8]) -> Result<(), Failed> {
-        match self.send_to(to, bytes) {
-            Some(()) => Ok(()),
-            None => {
-                self.faults = self.faults.saturating_add(1);
-                Err(Failed)
-            }
-        }
+        let sent = self.send_to(to, bytes);
+        self.faults.check(sent)
     }
 }
