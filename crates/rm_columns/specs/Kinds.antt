@@ -1,7 +1,7 @@
 -- What types of typed columns hold.
-use Rattle.std.specs.Prelude.{◌≡◌, ℕ, ℤ, pos, List, Option, Some, int_le}
+use Rattle.std.specs.Prelude.{◌≡◌, ℕ, ℤ, pos, List, Option, Some}
 use Rattle.std.specs.Option.{option_map}
-use Rattle.rm_val.specs.Val.{Val, int, octets, name}
+use Rattle.rm_val.specs.Val.{int, octets, name}
 use Rattle.rm_model.specs.Interfaces.{interface_name}
 use Rattle.rm_columns.specs.Numbering.{Numbering, variant}
 use Rattle.rm_columns.specs.Values.{number_of, natural_in, octets_in, name_of, interface_in}

@@ -1,6 +1,6 @@
 // The columns of a row of eventTable.
-ghost use Rattle.std.specs.Prelude.{◌≡◌, refl};
-ghost use Rattle.rm_event.specs.EventRows.{blank_row, event_rows};
+ghost use Rattle.std.specs.Prelude.{refl};
+ghost use Rattle.rm_event.specs.EventRows.{event_rows};
 
 use crate::event_type::EventType;
 use arrayvec::ArrayVec;

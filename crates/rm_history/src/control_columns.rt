@@ -1,6 +1,6 @@
 // The columns of a row of historyControl that can be set.
-ghost use Rattle.std.specs.Prelude.{◌≡◌, refl};
-ghost use Rattle.rm_history.specs.ControlColumns.{blank_columns, control_rows};
+ghost use Rattle.std.specs.Prelude.{refl};
+ghost use Rattle.rm_history.specs.ControlColumns.{control_rows};
 
 use arrayvec::ArrayVec;
 use rm_columns::{

@@ -1,11 +1,11 @@
 -- Where the index of a row is one number, the counts of rows go over the numbers 1 to 65535 alone.
-use Rattle.std.proofs.Common.{◌≡◌, ℕ, ◌+◌, ◌^◌, ◌<◌, ◌≤◌, zero, suc, Bool, true, false, cond, ◌&&◌, ◌||◌, not, nat_le, [], ◌∷◌, length, Option, Some, None, refl, sym, ap, ◌∙◌, arith, add-zero, zero-add}
+use Rattle.std.proofs.Common.{◌≡◌, ℕ, ◌+◌, ◌^◌, ◌≤◌, zero, suc, Bool, true, false, cond, ◌&&◌, ◌||◌, not, nat_le, [], ◌∷◌, Option, Some, None, refl, sym, ap, ◌∙◌, arith, add-zero, zero-add}
 use Rattle.std.proofs.Math.Nat.{add-suc}
 use Rattle.std.proofs.lemmas.Bool.Decides.{nat_tests}
 use Rattle.std.specs.Str.{bytes_eq}
 use Rattle.rm_val.specs.Val.{Val}
 use Rattle.rm_model.specs.Journal.{Journal, passes, assigns, samples, value_given}
-use Rattle.rm_model.specs.Indexing.{one_number, one_within}
+use Rattle.rm_model.specs.Indexing.{one_number}
 use Rattle.rm_model.specs.ControlTable.{ControlTable, row_index}
 use Rattle.rm_model.specs.ControlRows.{no_rows, cell_name, value_ask, set_ask, next_state, state_of, is_absent, is_valid}
 use Rattle.rm_model.specs.Judgement.{Bindings, place_of, is_row_number, is_made, is_held_or_made, count_below, rows_after}

@@ -1,4 +1,4 @@
-use Rattle.std.proofs.Common.{rules, refl, arith}
+use Rattle.std.proofs.Common.{rules, arith}
 use Rattle.rm_model.specs.ControlRows.{no_rows}
 use Rattle.rm_status.proofs.Committed.{IsCommitted, count_then}
 use Rattle.rm_status.proofs.Puts.{all_fine}

@@ -1,4 +1,4 @@
-use Rattle.std.proofs.Common.{rules, refl}
+use Rattle.std.proofs.Common.{rules}
 use Rattle.rm_history.proofs.Storage.{first_fine}
 use Rattle.rm_history.proofs.history.History.count_after.Goals as goal
 
