@@ -64,8 +64,8 @@ pub trait Group {
     /// The group holds nothing for a Set that is to be committed.
     ghost released: { Self → Type 0 };
 
-    /// A name that no variable of the group has a lesser one than, whatever the journal and the moment. Where a variable with a name
-    /// below it was found, the group has no nearer one, and needn't be asked.
+    /// Where the group's variables begin: none has a name below this one, whatever the journal and the moment. So a group that begins
+    /// behind a variable that was found needn't be asked for a nearer one. By default it is the empty name, which no name is below.
     fn least() -> &'static [u32]
         ensures from { (settings : Counting) (journal : Journal) (now : ℕ) → AreFrom result.now (cells settings journal now) }
         ensures fits { length result.now ≤ 128 }

@@ -1,5 +1,6 @@
 // What a Set gives to a row of a control table.
-ghost use Rattle.std.specs.Prelude.{◌≡◌, ◌<◌, ◌∷◌, [], length, None, not};
+ghost use Rattle.std.specs.Prelude.{◌≡◌, ◌<◌, ◌∷◌, [], length, None, not, true};
+ghost use Rattle.std.specs.Str.{bytes_eq};
 ghost use Rattle.std.specs.Option.{option_or};
 ghost use Rattle.rm_val.specs.Val.{val_of};
 ghost use Rattle.rm_val.specs.Spellable.{HasSpelling};
@@ -42,11 +43,26 @@ pub(crate) fn is_again<A: Assigns>(set: &A, place: usize) -> bool
     let name = set.name(place);
     for earlier in 0..place {
         let other = set.name(earlier);
-        if other.compare(&name).is_eq() {
+        if is_same(&other, &name) {
             return true;
         }
     }
     false
+}
+
+// Whether two names are the same. Their ends are compared first, where the names of a Set differ most.
+fn is_same(name: &Oid, other: &Oid) -> bool
+    ensures { result ≡ bytes_eq name.now other.now }
+{
+    ends_alike(name, other) && name.compare(other).is_eq()
+}
+
+// Whether two names are as long and have the same last number, as names that are the same have.
+fn ends_alike(name: &Oid, other: &Oid) -> bool
+    ensures { name.now ≡ other.now → result ≡ true }
+{
+    let count = name.len();
+    count == other.len() && (count == 0 || name.at(count - 1) == other.at(count - 1))
 }
 
 /// What is wrong with a value for a column.
