@@ -1,18 +1,27 @@
 -- What commands ask for.
-use Rattle.std.specs.Prelude.{◌≡◌, ℕ, List, Option, Ok, false}
+use Rattle.std.specs.Prelude.{◌≡◌, ℕ, Bool, List, Option, Result, Ok, Err, false}
 use Rattle.hex.specs.Hex.{decode_of}
 use Rattle.rm_edge.specs.Outside.{Held, Adds, AddsFront, Rose}
 use Rattle.rm_pdu.specs.Parse.{Parse, IsParse}
 use Rattle.rm_decode.specs.Text.{text_of}
 use Rattle.rm_agent.specs.declared.settings.Settings.{Settings}
+use Rattle.rm_probe.specs.Capture.{status_of}
 use Rattle.rm_probe.specs.Ends.{Ends}
 use Rattle.rm_probe.specs.declared.status.Status.{Status}
 use Rattle.rm_probe.specs.declared.status.Status.TheVariants.{Done, WriteFault, NoMemory}
-use Rattle.rm_words.specs.Grammar.{Options, replay, decode, StandFor}
+use Rattle.rm_summary.specs.Ends.{Outside}
+use Rattle.rm_summary.specs.Ends.{Ends as Sums, IsExact as SumsExactly}
+use Rattle.rm_summary.specs.declared.entry.SummaryFault.{SummaryFault}
+use Rattle.rm_summary.specs.declared.entry.SummaryFault.TheVariants.{Capture, Put}
+use Rattle.rm_words.specs.Grammar.{Options, replay, summary, decode, StandFor}
 
 -- the words stand for `replay`, and this is a fact of its operands and options
 abbrev pub OfReplay : List (List ℕ) → (List ℕ → List ℕ → Options → Type 0) → Type 0
 OfReplay words P = (capture requests : List ℕ) (options : Options) → StandFor words (replay capture requests options) → P capture requests options
+
+-- the words stand for `summary`, and this is a fact of its operand, and of the moment of the first frame and whether short frames are kept
+abbrev pub OfSummary : List (List ℕ) → (List ℕ → ℕ → Bool → Type 0) → Type 0
+OfSummary words P = (capture : List ℕ) (lead : ℕ) (keep_short : Bool) → StandFor words (summary capture lead keep_short) → P capture lead keep_short
 
 -- the words stand for `decode`, and this is a fact of the octets that its digits are
 abbrev pub OfDecode : List (List ℕ) → (List ℕ → Type 0) → Type 0
@@ -33,6 +42,19 @@ pub record EndsWith (options : Options) (capture requests : Held) (reads reads' 
   pub settings : Settings
   pub set : AreSet settings options
   pub ends : Ends settings options.lead capture requests reads reads' writes writes' old new result
+
+-- how a run ends by the answer of a summary
+abbrev pub status_by : {T : Type 0} → Result T SummaryFault → Status
+status_by (Ok done) = Done
+status_by (Err (Capture fault)) = status_of fault
+status_by (Err Put) = WriteFault
+
+-- How `summary` ends: by the answer of the summary of that capture, which is exact.
+pub record Summarizes (lead : ℕ) (keep_short : Bool) (outside : Outside) (result : Status) : Type 0 where
+  pub answer : Result (Unit {0}) SummaryFault
+  pub result_is : result ≡ status_by answer
+  pub sums : Sums lead keep_short outside answer
+  pub exact : SumsExactly lead keep_short outside answer
 
 -- How `decode` ends: with the text of what the octets are, or with a front of it where a put failed. The counts are those of failed
 -- puts.

@@ -6,19 +6,20 @@ ghost use Rattle.rm_words.specs.Grammar.{Command as Meant, StandFor, is_hex};
 ghost use Rattle.rm_words.specs.Told.{options_of};
 ghost use Rattle.rm_probe.specs.Ends.{IsComplete, IsExact, IsSilent};
 ghost use Rattle.rm_probe.specs.declared.status.Status.TheVariants.{Done, NoMemory, Usage};
-ghost use Rattle.rm_cmd.specs.Commands.{AreSet, Decodes, EndsWith, OfDecode, OfReplay};
+ghost use Rattle.rm_cmd.specs.Commands.{AreSet, Decodes, EndsWith, OfDecode, OfReplay, OfSummary, Summarizes};
 
 use rm_agent::Settings;
 use rm_decode::Unwritten;
 use rm_edge::{Clock, Link, Shelf, Sink, Words};
 use rm_probe::Status;
+use rm_summary::SummaryFault;
 use rm_words::{Command, RunOptions, one_command, read_command};
 use std::alloc::Global;
 
 /// Runs the words of a command line.
 ///
 /// `replay CAPTURE REQUESTS` with its options writes one line for each datagram of the request file and one for each notification,
-/// and a last line. `decode HEX` writes what the octets are that the digits stand for, read as a message. Words that stand for no
+/// and a last line. `summary CAPTURE` with its options writes what the capture comes to. `decode HEX` writes what the octets are that the digits stand for, read as a message. Words that stand for no
 /// command are `Usage`.
 ///
 /// Of `replay` the capture is judged first, a record at a time, and then the request file, a line at a time. Only then is anything
@@ -47,6 +48,17 @@ pub fn run<F: Shelf, K: Sink, L: Link, T: Clock>(
         (F.faults shelf.old capture + F.faults shelf.old requests) (F.faults shelf.new capture + F.faults shelf.new requests)
         (K.faults out.old) (K.faults out.new) result) }
 
+    // Of `summary` too: the octets added are exactly the summary of the capture, which is read once.
+    ensures sums_up { OfSummary words.now (λ capture lead keep_short. Summarizes lead keep_short (record {
+      held = F.held shelf.old capture;
+      reads = F.faults shelf.old capture;
+      reads_after = F.faults shelf.new capture;
+      puts = K.faults out.old;
+      puts_after = K.faults out.new;
+      content = K.content out.old;
+      content_after = K.content out.new;
+    }) result) }
+
     // Of `decode` too: the octets added are exactly the text of those that its digits are.
     ensures decodes { OfDecode words.now (λ octets. Decodes octets (K.faults out.old) (K.faults out.new) (K.content out.old) (K.content out.new) result) }
     ensures decodes_whole { OfDecode words.now (λ octets. (Rose (K.faults out.old) (K.faults out.new) → ⊥) → (result ≡ Done) ⊎ (result ≡ NoMemory)) }
@@ -69,6 +81,13 @@ pub fn run<F: Shelf, K: Sink, L: Link, T: Clock>(
                 options,
             },
         ) => run_replay(alloc, capture, requests, options, shelf, out),
+        Some(
+            Command::Summary {
+                capture,
+                lead,
+                keep_short,
+            },
+        ) => run_summary(alloc, lead, keep_short, capture, shelf, out),
         Some(Command::Decode { hex: digits }) => run_decode(alloc, digits, out),
     }
 }
@@ -95,6 +114,34 @@ fn run_replay<F: Shelf, K: Sink>(
     let lead = options.lead;
     let settings = settings_of(options);
     rm_probe::replay(alloc, settings, lead, capture, requests, shelf, out)
+}
+
+// Runs `summary` with its operand and options.
+fn run_summary<F: Shelf, K: Sink>(
+    alloc: Global,
+    lead: u32,
+    keep_short: bool,
+    capture: &str,
+    shelf: &mut F,
+    out: &mut K,
+) -> Status
+    ensures sums_up { Summarizes lead keep_short (record {
+      held = F.held shelf.old capture.now;
+      reads = F.faults shelf.old capture.now;
+      reads_after = F.faults shelf.new capture.now;
+      puts = K.faults out.old;
+      puts_after = K.faults out.new;
+      content = K.content out.old;
+      content_after = K.content out.new;
+    }) result }
+    ensures silent { IsSilent result → K.content out.new ≡ K.content out.old }
+    ensures command { result ≢ Usage }
+{
+    match rm_summary::summary(alloc, lead, keep_short, capture, shelf, out) {
+        Ok(()) => Status::Done,
+        Err(SummaryFault::Capture(fault)) => Status::from(fault),
+        Err(SummaryFault::Put) => Status::WriteFault,
+    }
 }
 
 // Runs `decode` with its operand.
