@@ -1,4 +1,4 @@
-//! An example of a program that calls the probe: it replays the capture of an office.
+//! An example of a program that calls the probe: it sums up the capture of an office, and replays it.
 #![tactic(auto)]
 
 ghost use Rattle.std.specs.Prelude.{◌≡◌, [], ◌∷◌, codes, IfOk};
@@ -9,18 +9,28 @@ use rm_val::NoMemory;
 use std::alloc::Global;
 use std::process::ExitCode;
 
-fn office_words(alloc: Global) -> Result<Words, NoMemory>
-    ensures { IfOk result (λ words. words ≡ codes "replay" ∷ codes "office.pcap" ∷ codes "office.requests" ∷ []) }
+fn summary_words(alloc: Global) -> Result<Words, NoMemory>
+    ensures { IfOk result (λ words. words ≡ codes "summary" ∷ codes "office.pcap" ∷ []) }
+{
+    let mut words = Words::new(alloc);
+    words.add("summary")?;
+    words.add("office.pcap")?;
+    Ok(words)
+}
+
+fn replay_words(alloc: Global) -> Result<Words, NoMemory>
+    ensures { IfOk result (λ words. words ≡ codes "replay" ∷ codes "--lead=1000" ∷ codes "office.pcap" ∷ codes "office.requests" ∷ []) }
 {
     let mut words = Words::new(alloc);
     words.add("replay")?;
+    words.add("--lead=1000")?;
     words.add("office.pcap")?;
     words.add("office.requests")?;
     Ok(words)
 }
 
 // Files are read in the folder that the program runs in. No command of these words uses the link or the clock.
-fn run_office(rt: HostRuntime, words: &Words) -> Status {
+fn run_words(rt: HostRuntime, words: &Words) -> Status {
     let alloc = rt.alloc();
     let mut shelf = FileShelf::new(rt);
     let mut out = StdSink::new(rt);
@@ -29,9 +39,17 @@ fn run_office(rt: HostRuntime, words: &Words) -> Status {
     run(alloc, words, &mut shelf, &mut out, &mut link, &mut clock)
 }
 
+// Sums up the capture, and then replays it.
+fn run_office(rt: HostRuntime) -> Result<Status, NoMemory> {
+    match run_words(rt, &summary_words(rt.alloc())?) {
+        Status::Done => Ok(run_words(rt, &replay_words(rt.alloc())?)),
+        status => Ok(status),
+    }
+}
+
 fn main(rt: HostRuntime) -> ExitCode {
-    let status = match office_words(rt.alloc()) {
-        Ok(words) => run_office(rt, &words),
+    let status = match run_office(rt) {
+        Ok(status) => status,
         Err(NoMemory) => Status::NoMemory,
     };
     ExitCode::from(status.number())

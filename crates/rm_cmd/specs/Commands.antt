@@ -1,19 +1,28 @@
 -- What commands ask for.
-use Rattle.std.specs.Prelude.{◌≡◌, ◌⊎◌, ℕ, List, Option, Ok, false}
+use Rattle.std.specs.Prelude.{◌≡◌, ◌⊎◌, ℕ, Bool, List, Option, Result, Ok, Err, false}
 use Rattle.hex.specs.Hex.{decode_of}
 use Rattle.rm_edge.specs.Outside.{Adds, AddsFront, Rose}
 use Rattle.rm_pdu.specs.Parse.{Parse, IsParse}
 use Rattle.rm_decode.specs.Text.{text_of}
 use Rattle.rm_agent.specs.declared.settings.Settings.{Settings}
-use Rattle.rm_probe.specs.Uses.{FileUse, SinkUse}
+use Rattle.rm_probe.specs.Capture.{status_of}
 use Rattle.rm_probe.specs.Ends.{Ends}
+use Rattle.rm_probe.specs.Uses.{FileUse, SinkUse}
 use Rattle.rm_probe.specs.declared.status.Status.{Status}
 use Rattle.rm_probe.specs.declared.status.Status.TheVariants.{Done, WriteFault, NoMemory}
-use Rattle.rm_words.specs.Grammar.{Options, Command, replay, decode, StandFor}
+use Rattle.rm_summary.specs.Ends.{Outside}
+use Rattle.rm_summary.specs.Ends.{Ends as Sums, IsExact as SumsExactly}
+use Rattle.rm_summary.specs.declared.entry.SummaryFault.{SummaryFault}
+use Rattle.rm_summary.specs.declared.entry.SummaryFault.TheVariants.{Capture, Put}
+use Rattle.rm_words.specs.Grammar.{Options, Command, replay, summary, decode, StandFor}
 
 -- the words stand for `replay`, and this is a fact of its operands and options
 abbrev pub OfReplay : List (List ℕ) → (List ℕ → List ℕ → Options → Type 0) → Type 0
 OfReplay words P = (capture requests : List ℕ) (options : Options) → StandFor words (replay capture requests options) → P capture requests options
+
+-- the words stand for `summary`, and this is a fact of its operand, and of the moment of the first frame and whether short frames are kept
+abbrev pub OfSummary : List (List ℕ) → (List ℕ → ℕ → Bool → Type 0) → Type 0
+OfSummary words P = (capture : List ℕ) (lead : ℕ) (keep_short : Bool) → StandFor words (summary capture lead keep_short) → P capture lead keep_short
 
 -- the words stand for `decode`, and this is a fact of the octets that its digits are
 abbrev pub OfDecode : List (List ℕ) → (List ℕ → Type 0) → Type 0
@@ -22,6 +31,7 @@ OfDecode words P = (hex : List ℕ) → StandFor words (decode hex) → (octets 
 -- the command reads the file of that name
 abbrev pub Reads : Command → List ℕ → Type 0
 Reads (replay capture requests options) name = (name ≡ capture) ⊎ (name ≡ requests)
+Reads (summary capture lead keep_short) name = name ≡ capture
 Reads (decode hex) name = ⊥
 
 -- the words stand for a command that reads it
@@ -42,6 +52,31 @@ pub record EndsWith (options : Options) (capture requests : FileUse) (out : Sink
   pub settings : Settings
   pub set : AreSet settings options
   pub ends : Ends settings options.lead capture requests out result
+
+-- how a run ends by the answer of a summary
+abbrev pub status_by : {T : Type 0} → Result T SummaryFault → Status
+status_by (Ok done) = Done
+status_by (Err (Capture fault)) = status_of fault
+status_by (Err Put) = WriteFault
+
+-- what a summary finds and does, by the use of its capture and of the sink
+abbrev pub outside_of : FileUse → SinkUse → Outside
+outside_of capture out = record {
+  held = capture.held;
+  reads = capture.faults;
+  reads_after = capture.faults_after;
+  puts = out.faults;
+  puts_after = out.faults_after;
+  content = out.content;
+  content_after = out.content_after;
+}
+
+-- How `summary` ends: by the answer of the summary of that capture, which is exact.
+pub record Summarizes (lead : ℕ) (keep_short : Bool) (capture : FileUse) (out : SinkUse) (result : Status) : Type 0 where
+  pub answer : Result (Unit {0}) SummaryFault
+  pub result_is : result ≡ status_by answer
+  pub sums : Sums lead keep_short (outside_of capture out) answer
+  pub exact : SumsExactly lead keep_short (outside_of capture out) answer
 
 -- How `decode` ends: with the text of what the octets are, or with a front of it where a put failed. The counts are those of failed
 -- puts.

@@ -8,20 +8,21 @@ ghost use Rattle.rm_words.specs.Told.{options_of};
 ghost use Rattle.rm_probe.specs.Uses.{file_use, sink_use};
 ghost use Rattle.rm_probe.specs.Ends.{IsComplete, IsExact, IsSilent};
 ghost use Rattle.rm_probe.specs.declared.status.Status.TheVariants.{Done, NoMemory, ReadFault, Usage};
-ghost use Rattle.rm_cmd.specs.Commands.{AreSet, Decodes, EndsWith, IsFileOf, OfDecode, OfReplay};
+ghost use Rattle.rm_cmd.specs.Commands.{AreSet, Decodes, EndsWith, IsFileOf, OfDecode, OfReplay, OfSummary, Summarizes};
 
 use rm_agent::Settings;
 use rm_decode::Unwritten;
 use rm_edge::{Clock, Link, Shelf, Sink, Words};
 use rm_probe::Status;
+use rm_summary::SummaryFault;
 use rm_words::{Command, RunOptions, one_command, read_command};
 use std::alloc::Global;
 
 /// Runs the words of a command line.
 ///
 /// `replay CAPTURE REQUESTS` with its options writes one line for each datagram of the request file and one for each notification,
-/// and a last line. `decode HEX` writes what the octets are that the digits stand for, read as a message. Words that stand for no
-/// command are `Usage`.
+/// and a last line. `summary CAPTURE` with its options writes how many frames of each kind a capture has. `decode HEX` writes what the
+/// octets are that the digits stand for, read as a message. Words that stand for no command are `Usage`.
 ///
 /// Of `replay` the capture is judged first, a record at a time, and then the request file, a line at a time. Only then is anything
 /// written, and both are read again meanwhile. After `WriteFault` and `ReadFault` a front of the text may have been
@@ -46,6 +47,10 @@ pub fn run<F: Shelf, K: Sink, L: Link, T: Clock>(
     ensures complete { OfReplay words.now (λ capture requests options.
         IsComplete options.lead (file_use F.held F.faults shelf.old shelf.new capture) (file_use F.held F.faults shelf.old shelf.new requests)
         (sink_use K.content K.faults out.old out.new) result) }
+
+    // Of `summary` too: the octets added are exactly the summary of the capture, which is read once.
+    ensures sums_up { OfSummary words.now (λ capture lead keep_short.
+        Summarizes lead keep_short (file_use F.held F.faults shelf.old shelf.new capture) (sink_use K.content K.faults out.old out.new) result) }
 
     // Of `decode` too: the octets added are exactly the text of those that its digits are.
     ensures decodes { OfDecode words.now (λ octets. Decodes octets (K.faults out.old) (K.faults out.new) (K.content out.old) (K.content out.new) result) }
@@ -73,6 +78,13 @@ pub fn run<F: Shelf, K: Sink, L: Link, T: Clock>(
                 options,
             },
         ) => run_replay(alloc, capture, requests, options, shelf, out),
+        Some(
+            Command::Summary {
+                capture,
+                lead,
+                keep_short,
+            },
+        ) => run_summary(alloc, lead, keep_short, capture, shelf, out),
         Some(Command::Decode { hex: digits }) => run_decode(alloc, digits, out),
     }
 }
@@ -99,6 +111,28 @@ fn run_replay<F: Shelf, K: Sink>(
     let lead = options.lead;
     let settings = settings_of(options);
     rm_probe::replay(alloc, settings, lead, capture, requests, shelf, out)
+}
+
+// Runs `summary` with its operand and options.
+fn run_summary<F: Shelf, K: Sink>(
+    alloc: Global,
+    lead: u32,
+    keep_short: bool,
+    capture: &str,
+    shelf: &mut F,
+    out: &mut K,
+) -> Status
+    ensures sums_up { Summarizes lead keep_short (file_use F.held F.faults shelf.old shelf.new capture.now) (sink_use K.content K.faults out.old out.new) result }
+    ensures silent { IsSilent result → K.content out.new ≡ K.content out.old }
+    ensures shelf { KeepsShelf F.held F.faults shelf.old shelf.new (λ each. each ≡ capture.now) (result ≡ ReadFault) }
+    ensures later { K.faults out.old ≤ K.faults out.new }
+    ensures command { result ≢ Usage }
+{
+    match rm_summary::summary(alloc, lead, keep_short, capture, shelf, out) {
+        Ok(()) => Status::Done,
+        Err(SummaryFault::Capture(fault)) => Status::from(fault),
+        Err(SummaryFault::Put) => Status::WriteFault,
+    }
 }
 
 // Runs `decode` with its operand.

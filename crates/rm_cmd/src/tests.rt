@@ -21,6 +21,11 @@ fn words_are_run(rt: HostRuntime) -> Result<(), Fail> {
             "500 1 drop malformed 0\nend 0 1\n",
         ),
         ("replay c", Status::Usage, ""),
+        (
+            "summary c",
+            Status::Done,
+            "frames 0\noctets 0\ngood 0\nundersize 0\noversize 0\nbroadcast 0\nmulticast 0\nip 0\nfirst 0\nlast 0\nend 0\n",
+        ),
         ("decode 3024", Status::Done, "drop malformed 0\n"),
     ] {
         let mut words = Words::new(alloc);
@@ -28,7 +33,7 @@ fn words_are_run(rt: HostRuntime) -> Result<(), Fail> {
             words.add(word)?;
         }
         let mut out = MemSink::new(alloc);
-        out.reserve(100)?;
+        out.reserve(200)?;
         let mut link = MemLink::new(alloc);
         let mut clock = ListClock::new(alloc);
         let ended = run(alloc, &words, &mut shelf, &mut out, &mut link, &mut clock);

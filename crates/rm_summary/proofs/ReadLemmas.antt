@@ -1,5 +1,5 @@
 -- The frames of a capture that were counted so far.
-use Rattle.std.proofs.Common.{◌≡◌, ◌≤◌, ℕ, ◌+◌, Bool, List, [], ◌∷◌, ◌++◌, Some, Result, Ok, Err, inl, inr, refl, sym, ap, subst, ◌∙◌, append_assoc}
+use Rattle.std.proofs.Common.{◌≡◌, ℕ, ◌+◌, Bool, List, [], ◌∷◌, ◌++◌, Some, Result, Ok, Err, inl, inr, refl, sym, ap, subst, ◌∙◌, append_assoc}
 use Rattle.std.proofs.lemmas.List.{append-nil}
 use Rattle.rm_edge.specs.Outside.{Held, Untold, Absent, File, OfFile, Rose}
 use Rattle.rm_model.specs.Journal.{Frame}
@@ -33,7 +33,7 @@ pub record Counting (lead : ℕ) (keep_short : Bool) (bytes : List ℕ) (progres
 -- a capture whose frames are counted
 pub record CountedSoFar {F : Type 0} (held : F → List ℕ → Held) (faults : F → List ℕ → ℕ) (first now : F) (name : List ℕ) (lead : ℕ) (keep_short : Bool) (progress : Progress) (counts : Counts) : Type 0 where
   pub same : (each : List ℕ) → held now each ≡ held first each
-  pub later : (each : List ℕ) → faults first each ≤ faults now each
+  pub quiet : (each : List ℕ) → faults now each ≡ faults first each
   pub few : counts.frames ≡ progress.reach.count
   pub counting : OfFile (held first name) (λ bytes. Counting lead keep_short bytes progress counts)
 

@@ -1,5 +1,7 @@
 // The one public call.
-ghost use Rattle.std.specs.Prelude.{◌≡◌, ◌≤◌, ℕ, List};
+ghost use Rattle.std.specs.Prelude.{◌≡◌, ◌≤◌, Err};
+ghost use Rattle.rm_edge.specs.Shelves.{KeepsShelf};
+ghost use Rattle.rm_pcap.specs.declared.fault.PcapFault.TheVariants.{Read};
 ghost use Rattle.rm_summary.specs.Ends.{Ends, IsExact};
 
 use crate::reading::read;
@@ -53,8 +55,7 @@ pub fn summary<F: Shelf, K: Sink>(
       content = K.content out.old;
       content_after = K.content out.new;
     }) result }
-    ensures constant { (each : List ℕ) → F.held shelf.new each ≡ F.held shelf.old each }
-    ensures reads_later { (each : List ℕ) → F.faults shelf.old each ≤ F.faults shelf.new each }
+    ensures shelf { KeepsShelf F.held F.faults shelf.old shelf.new (λ each. each ≡ capture.now) (result ≡ Err (SummaryFault.Capture Read)) }
     ensures puts_later { K.faults out.old ≤ K.faults out.new }
 {
     one_reading();

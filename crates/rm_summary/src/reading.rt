@@ -1,6 +1,8 @@
 // The frames of a capture, which are counted before anything is written.
-ghost use Rattle.std.specs.Prelude.{◌≡◌, ◌≤◌, ℕ, List, IfOk, IfErr, length};
+ghost use Rattle.std.specs.Prelude.{◌≡◌, ◌≤◌, Err, IfOk, IfErr, length};
 ghost use Rattle.rm_edge.specs.Outside.{OfFile};
+ghost use Rattle.rm_edge.specs.Shelves.{KeepsShelf};
+ghost use Rattle.rm_pcap.specs.declared.fault.PcapFault.TheVariants.{Read};
 ghost use Rattle.rm_summary.specs.Counted.{IsOf, ending_word};
 ghost use Rattle.rm_summary.specs.Ends.{IsFault};
 
@@ -46,8 +48,7 @@ pub fn read<F: Shelf>(
     name: &str,
     shelf: &mut F,
 ) -> Result<Summary, PcapFault>
-    ensures constant { (each : List ℕ) → F.held shelf.new each ≡ F.held shelf.old each }
-    ensures later { (each : List ℕ) → F.faults shelf.old each ≤ F.faults shelf.new each }
+    ensures shelf { KeepsShelf F.held F.faults shelf.old shelf.new (λ each. each ≡ name.now) (result ≡ Err Read) }
     ensures counted { IfOk result (λ summary. OfFile (F.held shelf.old name.now) (λ bytes. IsOf lead keep_short bytes summary)) }
     ensures fault { IfErr result (IsFault lead (F.held shelf.old name.now) (F.faults shelf.old name.now) (F.faults shelf.new name.now)) }
 {

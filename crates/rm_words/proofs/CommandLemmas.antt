@@ -1,17 +1,16 @@
 -- The command that words stand for.
 use Rattle.std.proofs.Common.{◌≡◌, ℕ, List, [], ◌∷◌, drop, Option, Some, None, Bool, true, false, MatchOption, refl, sym, ap, subst, ◌∙◌}
-use Rattle.std.specs.Prelude.{slice_get, if◌then◌else◌}
+use Rattle.std.specs.Prelude.{slice_get}
 use Rattle.std.specs.Option.{is_some}
-use Rattle.std.specs.Str.{bytes_eq}
-use Rattle.std.proofs.lemmas.Slice.Eq.{bytes_eq-Decides}
-use Rattle.rm_words.specs.Names.{word_of, command_named}
-use Rattle.rm_words.specs.Grammar.{Piece, Spells, Options, AreOptions, AreOfReplay, Command, replay, decode, StandFor, for_replay, for_decode}
+use Rattle.rm_words.specs.Names.{commands, word_of, command_named}
+use Rattle.rm_words.specs.Grammar.{Piece, Spells, Options, AreOptions, AreOfReplay, AreOfSummary, Command, replay, summary, decode, StandFor, for_replay, for_summary, for_decode}
 use Rattle.rm_words.specs.Parts.{are_whole, pieces_from}
 use Rattle.rm_words.specs.Told.{AreOf, IsRead, command_of}
 use Rattle.rm_words.specs.declared.names.CommandName.{CommandName}
-use Rattle.rm_words.specs.declared.names.CommandName.TheVariants.{Replay, Decode}
+use Rattle.rm_words.specs.declared.names.CommandName.TheVariants.{Replay, Summary, Decode}
 use Rattle.rm_words.specs.declared.command.Command as code
 use Rattle.rm_words.specs.declared.parts.Expected.TheVariants.{Any}
+use Rattle.rm_words.proofs.PartLemmas.{found}
 use Rattle.rm_words.proofs.SpellLemmas.{spelled_read, whole_spelled}
 
 -- three operands, of which there are two
@@ -57,15 +56,21 @@ with_word name word words pieces command is spells are = record {
 
 is_of : (all : List (List ℕ)) (command : Command) → StandFor all command → IsOf all command
 is_of all command (for_replay word words pieces capture requests options is spells are) = with_word Replay word words pieces command is spells are
+is_of all command (for_summary word words pieces capture lead keep_short is spells are) = with_word Summary word words pieces command is spells are
 is_of all command (for_decode word words pieces hex is spells are) = with_word Decode word words pieces command is spells are
 
 -- words that stand for what stands behind the word of a command
 stand : (name : CommandName) (word : List ℕ) (words : List (List ℕ)) (pieces : List Piece) (command : Command) → word ≡ word_of name → Spells name words pieces → AreOf name pieces command
     → StandFor (word ∷ words) command
 stand Replay word words pieces (replay capture requests options) is spells are = for_replay word words pieces capture requests options is spells are
+stand Summary word words pieces (summary capture lead keep_short) is spells are = for_summary word words pieces capture lead keep_short is spells are
 stand Decode word words pieces (decode hex) is spells are = for_decode word words pieces hex is spells are
+stand Replay word words pieces (summary capture lead keep_short) is spells are = absurd are
 stand Replay word words pieces (decode hex) is spells are = absurd are
+stand Summary word words pieces (replay capture requests options) is spells are = absurd are
+stand Summary word words pieces (decode hex) is spells are = absurd are
 stand Decode word words pieces (replay capture requests options) is spells are = absurd are
+stand Decode word words pieces (summary capture lead keep_short) is spells are = absurd are
 
 behind : (all : List (List ℕ)) (word : List ℕ) (words : List (List ℕ)) → all ≡ word ∷ words → words ≡ drop 1 all
 behind all word words is = sym (ap (drop 1) is)
@@ -78,6 +83,7 @@ in_front all word first words is at =
 word_found : (name : CommandName) → command_named (word_of name) ≡ Some name
 unfolding command_named
 word_found Replay = refl
+word_found Summary = refl
 word_found Decode = refl
 
 -- no command has that word
@@ -96,13 +102,7 @@ one_name all first name command of at named =
 -- the word of a command that was found
 pub name_found : (first : List ℕ) (name : CommandName) → command_named first ≡ Some name → first ≡ word_of name
 unfolding command_named
-name_found first name is = by_same (bytes_eq (word_of Replay) first) (bytes_eq (word_of Decode) first) refl refl is
-  where
-    by_same : (replays decodes : Bool) → bytes_eq (word_of Replay) first ≡ replays → bytes_eq (word_of Decode) first ≡ decodes
-        → (if replays then Some Replay else if decodes then Some Decode else None) ≡ Some name → first ≡ word_of name
-    by_same true decodes e f is = sym ((bytes_eq-Decides (word_of Replay) first).0 e) ∙ ap word_of (in_some Replay name is)
-    by_same false true e f is = sym ((bytes_eq-Decides (word_of Decode) first).0 f) ∙ ap word_of (in_some Decode name is)
-    by_same false false e f is = absurd cc
+name_found first name is = found word_of first commands name is
 
 -- words that aren't whole
 pub not_whole : (name : CommandName) (all : List (List ℕ)) (first : List ℕ) → slice_get all 0 ≡ Some first → command_named first ≡ Some name
@@ -168,16 +168,32 @@ same_replay pieces capture requests capture' requests' options options' a b =
     let second : requests ≡ requests' = cc in
     cc
 
+same_operand : (text text' : List ℕ) → ◌≡◌ {A = List (List ℕ)} (text ∷ []) (text' ∷ []) → text ≡ text'
+same_operand text text' same = cc
+
+same_summary : (pieces : List Piece) (capture capture' : List ℕ) (lead lead' : ℕ) (keep_short keep_short' : Bool) → AreOfSummary pieces capture lead keep_short → AreOfSummary pieces capture' lead' keep_short'
+    → summary capture lead keep_short ≡ summary capture' lead' keep_short'
+same_summary pieces capture capture' lead lead' keep_short keep_short' a b =
+    ap (λ (c : List ℕ). summary c lead keep_short) (same_operand capture capture' (sym a.operand_is ∙ b.operand_is))
+    ∙ ap (λ (l : ℕ). summary capture' l keep_short) (same_setting _ _ _ a.lead_is b.lead_is)
+    ∙ ap (λ (k : Bool). summary capture' lead' k) (same_setting _ _ _ a.keep_short_is b.keep_short_is)
+
 same_are : (name : CommandName) (pieces : List Piece) (one other : Command) → AreOf name pieces one → AreOf name pieces other → one ≡ other
 same_are Replay pieces (replay capture requests options) (replay capture' requests' options') a b = same_replay pieces capture requests capture' requests' options options' a b
-same_are Decode pieces (decode hex) (decode hex') a b =
-    let texts : ◌≡◌ {A = List (List ℕ)} (hex ∷ []) (hex' ∷ []) = sym a.operand_is ∙ b.operand_is in
-    let same : hex ≡ hex' = cc in
-    ap decode same
+same_are Summary pieces (summary capture lead keep_short) (summary capture' lead' keep_short') a b = same_summary pieces capture capture' lead lead' keep_short keep_short' a b
+same_are Decode pieces (decode hex) (decode hex') a b = ap decode (same_operand hex hex' (sym a.operand_is ∙ b.operand_is))
+same_are Replay pieces (replay capture requests options) (summary capture' lead keep_short) a b = absurd b
 same_are Replay pieces (replay capture requests options) (decode hex) a b = absurd b
+same_are Replay pieces (summary capture lead keep_short) other a b = absurd a
 same_are Replay pieces (decode hex) other a b = absurd a
+same_are Summary pieces (summary capture lead keep_short) (replay capture' requests options) a b = absurd b
+same_are Summary pieces (summary capture lead keep_short) (decode hex) a b = absurd b
+same_are Summary pieces (replay capture requests options) other a b = absurd a
+same_are Summary pieces (decode hex) other a b = absurd a
 same_are Decode pieces (decode hex) (replay capture requests options) a b = absurd b
+same_are Decode pieces (decode hex) (summary capture lead keep_short) a b = absurd b
 same_are Decode pieces (replay capture requests options) other a b = absurd a
+same_are Decode pieces (summary capture lead keep_short) other a b = absurd a
 
 pub one_stands : (all : List (List ℕ)) (one other : Command) → StandFor all one → StandFor all other → one ≡ other
 one_stands all one other a b =

@@ -1,5 +1,5 @@
 -- What a word is, by its octets.
-use Rattle.std.proofs.Common.{◌≡◌, ℕ, suc, ◌+◌, ◌<◌, List, [], ◌∷◌, ◌++◌, length, take, drop, Option, Some, None, Bool, true, false, refl, sym, ap, subst, ◌∙◌, arith, position, get_or, length-append}
+use Rattle.std.proofs.Common.{◌≡◌, ℕ, suc, ◌+◌, ◌<◌, List, [], ◌∷◌, ◌++◌, length, take, drop, Option, Some, None, Bool, true, false, refl, sym, ap, ◌∙◌, arith, position, get_or, length-append}
 use Rattle.std.specs.Prelude.{◌==◌, find, if◌then◌else◌, codes}
 use Rattle.std.specs.List.{position_or_len}
 use Rattle.std.specs.Str.{bytes_eq}
@@ -26,18 +26,19 @@ named KeepShort = refl
 named Read = refl
 named Write = refl
 
-found : (name : List ℕ) (some : List OptionName) (option : OptionName) → find (λ o. bytes_eq (name_of o) name) some ≡ Some option → bytes_eq (name_of option) name ≡ true
-found name [] option is = absurd cc
-found name (o ∷ more) option is = by_same (bytes_eq (name_of o) name) refl (found name more option) is
+-- what is found by a text has that text
+pub found : {X : Type 0} (of : X → List ℕ) (text : List ℕ) (some : List X) (one : X) → find (λ x. bytes_eq (of x) text) some ≡ Some one → text ≡ of one
+found of text [] one is = absurd cc
+found {X} of text (x ∷ more) one is = by_same (bytes_eq (of x) text) refl (found of text more one) is
   where
-    by_same : (same : Bool) → bytes_eq (name_of o) name ≡ same → (find (λ o. bytes_eq (name_of o) name) more ≡ Some option → bytes_eq (name_of option) name ≡ true)
-        → (if same then Some o else find (λ o. bytes_eq (name_of o) name) more) ≡ Some option → bytes_eq (name_of option) name ≡ true
-    by_same true e later is = let here : o ≡ option = cc in subst (λ (o : OptionName). bytes_eq (name_of o) name ≡ true) here e
+    by_same : (same : Bool) → bytes_eq (of x) text ≡ same → (find (λ x. bytes_eq (of x) text) more ≡ Some one → text ≡ of one)
+        → (if same then Some x else find (λ x. bytes_eq (of x) text) more) ≡ Some one → text ≡ of one
+    by_same true e later is = let here : x ≡ one = cc in sym ((bytes_eq-Decides (of x) text).0 e) ∙ ap of here
     by_same false e later is = later is
 
 pub name_is : (name : List ℕ) (option : OptionName) → option_named name ≡ Some option → name ≡ name_of option
 unfolding option_named
-name_is name option is = sym ((bytes_eq-Decides (name_of option) name).0 (found name options option is))
+name_is name option is = found name_of name options option is
 
 -- no name has a mark
 pub no_mark : (option : OptionName) → position is_equals (name_of option) ≡ None

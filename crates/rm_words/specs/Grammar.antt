@@ -6,7 +6,7 @@ use Rattle.std.specs.List.{list_all, slice_index}
 use Rattle.std.specs.Char.{is_ascii_graphic, is_ascii_hexdigit}
 use Rattle.rm_words.specs.Names.{word_of, takes, name_of, takes_value}
 use Rattle.rm_words.specs.declared.names.CommandName.{CommandName}
-use Rattle.rm_words.specs.declared.names.CommandName.TheVariants.{Replay, Decode}
+use Rattle.rm_words.specs.declared.names.CommandName.TheVariants.{Replay, Summary, Decode}
 use Rattle.rm_words.specs.declared.names.OptionName.{OptionName}
 use Rattle.rm_words.specs.declared.names.OptionName.TheVariants.{Hosts, Pairs, Upper, Lead, KeepShort, Read, Write}
 
@@ -84,6 +84,14 @@ setting default read [] = Some default
 setting default read (value ∷ []) = read value
 setting default read (value ∷ second ∷ more) = None
 
+-- the moment of the first frame, in milliseconds
+abbrev pub lead_of : List Piece → Option ℕ
+lead_of pieces = setting 1000 (number_within 0 4294967295) (values_of Lead pieces)
+
+-- whether short frames are kept as they are
+abbrev pub keep_short_of : List Piece → Option Bool
+keep_short_of pieces = setting false is_given (values_of KeepShort pieces)
+
 -- what a run is set to
 pub record Options : Type 0 where
   pub hosts : ℕ
@@ -99,14 +107,15 @@ pub record AreOptions (pieces : List Piece) (options : Options) : Type 0 where
   pub hosts : setting 1024 (number_within 2 4096) (values_of Hosts pieces) ≡ Some options.hosts
   pub pairs : setting 1024 (number_within 2 4096) (values_of Pairs pieces) ≡ Some options.pairs
   pub upper : setting 1024 (number_within 2 1024) (values_of Upper pieces) ≡ Some options.upper
-  pub lead : setting 1000 (number_within 0 4294967295) (values_of Lead pieces) ≡ Some options.lead
-  pub keep_short : setting false is_given (values_of KeepShort pieces) ≡ Some options.keep_short
+  pub lead : lead_of pieces ≡ Some options.lead
+  pub keep_short : keep_short_of pieces ≡ Some options.keep_short
   pub read : setting (codes "public") community_of (values_of Read pieces) ≡ Some options.read
   pub write : setting (codes "private") community_of (values_of Write pieces) ≡ Some options.write
 
 -- a command with its operands and options
 pub data Command : Type 0 where
   replay : (capture requests : List ℕ) (options : Options) → Command
+  summary : (capture : List ℕ) (lead : ℕ) (keep_short : Bool) → Command
   decode : (hex : List ℕ) → Command
 
 -- the operands and options of `replay`: the capture and the request file
@@ -115,6 +124,13 @@ pub record AreOfReplay (pieces : List Piece) (capture requests : List ℕ) (opti
   pub capture_is : is_name capture ≡ true
   pub requests_are : is_name requests ≡ true
   pub options_are : AreOptions pieces options
+
+-- the operand and the options of `summary`: the capture
+pub record AreOfSummary (pieces : List Piece) (capture : List ℕ) (lead : ℕ) (keep_short : Bool) : Type 0 where
+  pub operand_is : operands pieces ≡ capture ∷ []
+  pub capture_is : is_name capture ≡ true
+  pub lead_is : lead_of pieces ≡ Some lead
+  pub keep_short_is : keep_short_of pieces ≡ Some keep_short
 
 -- the operand of `decode`: octets in hexadecimal digits
 pub record AreOfDecode (pieces : List Piece) (hex : List ℕ) : Type 0 where
@@ -126,6 +142,9 @@ pub data StandFor : List (List ℕ) → Command → Type 0 where
   for_replay : (word : List ℕ) (words : List (List ℕ)) (pieces : List Piece) (capture requests : List ℕ) (options : Options)
       → word ≡ word_of Replay → Spells Replay words pieces → AreOfReplay pieces capture requests options
       → StandFor (word ∷ words) (replay capture requests options)
+  for_summary : (word : List ℕ) (words : List (List ℕ)) (pieces : List Piece) (capture : List ℕ) (lead : ℕ) (keep_short : Bool)
+      → word ≡ word_of Summary → Spells Summary words pieces → AreOfSummary pieces capture lead keep_short
+      → StandFor (word ∷ words) (summary capture lead keep_short)
   for_decode : (word : List ℕ) (words : List (List ℕ)) (pieces : List Piece) (hex : List ℕ)
       → word ≡ word_of Decode → Spells Decode words pieces → AreOfDecode pieces hex
       → StandFor (word ∷ words) (decode hex)

@@ -2,18 +2,22 @@
 use Rattle.std.specs.Prelude.{ℕ, List, [], ◌∷◌, find, Bool, true, false, codes, Option}
 use Rattle.std.specs.Str.{bytes_eq}
 use Rattle.rm_words.specs.declared.names.CommandName.{CommandName}
-use Rattle.rm_words.specs.declared.names.CommandName.TheVariants.{Replay, Decode}
+use Rattle.rm_words.specs.declared.names.CommandName.TheVariants.{Replay, Summary, Decode}
 use Rattle.rm_words.specs.declared.names.OptionName.{OptionName}
 use Rattle.rm_words.specs.declared.names.OptionName.TheVariants.{Hosts, Pairs, Upper, Lead, KeepShort, Read, Write}
 
 -- the word of a command
 abbrev pub word_of : CommandName → List ℕ
 word_of Replay = codes "replay"
+word_of Summary = codes "summary"
 word_of Decode = codes "decode"
 
 -- the options of a command
 abbrev pub takes : CommandName → OptionName → Bool
 takes Replay option = true
+takes Summary Lead = true
+takes Summary KeepShort = true
+takes Summary option = false
 takes Decode option = false
 
 -- the name of an option
@@ -37,7 +41,7 @@ takes_value Read = true
 takes_value Write = true
 
 abbrev pub commands : List CommandName
-commands = Replay ∷ Decode ∷ []
+commands = Replay ∷ Summary ∷ Decode ∷ []
 
 -- the command of a word
 unfoldable pub command_named : List ℕ → Option CommandName

@@ -1,10 +1,10 @@
 // Commands with their operands and options.
 ghost use Rattle.std.specs.Prelude.{◌≡◌, ◌≤◌, length, drop, MatchOption};
-ghost use Rattle.rm_words.specs.Grammar.{AreOptions, Options, StandFor, is_name, operands};
+ghost use Rattle.rm_words.specs.Grammar.{AreOptions, Options, StandFor, is_name, lead_of, operands};
 ghost use Rattle.rm_words.specs.Grammar.{Command as Meant};
 ghost use Rattle.rm_words.specs.Parts.{pieces_from};
-ghost use Rattle.rm_words.specs.Told.{AreTwoNames, IsRead, command_of, options_of};
-ghost use Rattle.rm_words.specs.declared.names.CommandName.TheVariants.{Decode, Replay};
+ghost use Rattle.rm_words.specs.Told.{AreTwoNames, IsOneText, IsRead, command_of, options_of};
+ghost use Rattle.rm_words.specs.declared.names.CommandName.TheVariants.{Decode, Replay, Summary};
 ghost use Rattle.rm_words.specs.declared.parts.Expected.TheVariants.{Any};
 
 use crate::names::{CommandName, OptionName};
@@ -22,6 +22,13 @@ pub enum Command<'a> {
         requests: &'a str,
         options: RunOptions,
     },
+    /// Sums up a capture, whose first frame stands at the moment `lead` in milliseconds. A frame of fewer than 60 octets counts as
+    /// padded to 60, unless short ones are kept.
+    Summary {
+        capture: &'a str,
+        lead: u32,
+        keep_short: bool,
+    },
     /// Shows the message that octets are. They are in hexadecimal digits, two for each, at most 131,070.
     Decode {
         hex: &'a str,
@@ -33,8 +40,8 @@ pub enum Command<'a> {
 /// The first word is that of the command. Options and operands follow in any order, the operands in that of the command. An
 /// option stands once at most, as `--name value` or `--name=value`, and its name isn't shortened; `--keep-short` has no value.
 /// Behind a word `--` all words are operands. Before it, a word that begins with a dash and has more characters is an option.
-/// An operand isn't empty. Octets are an even number of hexadecimal digits, at most 131,070. A number is one to ten decimal digits within its range, and a community 1 to 64 characters from `!`
-/// to `~` that don't begin with a dash.
+/// An operand isn't empty. Octets are an even number of hexadecimal digits, at most 131,070. A number is one to ten decimal digits
+/// within its range, and a community 1 to 64 characters from `!` to `~` that don't begin with a dash.
 pub fn read_command(words: &Words) -> Option<Command<'_>>
     ensures { MatchOption result ((command : Meant) → StandFor words.now command → ⊥) (λ found. StandFor words.now (command_of found)) }
 {
@@ -49,6 +56,7 @@ pub fn read_command(words: &Words) -> Option<Command<'_>>
     }
     match name {
         CommandName::Replay => read_replay(words),
+        CommandName::Summary => read_summary(words),
         CommandName::Decode => read_decode(words),
     }
 }
@@ -67,16 +75,44 @@ fn read_replay(words: &Words) -> Option<Command<'_>>
     })
 }
 
+// The command `summary` of words that are whole.
+fn read_summary(words: &Words) -> Option<Command<'_>>
+    requires { 1 ≤ length words.now }
+    ensures { IsRead Summary (pieces_from Any (drop 1 words.now)) result }
+{
+    let capture = one_operand(words)?;
+    if !is_name(capture) {
+        return None;
+    }
+    Some(Command::Summary {
+        capture,
+        lead: lead_of(words)?,
+        keep_short: is_given(words, OptionName::KeepShort)?,
+    })
+}
+
 // The command `decode` of words that are whole.
 fn read_decode(words: &Words) -> Option<Command<'_>>
     requires { 1 ≤ length words.now }
     ensures { IsRead Decode (pieces_from Any (drop 1 words.now)) result }
 {
-    let hex = operand(words, 0)?;
-    if operand(words, 1).is_some() || !is_hex(hex.as_bytes()) {
+    let hex = one_operand(words)?;
+    if !is_hex(hex.as_bytes()) {
         return None;
     }
     Some(Command::Decode { hex })
+}
+
+// The operand, where there is one alone.
+fn one_operand(words: &Words) -> Option<&str>
+    requires { 1 ≤ length words.now }
+    ensures { IsOneText (operands (pieces_from Any (drop 1 words.now))) result }
+{
+    let text = operand(words, 0)?;
+    if operand(words, 1).is_some() {
+        return None;
+    }
+    Some(text)
 }
 
 // The operands, where they are two names of files.
@@ -98,6 +134,14 @@ fn is_name(text: &str) -> bool
     !text.is_empty()
 }
 
+// The moment of the first frame, in milliseconds.
+fn lead_of(words: &Words) -> Option<u32>
+    requires { 1 ≤ length words.now }
+    ensures { result ≡ lead_of (pieces_from Any (drop 1 words.now)) }
+{
+    number_of(words, OptionName::Lead, 0, u32::MAX, 1000)
+}
+
 // The options of a run.
 fn run_options(words: &Words) -> Option<RunOptions>
     requires { 1 ≤ length words.now }
@@ -108,7 +152,7 @@ fn run_options(words: &Words) -> Option<RunOptions>
         hosts: number_of(words, OptionName::Hosts, 2, 4096, 1024)?,
         pairs: number_of(words, OptionName::Pairs, 2, 4096, 1024)?,
         upper: number_of(words, OptionName::Upper, 2, 1024, 1024)?,
-        lead: number_of(words, OptionName::Lead, 0, u32::MAX, 1000)?,
+        lead: lead_of(words)?,
         keep_short: is_given(words, OptionName::KeepShort)?,
         read: community_of(words, OptionName::Read, b"public")?,
         write: community_of(words, OptionName::Write, b"private")?,

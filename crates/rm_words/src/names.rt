@@ -6,6 +6,7 @@ ghost use Rattle.rm_words.specs.Names.{word_of, name_of, command_named, option_n
 #[derive(Clone, Copy, Debug, PartialEq, Eq)]
 pub enum CommandName {
     Replay,
+    Summary,
     Decode,
 }
 
@@ -29,7 +30,11 @@ pub enum OptionName {
 }
 
 /// All commands.
-const COMMANDS: [CommandName; 2] = [CommandName::Replay, CommandName::Decode];
+const COMMANDS: [CommandName; 3] = [
+    CommandName::Replay,
+    CommandName::Summary,
+    CommandName::Decode,
+];
 
 /// All options.
 const OPTIONS: [OptionName; 7] = [
@@ -49,6 +54,7 @@ impl CommandName {
     {
         match self {
             CommandName::Replay => "replay",
+            CommandName::Summary => "summary",
             CommandName::Decode => "decode",
         }
     }
@@ -65,11 +71,12 @@ impl CommandName {
     }
 
     /// Whether the command has the option.
-    pub fn takes(self, _option: OptionName) -> bool
-        ensures { result ≡ takes self _option }
+    pub fn takes(self, option: OptionName) -> bool
+        ensures { result ≡ takes self option }
     {
         match self {
             CommandName::Replay => true,
+            CommandName::Summary => matches!(option, OptionName::Lead | OptionName::KeepShort),
             CommandName::Decode => false,
         }
     }

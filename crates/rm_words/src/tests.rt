@@ -34,6 +34,13 @@ fn told(alloc: Global, text: &str) -> Result<String, Fail> {
             str::from_utf8(&options.read)?,
             str::from_utf8(&options.write)?
         )?),
+        Some(
+            Command::Summary {
+                capture,
+                lead,
+                keep_short,
+            },
+        ) => Ok(format!(in alloc; "{capture} {lead} {keep_short}")?),
         Some(Command::Decode { hex }) => Ok(String::from_str(alloc, hex)?),
     }
 }
@@ -51,6 +58,9 @@ fn a_command_is_read(rt: HostRuntime) -> Result<(), Fail> {
             "--c - 1024 1024 2 5 false public a=b",
         ),
         ("replay c", "none"),
+        ("summary c", "c 1000 false"),
+        ("summary --keep-short c --lead=7", "c 7 true"),
+        ("summary c --hosts 2", "none"),
         ("decode 3024", "3024"),
         ("decode 303", "none"),
     ] {
