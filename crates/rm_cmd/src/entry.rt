@@ -24,11 +24,14 @@ use std::alloc::Global;
 /// and a last line. `summary CAPTURE` with its options writes how many frames of each kind a capture has. `decode HEX` writes what the
 /// octets are that the digits stand for, read as a message. Words that stand for no command are `Usage`.
 ///
-/// Of `replay` the capture is judged first, a record at a time, and then the request file, a line at a time. Only then is anything
-/// written, and both are read again meanwhile. After `WriteFault` and `ReadFault` a front of the text may have been
+/// `replay` judges the capture first, a record at a time, and then the request file, a line at a time. Only then is anything
+/// written, and both are read again meanwhile. After its `WriteFault` and `ReadFault` a front of the text may have been
 /// written. Over a shelf that tells what it holds, nothing was written after the others but `Done`. Over one that
 /// doesn't, the files may be other ones when they are read again, and `BadCapture`, `BadRequests` and `TooLong` may come
 /// after lines were written.
+///
+/// `summary` and `decode` write only once all is known. After their `WriteFault` a front of the text may have been written, and
+/// nothing after the others but `Done`.
 pub fn run<F: Shelf, K: Sink, L: Link, T: Clock>(
     alloc: Global,
     words: &Words,
@@ -39,7 +42,7 @@ pub fn run<F: Shelf, K: Sink, L: Link, T: Clock>(
 ) -> Status
     ensures usage { (result ≡ Usage) ↔ ((command : Meant) → StandFor words.now command → ⊥) }
 
-    // The whole truth of each status, `Done` among them: the octets added are exactly a text of both files.
+    // How `replay` ends, status by status. With `Done`, where octets are told, those added are exactly a text of both files.
     ensures ends { OfReplay words.now (λ capture requests options.
         EndsWith options (file_use F.held F.faults shelf.old shelf.new capture) (file_use F.held F.faults shelf.old shelf.new requests)
         (sink_use K.content K.faults out.old out.new) result) }
@@ -48,17 +51,17 @@ pub fn run<F: Shelf, K: Sink, L: Link, T: Clock>(
         IsComplete options.lead (file_use F.held F.faults shelf.old shelf.new capture) (file_use F.held F.faults shelf.old shelf.new requests)
         (sink_use K.content K.faults out.old out.new) result) }
 
-    // Of `summary` too: the octets added are exactly the summary of the capture, which is read once.
+    // `summary` too: those added are exactly the summary of the capture.
     ensures sums_up { OfSummary words.now (λ capture lead keep_short.
         Summarizes lead keep_short (file_use F.held F.faults shelf.old shelf.new capture) (sink_use K.content K.faults out.old out.new) result) }
 
-    // Of `decode` too: the octets added are exactly the text of those that its digits are.
+    // `decode` too: those added are exactly the text of the octets that its digits are.
     ensures decodes { OfDecode words.now (λ octets. Decodes octets (K.faults out.old) (K.faults out.new) (K.content out.old) (K.content out.new) result) }
     ensures decodes_whole { OfDecode words.now (λ octets. (Rose (K.faults out.old) (K.faults out.new) → ⊥) → (result ≡ Done) ⊎ (result ≡ NoMemory)) }
 
     ensures silent { IsSilent result → K.content out.new ≡ K.content out.old }
 
-    // The shelf keeps what it holds, and its counts but for failed reads of the command's files.
+    // The shelf keeps what it holds, and where a file is told, its counts but for failed reads of the command's files.
     ensures shelf { KeepsShelf F.held F.faults shelf.old shelf.new (IsFileOf words.now) (result ≡ ReadFault) }
     ensures later { K.faults out.old ≤ K.faults out.new }
 
