@@ -7,7 +7,7 @@ use Rattle.rm_decode.specs.Text.{text_of}
 use Rattle.rm_agent.specs.declared.settings.Settings.{Settings}
 use Rattle.rm_probe.specs.Capture.{status_of}
 use Rattle.rm_probe.specs.Ends.{Ends}
-use Rattle.rm_probe.specs.Uses.{FileUse, SinkUse}
+use Rattle.rm_edge.specs.Uses.{FileUse, SinkUse}
 use Rattle.rm_probe.specs.declared.status.Status.{Status}
 use Rattle.rm_probe.specs.declared.status.Status.TheVariants.{Done, WriteFault, NoMemory}
 use Rattle.rm_summary.specs.Ends.{Outside}

@@ -5,7 +5,7 @@ ghost use Rattle.rm_edge.specs.Outside.{Rose};
 ghost use Rattle.rm_edge.specs.Shelves.{KeepsShelf};
 ghost use Rattle.rm_words.specs.Grammar.{Command as Meant, StandFor, is_hex};
 ghost use Rattle.rm_words.specs.Told.{options_of};
-ghost use Rattle.rm_probe.specs.Uses.{file_use, sink_use};
+ghost use Rattle.rm_edge.specs.Uses.{file_use, sink_use};
 ghost use Rattle.rm_probe.specs.Ends.{IsComplete, IsExact, IsSilent};
 ghost use Rattle.rm_probe.specs.declared.status.Status.TheVariants.{Done, NoMemory, ReadFault, Usage};
 ghost use Rattle.rm_cmd.specs.Commands.{AreSet, Decodes, EndsWith, IsFileOf, OfDecode, OfReplay, OfSummary, Summarizes};

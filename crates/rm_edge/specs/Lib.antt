@@ -7,3 +7,4 @@ pub mod MemShelf
 pub mod MemSink
 pub mod MemLink
 pub mod ListClock
+pub mod Uses

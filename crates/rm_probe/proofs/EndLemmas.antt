@@ -17,7 +17,7 @@ use Rattle.rm_requests.specs.declared.fault.RequestsFault.TheVariants.{Line, Too
 use Rattle.rm_probe.specs.Text.{IsText}
 use Rattle.rm_probe.specs.Steps.{FindsAnother, IsNotCapture, IsNotLeft, IsNotRequests, JudgesCapture, Leaves, Writes}
 use Rattle.rm_probe.specs.Requests.{JudgesRequests, status_by}
-use Rattle.rm_probe.specs.Uses.{FileUse, SinkUse, HasReadFault, HasPutFault, IsUntouched}
+use Rattle.rm_edge.specs.Uses.{FileUse, SinkUse, HasReadFault, HasPutFault, IsUntouched}
 use Rattle.rm_probe.specs.Ends.{Ends, OfBoth, JudgesFiles, IsExact, IsComplete, IsSilent, Comes}
 use Rattle.rm_probe.specs.declared.status.Status.{Status}
 use Rattle.rm_probe.specs.declared.status.Status.TheVariants.{Done, Usage, BadCapture, BadRequests, ReadFault, WriteFault, NoMemory, LinkFault, TooLong}

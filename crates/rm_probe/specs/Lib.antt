@@ -7,5 +7,4 @@ pub mod Text
 pub mod Probe
 pub mod Steps
 pub mod Status
-pub mod Uses
 pub mod Ends

@@ -1,7 +1,7 @@
 // The top call.
 ghost use Rattle.std.specs.Prelude.{◌≡◌, ◌⊎◌, ◌≤◌};
 ghost use Rattle.rm_edge.specs.Shelves.{KeepsShelf};
-ghost use Rattle.rm_probe.specs.Uses.{file_use, sink_use};
+ghost use Rattle.rm_edge.specs.Uses.{file_use, sink_use};
 ghost use Rattle.rm_probe.specs.Ends.{Ends, IsComplete, IsExact, IsSilent};
 ghost use Rattle.rm_probe.specs.declared.status.Status.TheVariants.{ReadFault};
 

@@ -1,7 +1,7 @@
 // Both files, which are judged before anything is written.
 ghost use Rattle.std.specs.Prelude.{◌≡◌, ◌⊎◌, Err};
 ghost use Rattle.rm_edge.specs.Shelves.{KeepsShelf};
-ghost use Rattle.rm_probe.specs.Uses.{file_use};
+ghost use Rattle.rm_edge.specs.Uses.{file_use};
 ghost use Rattle.rm_probe.specs.Ends.{JudgesFiles};
 ghost use Rattle.rm_probe.specs.declared.status.Status.TheVariants.{ReadFault};
 

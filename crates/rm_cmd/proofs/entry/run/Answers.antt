@@ -4,7 +4,7 @@ use Rattle.rm_edge.proofs.Keeping.{keeps_all, keeps_more}
 use Rattle.rm_words.specs.Grammar.{StandFor}
 use Rattle.rm_words.specs.Told.{command_of, options_of}
 use Rattle.rm_words.specs.declared.command.Command.{Command}
-use Rattle.rm_probe.specs.Uses.{file_use, sink_use}
+use Rattle.rm_edge.specs.Uses.{file_use, sink_use}
 use Rattle.rm_probe.specs.Ends.{IsExact, IsComplete}
 use Rattle.rm_probe.specs.declared.status.Status.TheVariants.{Done, NoMemory, ReadFault}
 use Rattle.rm_cmd.specs.Commands.{EndsWith, Summarizes, Decodes, IsFileOf}

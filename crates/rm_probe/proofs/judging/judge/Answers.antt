@@ -1,5 +1,5 @@
 use Rattle.std.proofs.Common.{◌≡◌, Err, inl, inr, ap}
-use Rattle.rm_probe.specs.Uses.{file_use}
+use Rattle.rm_edge.specs.Uses.{file_use}
 use Rattle.rm_probe.proofs.EndLemmas.{first_refused}
 use Rattle.rm_edge.proofs.Keeping.{keeps_more, keeps_then}
 use Rattle.rm_probe.specs.declared.status.Status.TheVariants.{ReadFault}

@@ -1,6 +1,7 @@
--- What a run finds of a file and of a sink, and what it does to their counts of faults.
+-- What a call finds of the outside, and what it leaves: of a file, of a sink, of a socket and of a clock.
 use Rattle.std.specs.Prelude.{◌≡◌, ℕ, List, Option}
 use Rattle.rm_edge.specs.Outside.{Held, Rose}
+use Rattle.rm_edge.specs.Link.{Datagram}
 
 -- a file: what is held under its name, and how often reads of it have failed, before and after
 pub record FileUse : Type 0 where
@@ -34,3 +35,23 @@ HasPutFault out = Rose out.faults out.faults_after
 -- nothing was put
 abbrev pub IsUntouched : SinkUse → Type 0
 IsUntouched out = out.content_after ≡ out.content
+
+-- a socket: the ports bound, the datagrams received and sent, and how often calls have failed, before and after
+pub record LinkUse : Type 0 where
+  pub bound : Option (List ℕ)
+  pub received : Option (List Datagram)
+  pub sent : Option (List Datagram)
+  pub faults : ℕ
+  pub bound_after : Option (List ℕ)
+  pub received_after : Option (List Datagram)
+  pub sent_after : Option (List Datagram)
+  pub faults_after : ℕ
+
+-- a clock: the moments told, before and after
+pub record ClockUse : Type 0 where
+  pub told : Option (List ℕ)
+  pub told_after : Option (List ℕ)
+
+-- a call on the socket failed
+abbrev pub HasLinkFault : LinkUse → Type 0
+HasLinkFault link = Rose link.faults link.faults_after
