@@ -10,7 +10,6 @@ use Rattle.rm_probe.specs.Ends.{Ends}
 use Rattle.rm_edge.specs.Uses.{FileUse, SinkUse}
 use Rattle.rm_probe.specs.declared.status.Status.{Status}
 use Rattle.rm_probe.specs.declared.status.Status.TheVariants.{Done, WriteFault, NoMemory}
-use Rattle.rm_summary.specs.Ends.{Outside}
 use Rattle.rm_summary.specs.Ends.{Ends as Sums, IsExact as SumsExactly}
 use Rattle.rm_summary.specs.declared.entry.SummaryFault.{SummaryFault}
 use Rattle.rm_summary.specs.declared.entry.SummaryFault.TheVariants.{Capture, Put}
@@ -59,24 +58,12 @@ status_by (Ok done) = Done
 status_by (Err (Capture fault)) = status_of fault
 status_by (Err Put) = WriteFault
 
--- what a summary finds and does, by the use of its capture and of the sink
-abbrev pub outside_of : FileUse → SinkUse → Outside
-outside_of capture out = record {
-  held = capture.held;
-  reads = capture.faults;
-  reads_after = capture.faults_after;
-  puts = out.faults;
-  puts_after = out.faults_after;
-  content = out.content;
-  content_after = out.content_after;
-}
-
 -- How `summary` ends: by the answer of the summary of that capture, which is exact.
 pub record Summarizes (lead : ℕ) (keep_short : Bool) (capture : FileUse) (out : SinkUse) (result : Status) : Type 0 where
   pub answer : Result (Unit {0}) SummaryFault
   pub result_is : result ≡ status_by answer
-  pub sums : Sums lead keep_short (outside_of capture out) answer
-  pub exact : SumsExactly lead keep_short (outside_of capture out) answer
+  pub sums : Sums lead keep_short capture out answer
+  pub exact : SumsExactly lead keep_short capture out answer
 
 -- How `decode` ends: with the text of what the octets are, or with a front of it where a put failed. The counts are those of failed
 -- puts.

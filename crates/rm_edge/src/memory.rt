@@ -1,4 +1,5 @@
 // The outside in memory, for tests. Each form tells all that it holds, and fails where it is to.
+mod calls;
 mod clock;
 mod datagrams;
 mod link;

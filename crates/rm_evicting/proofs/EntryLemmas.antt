@@ -5,12 +5,9 @@ use Rattle.std.proofs.lemmas.Bool.{cases_Bool, true≢false, not-false}
 use Rattle.rm_evicting.specs.Mention.{Mention, refers, strays, keys}
 use Rattle.rm_evicting.specs.Held.{distinct, after_last, held, is_arrival, since_entry}
 use Rattle.rm_evicting.specs.Neighbours.{is_near, is_unbroken, ends_in, from_entry, IsLeastEntry}
+use Rattle.rm_evicting.proofs.Recency.{and_false}
 
 module _ {K : Type 0} (eq : K → K → Bool) (cap : ℕ) where
-  and_off : (b : Bool) → (b && false) ≡ false
-  and_off true = refl
-  and_off false = refl
-
   among_ends : (h : K) (front : List K) → ends_in eq cap h front ≡ true → list_any (eq h) front ≡ true
   among_ends h [] e = e
   among_ends h (k ∷ []) e = ap (λ b. b || false) e
@@ -79,7 +76,7 @@ module _ {K : Type 0} (eq : K → K → Bool) (cap : ℕ) where
   least_entry h (k ∷ []) before e lt = absurd (omega arith)
   least_entry h (k ∷ (j ∷ front)) before e lt = elim (cases_Bool (eq h k && is_arrival eq cap h ((j ∷ front) ++ before))) [
     | inl y ↦ let both = parts_of (eq h k) (is_arrival eq cap h ((j ∷ front) ++ before)) y in rw (both.0, far h (j ∷ front) before (among_ends h (j ∷ front) e) both.1) refl
-    | inr y ↦ rw (least_entry h (j ∷ front) before e (let less : suc (length (from_entry eq cap h ((j ∷ front) ++ before))) < suc (suc (length front)) = rw y at lt in omega arith)) (and_off (cond (eq h k) (is_near eq cap h (j ∷ front)) true))
+    | inr y ↦ rw (least_entry h (j ∷ front) before e (let less : suc (length (from_entry eq cap h ((j ∷ front) ++ before))) < suc (suc (length front)) = rw y at lt in omega arith)) (and_false (cond (eq h k) (is_near eq cap h (j ∷ front)) true))
   ]
 
   pub least : (h : K) (ks : List K) → IsLeastEntry eq cap h ks

@@ -9,25 +9,17 @@ use Rattle.rm_evicting.specs.Held.{IsExact, without, distinct, held, held_keys, 
 use Rattle.rm_evicting.specs.declared.Row.{Row}
 use Rattle.rm_evicting.specs.Row.{takes_place}
 use Rattle.rm_evicting.specs.Stands.{IsByEntry, IsRow, Stands}
-use Rattle.rm_evicting.proofs.Recency.{IsApart, any-without, any-distinct, distinct-apart, length-without}
+use Rattle.rm_evicting.proofs.Recency.{and_false, and_true, IsApart, any-without, any-distinct, distinct-apart, length-without}
 use Rattle.rm_evicting.proofs.RowLemmas.{row_keys, each-weaker, holds-keys, apart_by_entry}
 
 module _ {K : Type 0} (eq : K → K → Bool) (exact : IsExact eq) where
-  and_off : (b : Bool) → (b && false) ≡ false
-  and_off true = refl
-  and_off false = refl
-
-  and_on : (b : Bool) → (b && true) ≡ b
-  and_on true = refl
-  and_on false = refl
-
   -- what a filter keeps
   pub any-filter : (p : K → Bool) (h : K) (xs : List K) → list_any (eq h) (filter p xs) ≡ (list_any (eq h) xs && p h)
   any-filter p h [] = refl
   any-filter p h (x ∷ xs) = elim (cases_Bool (eq h x)) [
     | inl e ↦ let same : p h ≡ p x = ap p (exact.same h x e) in elim (cases_Bool (p x)) [
       | inl y ↦ rw (y, e, same, y) refl
-      | inr y ↦ let off : p h ≡ false = same ∙ y in rw (y, any-filter p h xs, e, off) (and_off (list_any (eq h) xs))
+      | inr y ↦ let off : p h ≡ false = same ∙ y in rw (y, any-filter p h xs, e, off) (and_false (list_any (eq h) xs))
     ]
     | inr e ↦ elim (cases_Bool (p x)) [
       | inl y ↦ rw (y, e) (any-filter p h xs)
@@ -52,8 +44,8 @@ module _ {K : Type 0} (eq : K → K → Bool) (exact : IsExact eq) where
     where
       rest : (h : K) → list_any (eq h) xs ≡ (list_any (eq h) ys && not (eq h x))
       rest h = elim (cases_Bool (eq h x)) [
-        | inl e ↦ rw e (ap (λ j. list_any (eq j) xs) (exact.same h x e) ∙ a.0 ∙ sym (and_off (list_any (eq h) ys)))
-        | inr e ↦ let all : list_any (eq h) xs ≡ list_any (eq h) ys = (rw e at (same h)) in rw e (all ∙ sym (and_on (list_any (eq h) ys)))
+        | inl e ↦ rw e (ap (λ j. list_any (eq j) xs) (exact.same h x e) ∙ a.0 ∙ sym (and_false (list_any (eq h) ys)))
+        | inr e ↦ let all : list_any (eq h) xs ≡ list_any (eq h) ys = (rw e at (same h)) in rw e (all ∙ sym (and_true (list_any (eq h) ys)))
       ]
 
 module _ {K V : Type 0} where

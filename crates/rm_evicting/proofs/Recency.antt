@@ -5,13 +5,9 @@ use Rattle.std.proofs.lemmas.Bool.{cases_Bool, true≢false, both_ways}
 use Rattle.std.proofs.lemmas.Bool.Decides.{nat_tests}
 use Rattle.rm_evicting.specs.Held.{IsExact, without, distinct, after_last, held}
 
-and_false : (b : Bool) → (b && false) ≡ false
+pub and_false : (b : Bool) → (b && false) ≡ false
 and_false true = refl
 and_false false = refl
-
-and_true : (b : Bool) → (b && true) ≡ b
-and_true true = refl
-and_true false = refl
 
 lt_zero : (n : ℕ) → nat_lt n 0 ≡ false
 lt_zero n = grind (arith, nat_tests)
@@ -21,6 +17,10 @@ lt_suc m n = grind (arith, nat_tests)
 
 zero_lt : (n : ℕ) → nat_lt 0 (suc n) ≡ true
 zero_lt n = grind (arith, nat_tests)
+
+pub and_true : (b : Bool) → (b && true) ≡ b
+and_true true = refl
+and_true false = refl
 
 module _ {K : Type 0} (eq : K → K → Bool) (exact : IsExact eq) where
   abbrev among : K → List K → Bool

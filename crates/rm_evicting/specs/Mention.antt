@@ -1,7 +1,7 @@
--- What frames bring to a table whose rows are found by a key, the newest first.
+-- References to the rows of a table by their keys, the newest first.
 use Rattle.std.specs.Prelude.{ℕ, List, [], ◌∷◌}
 
--- a reference to a key, with its stamp, its tick and what it adds to the row; or what a bad frame adds where its key is held
+-- a reference to a key, with its stamp, its tick and what it adds to the row; or a stray one, which only adds where its key is held
 pub data Mention (K C : Type 0) : Type 0 where
   refers : (key : K) (stamp tick : ℕ) (gain : C) → Mention K C
   strays : (key : K) (gain : C) → Mention K C

@@ -49,7 +49,7 @@ module _ {K C V : Type 0} (eq : K → K → Bool) (add : V → C → V) where
   credited key gain rows = at_first (λ row. eq key row.key) (λ row. record row { value = add row.value gain }) rows
 
 module _ {K C V : Type 0} (eq : K → K → Bool) (blank : V) (add : V → C → V) (capacity : ℕ) where
-  -- a mention, as the table takes it: a bad frame renews and enters nothing
+  -- a mention, as the table takes it: a stray one renews and enters nothing
   abbrev pub after : List (Row K V) → Mention K C → List (Row K V)
   after rows (refers key stamp tick gain) = credited eq add key gain (touched eq blank capacity key stamp tick rows)
   after rows (strays key gain) = credited eq add key gain rows

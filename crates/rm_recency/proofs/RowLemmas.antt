@@ -9,7 +9,7 @@ use Rattle.rm_recency.specs.declared.Links.{Links}
 use Rattle.rm_recency.specs.declared.Node.{Node}
 use Rattle.rm_recency.specs.declared.RecencyList.{RecencyList}
 use Rattle.rm_recency.specs.Threads.{row_of, place, IsAt, number, node_at, next_of, prev_of, SameBytes, Keeps, Added, RowSet}
-use Rattle.rm_recency.proofs.SetLemmas.{set_here, set_there, changed, within, same_next, same_prev}
+use Rattle.rm_recency.proofs.SetLemmas.{set_here, set_there, changed, within, same_link}
 
 module _ {X : Type 0} where
   push_there : (xs : List X) (n : X) (i : ℕ) → i < length xs → slice_get (xs ++ n ∷ []) i ≡ slice_get xs i
@@ -95,7 +95,7 @@ module _ {K V : Type 0} where
       there = λ q d. ap (option_map row_of) (set_there t.nodes.items (place t p) (place t q) m d);
       keeps = λ ps k. record {
         ring = linked_as (number t) (number u) (number_by t u (record { ptr = refl; capacity = refl; stride = refl })) (next_of t) (prev_of t) (next_of u) (prev_of u) None (map Some ps)
-            (same_next t p n m at e (ap (λ (l : Links K V). l.next) same)) (same_prev t p n m at e (ap (λ (l : Links K V). l.prev) same)) k.ring;
+            (same_link t p n m at e (λ l. l.next) (ap (λ (l : Links K V). l.next) same)) (same_link t p n m at e (λ l. l.prev) (ap (λ (l : Links K V). l.prev) same)) k.ring;
         links = k.links;
       };
     }

@@ -8,7 +8,7 @@ use Rattle.rm_recency.specs.Chain.{Differs, Sets}
 use Rattle.rm_recency.specs.declared.Links.{Links}
 use Rattle.rm_recency.specs.declared.Node.{Node}
 use Rattle.rm_recency.specs.declared.RecencyList.{RecencyList}
-use Rattle.rm_recency.specs.Threads.{with_next, with_prev, row_of, place, IsAt, number, next_of, prev_of, SameNodes, NextSet, PrevSet}
+use Rattle.rm_recency.specs.Threads.{with_next, with_prev, row_of, place, IsAt, number, link_of, SameNodes, NextSet, PrevSet}
 
 module _ {X : Type 0} where
   pub set_here : (xs : List X) (i : ℕ) (m : X) → i < length xs → slice_get (slice_set xs i m) i ≡ Some m
@@ -46,13 +46,9 @@ module _ {K V : Type 0} (t : RecencyList K V) (p : Ptr) (n m : Node K V) where
     pub within : place t p < length t.nodes.items
     within = let h : place t p < t.nodes.len = at.0 in let l : t.nodes.len ≡ length t.nodes.items = t.nodes.ok.0 in omega arith
 
-    pub same_next : m.links.next ≡ n.links.next → (c : Option Ptr) → next_of changed c ≡ next_of t c
-    same_next h None = refl
-    same_next h (Some q) = set_alike (λ (k : Node K V). k.links.next) t.nodes.items (place t p) (place t q) n m here h
-
-    pub same_prev : m.links.prev ≡ n.links.prev → (c : Option Ptr) → prev_of changed c ≡ prev_of t c
-    same_prev h None = refl
-    same_prev h (Some q) = set_alike (λ (k : Node K V). k.links.prev) t.nodes.items (place t p) (place t q) n m here h
+    pub same_link : (side : Links K V → Option Ptr) → side m.links ≡ side n.links → (c : Option Ptr) → link_of changed side c ≡ link_of t side c
+    same_link side h None = refl
+    same_link side h (Some q) = set_alike (λ (k : Node K V). side k.links) t.nodes.items (place t p) (place t q) n m here h
 
     same_nodes : m.row ≡ n.row → SameNodes t changed
     same_nodes h = record {
@@ -62,30 +58,23 @@ module _ {K V : Type 0} (t : RecencyList K V) (p : Ptr) (n m : Node K V) where
       rows = map-set_same row_of t.nodes.items (place t p) m n (h ∙ ap row_of e);
     }
 
-    next_sets : (to : Option Ptr) → m.links.next ≡ to → Sets (number t) (next_of t) (next_of changed) (Some p) to
-    next_sets to h = (ap (option_map (λ (k : Node K V). k.links.next)) (set_here t.nodes.items (place t p) m within) ∙ ap Some h, others)
+    link_sets : (side : Links K V → Option Ptr) (to : Option Ptr) → side m.links ≡ to → Sets (number t) (link_of t side) (link_of changed side) (Some p) to
+    link_sets side to h = (ap (option_map (λ (k : Node K V). side k.links)) (set_here t.nodes.items (place t p) m within) ∙ ap Some h, others)
       where
-        others : (c : Option Ptr) → Differs (number t) c (Some p) → next_of changed c ≡ next_of t c
+        others : (c : Option Ptr) → Differs (number t) c (Some p) → link_of changed side c ≡ link_of t side c
         others None d = refl
-        others (Some q) d = ap (option_map (λ (k : Node K V). k.links.next)) (set_there t.nodes.items (place t p) (place t q) m (λ e. d (ap suc e)))
-
-    prev_sets : (to : Option Ptr) → m.links.prev ≡ to → Sets (number t) (prev_of t) (prev_of changed) (Some p) to
-    prev_sets to h = (ap (option_map (λ (k : Node K V). k.links.prev)) (set_here t.nodes.items (place t p) m within) ∙ ap Some h, others)
-      where
-        others : (c : Option Ptr) → Differs (number t) c (Some p) → prev_of changed c ≡ prev_of t c
-        others None d = refl
-        others (Some q) d = ap (option_map (λ (k : Node K V). k.links.prev)) (set_there t.nodes.items (place t p) (place t q) m (λ e. d (ap suc e)))
+        others (Some q) d = ap (option_map (λ (k : Node K V). side k.links)) (set_there t.nodes.items (place t p) (place t q) m (λ e. d (ap suc e)))
 
     pub next_set : (to : Option Ptr) → m.links ≡ with_next to n.links → m.row ≡ n.row → NextSet t changed (Some p) to
     next_set to h r = record {
-      next = next_sets to (ap (λ (l : Links K V). l.next) h);
-      prev = same_prev (ap (λ (l : Links K V). l.prev) h);
+      next = link_sets (λ l. l.next) to (ap (λ (l : Links K V). l.next) h);
+      prev = same_link (λ l. l.prev) (ap (λ (l : Links K V). l.prev) h);
       nodes = same_nodes r;
     }
 
     pub prev_set : (to : Option Ptr) → m.links ≡ with_prev to n.links → m.row ≡ n.row → PrevSet t changed (Some p) to
     prev_set to h r = record {
-      prev = prev_sets to (ap (λ (l : Links K V). l.prev) h);
-      next = same_next (ap (λ (l : Links K V). l.next) h);
+      prev = link_sets (λ l. l.prev) to (ap (λ (l : Links K V). l.prev) h);
+      next = same_link (λ l. l.next) (ap (λ (l : Links K V). l.next) h);
       nodes = same_nodes r;
     }

@@ -44,14 +44,17 @@ module _ {K V : Type 0} where
     abbrev pub node_at : Ptr → Option (Node K V)
     node_at p = slice_get t.nodes.items (place p)
 
+    -- one of the two links of the node at a link, or of the end
+    abbrev pub link_of : (Links K V → Option Ptr) → Option Ptr → Option (Option Ptr)
+    link_of side None = Some (side t.ends)
+    link_of side (Some p) = option_map (λ n. side n.links) (node_at p)
+
     -- what comes after the node at a link, and after the end the first
     abbrev pub next_of : Option Ptr → Option (Option Ptr)
-    next_of None = Some t.ends.next
-    next_of (Some p) = option_map (λ n. n.links.next) (node_at p)
+    next_of = link_of (λ links. links.next)
 
     abbrev pub prev_of : Option Ptr → Option (Option Ptr)
-    prev_of None = Some t.ends.prev
-    prev_of (Some p) = option_map (λ n. n.links.prev) (node_at p)
+    prev_of = link_of (λ links. links.prev)
 
     -- the nodes at ps lie in the list in that order
     pub record Threaded (ps : List Ptr) : Type 0 where

@@ -10,7 +10,7 @@ use Rattle.rm_evicting.specs.declared.Row.{Row}
 use Rattle.rm_recency.specs.declared.RecencyList.{RecencyList}
 use Rattle.rm_recency.specs.Threads.{row_at}
 use Rattle.rm_rows.specs.Stored.{Before}
-use Rattle.rm_rows.proofs.Members.{compared, half, same_at, pair_at}
+use Rattle.rm_rows.proofs.Members.{half, pair_at, up_to, from_on}
 use Rattle.rm_rows.specs.Index.{IsIndex, HasKey, IsSearched}
 
 module _ {K V : Type 0} (cmp : K → K → Ordering) (order : IsTotalOrder cmp) (t : RecencyList K V) (xs : List Ptr) (h : K) (low high : ℕ) (index : IsIndex cmp t xs) (s : IsSearched cmp t xs h low high) (lt : low < high)
@@ -25,10 +25,7 @@ module _ {K V : Type 0} (cmp : K → K → Ordering) (order : IsTotalOrder cmp) 
   more e = let a = (half low high lt).1 in record {
     order = omega arith;
     within = s.within;
-    below = λ k q x l g f. elim (compared k m) [
-      | inl b ↦ order.trans x.key r.key h (pair_at (Before (row_at t) cmp) xs k m q p index.1 b g got x r f row) e
-      | inr b ↦ elim b [ inl c ↦ ap (λ (w : Row K V). cmp w.key h) (same_at (row_at t) xs m k p q r x got row c g f) ∙ e | inr c ↦ absurd (omega arith) ]
-    ];
+    below = up_to (row_at t) xs m p r got row (λ x. cmp x.key h ≡ Less) e (λ k q x l g f. order.trans x.key r.key h (pair_at (Before (row_at t) cmp) xs k m q p index.1 l g got x r f row) e);
     above = s.above;
   }
 
@@ -39,13 +36,7 @@ module _ {K V : Type 0} (cmp : K → K → Ordering) (order : IsTotalOrder cmp) 
         order = omega arith;
         within = omega arith;
         below = s.below;
-        above = λ k q x l g f. elim (compared k m) [
-          | inl b ↦ absurd (omega arith)
-          | inr b ↦ elim b [
-            | inl c ↦ ap (λ (w : Row K V). cmp h w.key) (same_at (row_at t) xs m k p q r x got row c g f) ∙ back
-            | inr c ↦ order.trans h r.key x.key back (pair_at (Before (row_at t) cmp) xs m k p q index.1 c got g r x row f)
-          ]
-        ];
+        above = from_on (row_at t) xs m p r got row (λ x. cmp h x.key ≡ Less) back (λ k q x l g f. order.trans h r.key x.key back (pair_at (Before (row_at t) cmp) xs m k p q index.1 l got g r x row f));
       }
 
   pub hit : ((a b : K) → cmp a b ≡ Equal → a ≡ b) → cmp r.key h ≡ Equal → (q : Ptr) × (slice_get xs m ≡ Some q) × HasKey cmp t q h

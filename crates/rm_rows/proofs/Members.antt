@@ -23,6 +23,20 @@ half low high lt = (omega arith, omega arith)
 pub same_at : {P R : Type 0} (row : P → Option R) (xs : List P) (i k : ℕ) (p q : P) (r x : R) → slice_get xs i ≡ Some p → row p ≡ Some r → k ≡ i → slice_get xs k ≡ Some q → row q ≡ Some x → x ≡ r
 same_at row xs i k p q r x got here e g f = of_some (sym f ∙ ap row (of_some (sym g ∙ ap (slice_get xs) e ∙ got)) ∙ here)
 
+-- what holds of the row at a place, and of those before it or behind it
+module _ {P R : Type 0} (row : P → Option R) (xs : List P) (m : ℕ) (p : P) (r : R) (got : slice_get xs m ≡ Some p) (here : row p ≡ Some r) (Q : R → Type 0) (at : Q r) where
+  pub up_to : ((k : ℕ) (q : P) (x : R) → k < m → slice_get xs k ≡ Some q → row q ≡ Some x → Q x) → (k : ℕ) (q : P) (x : R) → k < m + 1 → slice_get xs k ≡ Some q → row q ≡ Some x → Q x
+  up_to before k q x l g f = elim (compared k m) [
+    | inl b ↦ before k q x b g f
+    | inr b ↦ elim b [ inl c ↦ subst Q (sym (same_at row xs m k p q r x got here c g f)) at | inr c ↦ absurd (omega arith) ]
+  ]
+
+  pub from_on : ((k : ℕ) (q : P) (x : R) → m < k → slice_get xs k ≡ Some q → row q ≡ Some x → Q x) → (k : ℕ) (q : P) (x : R) → m ≤ k → slice_get xs k ≡ Some q → row q ≡ Some x → Q x
+  from_on behind k q x l g f = elim (compared k m) [
+    | inl b ↦ absurd (omega arith)
+    | inr b ↦ elim b [ inl c ↦ subst Q (sym (same_at row xs m k p q r x got here c g f)) at | inr c ↦ behind k q x c g f ]
+  ]
+
 module _ {P : Type 0} where
   pub in_at : (p : P) (xs : List P) → In p xs → (i : ℕ) × (i < length xs) × (slice_get xs i ≡ Some p)
   in_at p [] h = absurd h

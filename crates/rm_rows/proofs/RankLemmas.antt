@@ -12,7 +12,7 @@ use Rattle.rm_evicting.specs.Held.{IsExact}
 use Rattle.rm_recency.specs.declared.RecencyList.{RecencyList}
 use Rattle.rm_recency.specs.Threads.{row_at}
 use Rattle.rm_rows.specs.Stored.{In, Pairwise, rows_by, Has, Earlier}
-use Rattle.rm_rows.proofs.Members.{of_some, compared, half, same_at, in_at, at_in, pair_at}
+use Rattle.rm_rows.proofs.Members.{of_some, compared, half, in_at, at_in, pair_at, up_to, from_on}
 use Rattle.rm_rows.proofs.Steps.{keys_apart}
 use Rattle.rm_rows.specs.Index.{rows_in, HasEntry, HasKey, IsEntryBetween, Kept}
 
@@ -29,10 +29,7 @@ module _ {K V : Type 0} (t : RecencyList K V) (es : List Ptr) (entry low high : 
     later e = let a = (half low high lt).1 in record {
       order = omega arith;
       within = s.within;
-      below = λ k q x l g f. elim (compared k m) [
-        | inl b ↦ let before : x.entry < r.entry = pair_at (Earlier (row_at t)) es k m q p rises b g got x r f row in omega arith
-        | inr b ↦ elim b [ inl c ↦ subst (λ (w : Row K V). w.entry < entry) (sym (same_at (row_at t) es m k p q r x got row c g f)) e | inr c ↦ absurd (omega arith) ]
-      ];
+      below = up_to (row_at t) es m p r got row (λ x. x.entry < entry) e (λ k q x l g f. let before : x.entry < r.entry = pair_at (Earlier (row_at t)) es k m q p rises l g got x r f row in omega arith);
       above = s.above;
     }
 
@@ -41,13 +38,7 @@ module _ {K V : Type 0} (t : RecencyList K V) (es : List Ptr) (entry low high : 
       order = omega arith;
       within = omega arith;
       below = s.below;
-      above = λ k q x l g f. elim (compared k m) [
-        | inl b ↦ absurd (omega arith)
-        | inr b ↦ elim b [
-          | inl c ↦ subst (λ (w : Row K V). entry < w.entry) (sym (same_at (row_at t) es m k p q r x got row c g f)) e
-          | inr c ↦ let after : r.entry < x.entry = pair_at (Earlier (row_at t)) es m k p q rises c got g r x row f in omega arith
-        ]
-      ];
+      above = from_on (row_at t) es m p r got row (λ x. entry < x.entry) e (λ k q x l g f. let after : r.entry < x.entry = pair_at (Earlier (row_at t)) es m k p q rises l got g r x row f in omega arith);
     }
 
   -- no place is left where the entry could stand

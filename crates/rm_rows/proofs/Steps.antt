@@ -9,7 +9,7 @@ use Rattle.std.proofs.lemmas.Bool.Decides.{nat_tests}
 use Rattle.rm_evicting.specs.declared.Row.{Row}
 use Rattle.rm_evicting.specs.Held.{IsExact}
 use Rattle.rm_evicting.specs.Row.{holds, is_oldest, without_oldest, at_first, renewed}
-use Rattle.rm_rows.specs.Stored.{In, Pairwise, rows_by, IsAfter, Later, Earlier, Before, Stored}
+use Rattle.rm_rows.specs.Stored.{In, Distinct, Pairwise, rows_by, Has, IsAfter, Later, Earlier, Before, Stored}
 use Rattle.rm_rows.proofs.Members.{of_some, compared, in_at, in_append, in_left, in_middle, in_without, in_with, all_in, in_all, pair_without, pair_with, pair_push, pair_before, pair_at, pair_weaker, distinct_push, distinct_without, distinct_gone, apart_in}
 use Rattle.rm_rows.proofs.RowsBy.{any_in, none_in, all_true, some_false, found_out, rows_out, rows_changed}
 
@@ -26,6 +26,40 @@ module _ {P : Type 0} (R : P → P → Type 0) where
 
 pub irreflexive : {K : Type 0} (cmp : K → K → Ordering) → IsTotalOrder cmp → (k : K) → cmp k k ≡ Less → ⊥
 irreflexive cmp order k l = let back : Less ≡ Greater = sym l ∙ order.antisymm k k ∙ ap ordering_reverse l in cc
+
+-- the row at p becomes another, and no other row does
+module _ {P K V : Type 0} (row row' : P → Option (Row K V)) (es : List P) (p : P) (r r' : Row K V) (e : row p ≡ Some r) (e' : row' p ≡ Some r') (distinct : Distinct es) (member : In p es)
+    (same : (q : P) → In q es → ¬ (q ≡ p) → row' q ≡ row q) where
+  -- what both rows at p have alike, each row has as before
+  told_back : {Y : Type 0} (of : Row K V → Y) → of r' ≡ of r → (q : P) → In q es → (s' : Row K V) → row' q ≡ Some s' → (s : Row K V) × (row q ≡ Some s) × (of s' ≡ of s)
+  told_back of alike q k s' f = elim (apart_in p es distinct member q k) [
+    | inl z ↦ (r, ap row z ∙ e, ap of (of_some (sym f ∙ ap row' z ∙ e')) ∙ alike)
+    | inr m ↦ (s', sym (same q k m) ∙ f, refl)
+  ]
+
+  has_still : ((q : P) → In q es → Has row q) → (q : P) → In q es → Has row' q
+  has_still has q k = elim (apart_in p es distinct member q k) [ inl z ↦ (r', ap row' z ∙ e') | inr m ↦ let on = has q k in (on.0, same q k m ∙ on.1) ]
+
+-- the rows stay in order of entry and of keys where the key and the entry stay
+record IsStill {P K V : Type 0} (cmp : K → K → Ordering) (row : P → Option (Row K V)) (es xs : List P) : Type 0 where
+  has : (q : P) → In q es → Has row q
+  rises : Pairwise (Earlier row) es
+  sorted : Pairwise (Before row cmp) xs
+
+is_still : {P K V : Type 0} (cmp : K → K → Ordering) (row row' : P → Option (Row K V)) (es rs xs : List P) (p : P) (r r' : Row K V) → row p ≡ Some r → row' p ≡ Some r' → r'.key ≡ r.key → r'.entry ≡ r.entry → In p es
+    → ((q : P) → In q es → ¬ (q ≡ p) → row' q ≡ row q) → Stored row cmp es rs xs → IsStill cmp row' es xs
+is_still {K = K} cmp row row' es rs xs p r r' e e' key entry member same h =
+    let entry_back = told_back row row' es p r r' e e' h.distinct member same (λ w. w.entry) entry in
+    let key_back = told_back row row' es p r r' e e' h.distinct member same (λ w. w.key) key in
+    record {
+      has = has_still row row' es p r r' e e' h.distinct member same h.has;
+      rises = pair_weaker (Earlier row) (Earlier row') es (λ a b k m l x y f g.
+          let x0 = entry_back a k x f in let y0 = entry_back b m y g in
+          subst (λ (j : ℕ × ℕ). j.0 < j.1) (λ i. (sym x0.2 i, sym y0.2 i)) (l x0.0 y0.0 x0.1 y0.1)) h.rises;
+      sorted = pair_weaker (Before row cmp) (Before row' cmp) xs (λ a b k m l x y f g.
+          let x0 = key_back a (h.index.back a k) x f in let y0 = key_back b (h.index.back b m) y g in
+          subst (λ (j : K × K). cmp j.0 j.1 ≡ Less) (λ i. (sym x0.2 i, sym y0.2 i)) (l x0.0 y0.0 x0.1 y0.1)) h.sorted;
+    }
 
 module _ {P K V : Type 0} (cmp : K → K → Ordering) (order : IsTotalOrder cmp) where
   pub not_before : (row : P → Option (Row K V)) (p : P) (r : Row K V) → row p ≡ Some r → ¬ (Before row cmp p p)
@@ -118,22 +152,13 @@ module _ {P K V : Type 0} (cmp : K → K → Ordering) (order : IsTotalOrder cmp
   renews row row' es us vs xs p r r' e e' key entry member same last h =
       let out_r = pair_gone (Later row) p (not_later row p r e) us vs h.falls in
       let near = apart_in p es h.distinct member in
-      let key_back : (q : P) → In q es → (s' : Row K V) → row' q ≡ Some s' → (s : Row K V) × (row q ≡ Some s) × (s'.key ≡ s.key) = (λ q k s' f. elim (near q k) [
-        | inl z ↦ (r, ap row z ∙ e, ap (λ (w : Row K V). w.key) (of_some (sym f ∙ ap row' z ∙ e')) ∙ key)
-        | inr m ↦ (s', sym (same q k m) ∙ f, refl)
-      ]) in
-      let entry_back : (q : P) → In q es → (s' : Row K V) → row' q ≡ Some s' → (s : Row K V) × (row q ≡ Some s) × (s'.entry ≡ s.entry) = (λ q k s' f. elim (near q k) [
-        | inl z ↦ (r, ap row z ∙ e, ap (λ (w : Row K V). w.entry) (of_some (sym f ∙ ap row' z ∙ e')) ∙ entry)
-        | inr m ↦ (s', sym (same q k m) ∙ f, refl)
-      ]) in
+      let still = is_still cmp row row' es (us ++ p ∷ vs) xs p r r' e e' key entry member same h in
       let away = λ (q : P) (k : In q (us ++ vs)) (z : q ≡ p). out_r (subst (λ y. In y (us ++ vs)) z k) in
       let member_r = λ (q : P) (k : In q (us ++ vs)). h.recent.back q (in_with q us p vs k) in
       record {
-        has = λ q k. elim (near q k) [ inl z ↦ (r', ap row' z ∙ e') | inr m ↦ let on = h.has q k in (on.0, same q k m ∙ on.1) ];
+        has = still.has;
         distinct = h.distinct;
-        rises = pair_weaker (Earlier row) (Earlier row') es (λ a b k m l x y f g.
-            let x0 = entry_back a k x f in let y0 = entry_back b m y g in
-            subst (λ (j : ℕ × ℕ). j.0 < j.1) (λ i. (sym x0.2 i, sym y0.2 i)) (l x0.0 y0.0 x0.1 y0.1)) h.rises;
+        rises = still.rises;
         since = λ q k s' f. elim (near q k) [
           | inl z ↦ subst (λ (w : Row K V). w.entry ≤ w.last) (of_some (sym e' ∙ ap row' (sym z) ∙ f))
               (let before = (last p member r e).0 in let since = h.since p member r e in let le : r'.entry ≤ r'.last = omega (arith, before, since, entry) in le)
@@ -148,9 +173,7 @@ module _ {P K V : Type 0} (cmp : K → K → Ordering) (order : IsTotalOrder cmp
           all_in (Later row' p) (us ++ vs) (λ q k a s f g. subst (λ (w : Row K V). IsAfter w s) (of_some (sym e' ∙ f)) (last q (member_r q k) s (sym (same q (member_r q k) (away q k)) ∙ g))),
           pair_weaker (Later row) (Later row') (us ++ vs) (λ a b k m l x y f g. l x y (sym (same a (member_r a k) (away a k)) ∙ f) (sym (same b (member_r b m) (away b m)) ∙ g)) (pair_without (Later row) us p vs h.falls),
         );
-        sorted = pair_weaker (Before row cmp) (Before row' cmp) xs (λ a b k m l x y f g.
-            let x0 = key_back a (h.index.back a k) x f in let y0 = key_back b (h.index.back b m) y g in
-            subst (λ (j : K × K). cmp j.0 j.1 ≡ Less) (λ i. (sym x0.2 i, sym y0.2 i)) (l x0.0 y0.0 x0.1 y0.1)) h.sorted;
+        sorted = still.sorted;
       }
 
   module _ (eq : K → K → Bool) (exact : IsExact eq) where
@@ -206,27 +229,20 @@ module _ {P K V : Type 0} (cmp : K → K → Ordering) where
   pub revalued : (row row' : P → Option (Row K V)) (es rs xs : List P) (p : P) (r r' : Row K V) → row p ≡ Some r → row' p ≡ Some r' → r'.key ≡ r.key → r'.entry ≡ r.entry → r'.last ≡ r.last → r'.tick ≡ r.tick → In p es
       → ((q : P) → In q es → ¬ (q ≡ p) → row' q ≡ row q) → Stored row cmp es rs xs → Stored row' cmp es rs xs
   revalued row row' es rs xs p r r' e e' key entry last tick member same h =
-      let near = apart_in p es h.distinct member in
-      let back : (q : P) → In q es → (s' : Row K V) → row' q ≡ Some s' → (s : Row K V) × (row q ≡ Some s) × (s'.key ≡ s.key) × (s'.last ≡ s.last) × (s'.tick ≡ s.tick) × (s'.entry ≡ s.entry) = (λ q k s' f. elim (near q k) [
-        | inl z ↦ let is = of_some (sym f ∙ ap row' z ∙ e') in (r, ap row z ∙ e, ap (λ (w : Row K V). w.key) is ∙ key, ap (λ (w : Row K V). w.last) is ∙ last, ap (λ (w : Row K V). w.tick) is ∙ tick, ap (λ (w : Row K V). w.entry) is ∙ entry)
-        | inr m ↦ (s', sym (same q k m) ∙ f, refl, refl, refl, refl)
-      ]) in
+      let still = is_still cmp row row' es rs xs p r r' e e' key entry member same h in
+      let since_back = told_back row row' es p r r' e e' h.distinct member same (λ w. (w.entry, w.last)) (λ i. (entry i, last i)) in
+      let last_back = told_back row row' es p r r' e e' h.distinct member same (λ w. (w.last, w.tick)) (λ i. (last i, tick i)) in
       record {
-        has = λ q k. elim (near q k) [ inl z ↦ (r', ap row' z ∙ e') | inr m ↦ let on = h.has q k in (on.0, same q k m ∙ on.1) ];
+        has = still.has;
         distinct = h.distinct;
-        rises = pair_weaker (Earlier row) (Earlier row') es (λ a b k m l x y f g.
-            let x0 = back a k x f in let y0 = back b m y g in
-            subst (λ (j : ℕ × ℕ). j.0 < j.1) (λ i. (sym x0.5 i, sym y0.5 i)) (l x0.0 y0.0 x0.1 y0.1)) h.rises;
-        since = λ q k s' f. let on = back q k s' f in subst (λ (j : ℕ × ℕ). j.0 ≤ j.1) (λ i. (sym on.5 i, sym on.3 i)) (h.since q k on.0 on.1);
+        rises = still.rises;
+        since = λ q k s' f. let on = since_back q k s' f in subst (λ (j : ℕ × ℕ). j.0 ≤ j.1) (sym on.2) (h.since q k on.0 on.1);
         recent = h.recent;
         index = h.index;
         falls = pair_weaker (Later row) (Later row') rs (λ a b k m l x y f g.
-            let x0 = back a (h.recent.back a k) x f in let y0 = back b (h.recent.back b m) y g in
-            let was = l x0.0 y0.0 x0.1 y0.1 in
-            (subst (λ (j : ℕ × ℕ). j.1 < j.0) (λ i. (sym x0.3 i, sym y0.3 i)) was.0, subst (λ (j : ℕ × ℕ). j.1 ≤ j.0) (λ i. (sym x0.4 i, sym y0.4 i)) was.1)) h.falls;
-        sorted = pair_weaker (Before row cmp) (Before row' cmp) xs (λ a b k m l x y f g.
-            let x0 = back a (h.index.back a k) x f in let y0 = back b (h.index.back b m) y g in
-            subst (λ (j : K × K). cmp j.0 j.1 ≡ Less) (λ i. (sym x0.2 i, sym y0.2 i)) (l x0.0 y0.0 x0.1 y0.1)) h.sorted;
+            let x0 = last_back a (h.recent.back a k) x f in let y0 = last_back b (h.recent.back b m) y g in
+            subst (λ (j : (ℕ × ℕ) × (ℕ × ℕ)). (j.1.0 < j.0.0) × (j.1.1 ≤ j.0.1)) (λ i. (sym x0.2 i, sym y0.2 i)) (l x0.0 y0.0 x0.1 y0.1)) h.falls;
+        sorted = still.sorted;
       }
 
 module _ {P K V : Type 0} (cmp : K → K → Ordering) (order : IsTotalOrder cmp) (eq : K → K → Bool) (exact : IsExact eq) where

@@ -78,6 +78,30 @@ module _ {K V : Type 0} (cmp : K → K → Ordering) (t : RecencyList K V) (v : 
     pub found_key_of : HasKey cmp t q h
     found_key_of = subst (λ (p : Ptr). HasKey cmp t p h) (of_some (sym got ∙ got_q)) found.2
 
+-- where the search found a link, it is one of the index, it has the key, and the key has a row
+pub record IsHere {K V : Type 0} (cmp : K → K → Ordering) (eq : K → K → Bool) (t : RecencyList K V) (es xs : List Ptr) (h : K) (q : Ptr) : Type 0 where
+  pub member : In q xs
+  pub key : HasKey cmp t q h
+  pub held : holds eq h (rows_in t es) ≡ true
+
+-- where it found a gap, the key has no row, and there is a row in each node
+pub record IsAway {K V : Type 0} (eq : K → K → Bool) (t : RecencyList K V) (es : List Ptr) (h : K) : Type 0 where
+  pub off : holds eq h (rows_in t es) ≡ false
+  pub count : length (rows_in t es) ≡ t.nodes.len
+
+module _ {K V : Type 0} (cmp : K → K → Ordering) (order : IsTotalOrder cmp) (eq : K → K → Bool) (exact : IsExact eq) (t : RecencyList K V) (es : List Ptr) (v : Vec Ptr Global) (k : Kept cmp t es v.items)
+    (seen : List Ptr) (is : seen ≡ v.items) (h : K) (i : ℕ) where
+  pub is_here : (found : (p : Ptr) × (slice_get seen i ≡ Some p) × HasKey cmp t p h) (q : Ptr) → q ≡ get_or v.items i q → IsHere cmp eq t es v.items h q
+  is_here found q at =
+      let member = found_in cmp t v seen is h i found q at in let key = found_key_of cmp t v seen is h i found q at in
+      record { member = member; key = key; held = held_here cmp order eq exact t es v.items k h q member key }
+
+  pub is_away : IsGap cmp t seen h i → IsAway eq t es h
+  is_away gap = record {
+    off = held_nowhere cmp order eq exact t es v.items k h i (subst (λ (l : List Ptr). IsGap cmp t l h i) is gap);
+    count = rows_count cmp order eq exact t es v.items k;
+  }
+
 pub holds_renewed : {K V : Type 0} (cmp : K → K → Ordering) (t u : RecencyList K V) (d : VecDeque Ptr Global) (v : Vec Ptr Global) (capacity : ℕ) → Holds cmp t d v capacity → Kept cmp u d.items v.items → u.nodes.len ≡ t.nodes.len → u.nodes.cap ≡ t.nodes.cap → Holds cmp u d v capacity
 holds_renewed cmp t u d v capacity a k l c = let n = a.nodes in let f = a.few in record {
   kept = k;

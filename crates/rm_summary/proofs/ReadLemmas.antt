@@ -1,11 +1,12 @@
 -- The frames of a capture that were counted so far.
 use Rattle.std.proofs.Common.{◌≡◌, ℕ, ◌+◌, Bool, List, [], ◌∷◌, ◌++◌, Some, Result, Ok, Err, inl, inr, refl, sym, ap, subst, ◌∙◌, append_assoc}
 use Rattle.std.proofs.lemmas.List.{append-nil}
-use Rattle.rm_edge.specs.Outside.{Held, Untold, Absent, File, OfFile, Rose}
+use Rattle.rm_edge.specs.Outside.{Held, Untold, Absent, File, OfFile}
+use Rattle.rm_edge.specs.Uses.{FileUse, HasReadFault}
 use Rattle.rm_model.specs.Journal.{Frame}
 use Rattle.rm_pcap.specs.Records.{Stop, Ended, CutAt, Broken, Found, Whole, Stops as StopsAt, found_at, AreRecords, ReadsAs, beginning}
-use Rattle.rm_pcap.specs.Progress.{Progress, Agrees, next_in, Shows, begun, frame_of, passing, IsLawful}
-use Rattle.rm_pcap.specs.Calls.{Passes, Fails, IsBroken as IsBrokenOff, BeginsAs, IsFirstFault}
+use Rattle.rm_pcap.specs.Progress.{Progress, Agrees, next_in, Shows, begun, frame_of, IsLawful}
+use Rattle.rm_pcap.specs.Calls.{Passes, Steps, Fails, IsBroken as IsBrokenOff, BeginsAs}
 use Rattle.rm_pcap.specs.Header.{header_of}
 use Rattle.rm_pcap.specs.declared.form.Form.{Form}
 use Rattle.rm_pcap.specs.declared.reach.Reach.{Reach}
@@ -72,19 +73,25 @@ records_stop : (form : Form) (lead : ℕ) (reach : Reach) (bytes : List ℕ) (st
 unfolding AreRecords
 records_stop form lead reach bytes stop is = is
 
--- what is lent is lawful
-pub lawful_frame : (held : Held) (old new : Progress) (found : Found) (frame : Lent) → Passes held old new found → Shows (Next frame) found
-    → (after : Reach) × (found ≡ Whole (frame_of frame) after) × IsLawful old.reach (frame_of frame) after
-lawful_frame held old new (StopsAt stop) frame passes shows = absurd shows
-lawful_frame held old new (Whole passed after) frame passes shows =
-    (after, ap (λ (f : Frame). Whole f after) shows, subst (λ (f : Frame). IsLawful old.reach f after) shows passes.finds.lawful)
+-- what is lent is passed, and it is lawful
+pub record IsPassed (held : Held) (old new : Progress) (frame : Frame) : Type 0 where
+  pub after : Reach
+  pub passes : Passes held old new (Whole frame after)
+  pub lawful : IsLawful old.reach frame after
 
--- it is passed
-pub few_more : (held : Held) (old new : Progress) (frame : Frame) (after : Reach) (found : Found) → found ≡ Whole frame after → Passes held old new found → IsLawful old.reach frame after
-    → new.reach.count ≡ old.reach.count + 1
-few_more held old new frame after found is passes lawful =
-    let place : new ≡ passing old (Whole frame after) new.read = subst (λ (f : Found). new ≡ passing old f new.read) is passes.place in
-    ap (λ (p : Progress). p.reach.count) place ∙ lawful.count ∙ lawful.number
+pub is_passed : (held now : Held) (old new : Progress) (result : Result Step PcapFault) (frame : Lent) → now ≡ held → Steps now old new result → result ≡ Ok (Next frame) → IsPassed held old new (frame_of frame)
+is_passed held now old new result frame same steps is = by_found (rw (same, is) at steps)
+  where
+    by_found : Steps held old new (Ok (Next frame)) → IsPassed held old new (frame_of frame)
+    by_found (StopsAt stop, passes, shows) = absurd shows
+    by_found (Whole passed after, passes, shows) = record {
+      after = after;
+      passes = subst (λ (f : Frame). Passes held old new (Whole f after)) shows passes;
+      lawful = subst (λ (f : Frame). IsLawful old.reach f after) shows passes.finds.lawful;
+    }
+
+pub one_more : (held : Held) (old new : Progress) (frame : Frame) → IsPassed held old new frame → new.reach.count ≡ old.reach.count + 1
+one_more held old new frame passed = ap (λ (p : Progress). p.reach.count) passed.passes.place ∙ passed.lawful.count ∙ passed.lawful.number
 
 -- one frame more is counted
 pub counting_more : (lead : ℕ) (keep_short : Bool) (held : Held) (old new : Progress) (frame : Frame) (after : Reach) (counts next : Counts) → Passes held old new (Whole frame after)
@@ -145,37 +152,37 @@ header_fault lead Untold fault there header = tt
 header_fault lead Absent fault there header = there refl
 header_fault lead (File bytes) fault there header = ([], header_reads lead bytes fault (header bytes refl))
 
+-- a fault, by what it says of the file but for a failed read and for want of memory
+is_fault : (lead : ℕ) (file : FileUse) (fault : PcapFault) → (fault ≡ Read → HasReadFault file) → (¬ (fault ≡ Read) → ¬ (fault ≡ NoMemory) → OfFile file.held (IsBroken lead fault)) → IsFault lead file fault
+is_fault lead file Read rose broken = rose refl
+is_fault lead file NoMemory rose broken = tt
+is_fault lead file Magic rose broken = broken (λ e. cc) (λ e. cc)
+is_fault lead file Version rose broken = broken (λ e. cc) (λ e. cc)
+is_fault lead file LinkType rose broken = broken (λ e. cc) (λ e. cc)
+is_fault lead file (Included at) rose broken = broken (λ e. cc) (λ e. cc)
+is_fault lead file (Original at) rose broken = broken (λ e. cc) (λ e. cc)
+is_fault lead file (Late at) rose broken = broken (λ e. cc) (λ e. cc)
+is_fault lead file TooMany rose broken = broken (λ e. cc) (λ e. cc)
+
+-- the faults of a header
+of_header : (bytes : List ℕ) (fault : PcapFault) → ¬ (fault ≡ Read) → ¬ (fault ≡ NoMemory) → BeginsAs bytes (Err fault) → header_of bytes ≡ Err fault
+of_header bytes Read read memory begins = absurd (read refl)
+of_header bytes NoMemory read memory begins = absurd (memory refl)
+of_header bytes fault read memory begins = begins
+
 -- a capture that could not be begun
-pub fault_at_first : (lead : ℕ) (held : Held) (before now : ℕ) (fault : PcapFault) → (fault ≡ Read → Rose before now) → (held ≡ Absent → fault ≡ Read) → ((bytes : List ℕ) → held ≡ File bytes → BeginsAs bytes (Err fault))
-    → IsFirstFault fault → IsFault lead held before now fault
-fault_at_first lead held before now Read rose absent header kind = rose refl
-fault_at_first lead held before now NoMemory rose absent header kind = tt
-fault_at_first lead held before now Magic rose absent header kind = header_fault lead held Magic (λ e. let f : Magic ≡ Read = absent e in cc) header
-fault_at_first lead held before now Version rose absent header kind = header_fault lead held Version (λ e. let f : Version ≡ Read = absent e in cc) header
-fault_at_first lead held before now LinkType rose absent header kind = header_fault lead held LinkType (λ e. let f : LinkType ≡ Read = absent e in cc) header
-fault_at_first lead held before now (Included at) rose absent header kind = absurd kind
-fault_at_first lead held before now (Original at) rose absent header kind = absurd kind
-fault_at_first lead held before now (Late at) rose absent header kind = absurd kind
-fault_at_first lead held before now TooMany rose absent header kind = absurd kind
+pub fault_at_first : (lead : ℕ) (file : FileUse) (fault : PcapFault) → (fault ≡ Read → HasReadFault file) → (file.held ≡ Absent → fault ≡ Read) → ((bytes : List ℕ) → file.held ≡ File bytes → BeginsAs bytes (Err fault))
+    → IsFault lead file fault
+fault_at_first lead file fault rose absent header =
+    is_fault lead file fault rose (λ read memory. header_fault lead file.held fault (λ e. read (absent e)) (λ bytes is. of_header bytes fault read memory (header bytes is)))
 
 -- a record has a fault
-pub fault_of_record : (lead : ℕ) (keep_short : Bool) (held : Held) (before now : ℕ) (progress : Progress) (counts : Counts) (fault : PcapFault) → (fault ≡ Read → Rose before now) → Fails held progress fault
-    → OfFile held (λ bytes. Counting lead keep_short bytes progress counts) → IsFault lead held before now fault
-fault_of_record lead keep_short held before now progress counts fault rose fails so_far = by_fault fault rose fails.cause
+pub fault_of_record : (lead : ℕ) (keep_short : Bool) (file : FileUse) (progress : Progress) (counts : Counts) (fault : PcapFault) → (fault ≡ Read → HasReadFault file) → Fails file.held progress fault
+    → OfFile file.held (λ bytes. Counting lead keep_short bytes progress counts) → IsFault lead file fault
+fault_of_record lead keep_short file progress counts fault rose fails so_far = is_fault lead file fault rose (λ read memory. found read fails.cause)
   where
-    found : (fault : PcapFault) → IsBrokenOff held progress.form progress.lead progress.reach progress.read fault → (fault ≡ Read → ⊥) → OfFile held (IsBroken lead fault)
-    found fault (inl read) other = absurd (other read)
-    found fault (inr breaks) other =
-        of_told held (λ bytes. Counting lead keep_short bytes progress counts) (IsBroken lead fault)
+    found : ¬ (fault ≡ Read) → IsBrokenOff file.held progress.form progress.lead progress.reach progress.read fault → OfFile file.held (IsBroken lead fault)
+    found other (inl read) = absurd (other read)
+    found other (inr breaks) =
+        of_told file.held (λ bytes. Counting lead keep_short bytes progress counts) (IsBroken lead fault)
         (λ bytes is was. (was.frames, stops lead keep_short bytes progress counts (Broken fault) (breaks.stands bytes is was.agrees.read) was)) so_far
-
-    by_fault : (fault : PcapFault) → (fault ≡ Read → Rose before now) → IsBrokenOff held progress.form progress.lead progress.reach progress.read fault → IsFault lead held before now fault
-    by_fault Read rose cause = rose refl
-    by_fault NoMemory rose cause = tt
-    by_fault Magic rose cause = found Magic cause (λ e. cc)
-    by_fault Version rose cause = found Version cause (λ e. cc)
-    by_fault LinkType rose cause = found LinkType cause (λ e. cc)
-    by_fault (Included at) rose cause = found (Included at) cause (λ e. cc)
-    by_fault (Original at) rose cause = found (Original at) cause (λ e. cc)
-    by_fault (Late at) rose cause = found (Late at) cause (λ e. cc)
-    by_fault TooMany rose cause = found TooMany cause (λ e. cc)

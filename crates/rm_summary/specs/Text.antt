@@ -6,7 +6,7 @@ use Rattle.rm_model.specs.Journal.{Frame}
 use Rattle.rm_proto.specs.Facts.{facts_of}
 use Rattle.rm_proto.specs.declared.known.Facts.{Facts}
 use Rattle.rm_proto.specs.declared.ethernet.Cast.{Cast}
-use Rattle.rm_proto.specs.declared.ethernet.Cast.TheVariants.{Broad, Multi}
+use Rattle.rm_proto.specs.declared.ethernet.Cast.TheVariants.{Broad, Multi, Uni}
 use Rattle.rm_pcap.specs.Records.{Stop, Ended, CutAt, Broken, ReadsAs}
 use Rattle.rm_summary.specs.declared.figure.Figure.{Figure}
 use Rattle.rm_summary.specs.declared.figure.Figure.TheVariants.{Frames, Octets, Good, Undersize, Oversize, Broadcast, Multicast, Ip, First, Last}
@@ -26,20 +26,19 @@ is_undersize facts = nat_lt facts.length 64
 abbrev pub is_oversize : Facts → Bool
 is_oversize facts = nat_lt 1518 facts.length
 
-abbrev pub is_broad : Cast → Bool
-is_broad Broad = true
-is_broad other = false
-
-abbrev pub is_multi : Cast → Bool
-is_multi Multi = true
-is_multi other = false
+-- frames of both classes went to addresses of one kind
+abbrev pub is_alike : Cast → Cast → Bool
+is_alike Broad Broad = true
+is_alike Multi Multi = true
+is_alike Uni Uni = true
+is_alike one other = false
 
 -- a good frame was sent to the broadcast address, or to that of a group (RFC 1757, etherStatsBroadcastPkts and etherStatsMulticastPkts)
 abbrev pub is_broadcast : Facts → Bool
-is_broadcast facts = facts.good && is_broad facts.cast
+is_broadcast facts = facts.good && is_alike Broad facts.cast
 
 abbrev pub is_multicast : Facts → Bool
-is_multicast facts = facts.good && is_multi facts.cast
+is_multicast facts = facts.good && is_alike Multi facts.cast
 
 -- What a figure is for these frames. The first and the last moment are 0 where there is no frame.
 abbrev pub figure_for : Bool → List Frame → Figure → ℕ

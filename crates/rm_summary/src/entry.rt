@@ -1,6 +1,7 @@
 // The one public call.
 ghost use Rattle.std.specs.Prelude.{◌≡◌, ◌≤◌, Err};
 ghost use Rattle.rm_edge.specs.Shelves.{KeepsShelf};
+ghost use Rattle.rm_edge.specs.Uses.{file_use, sink_use};
 ghost use Rattle.rm_pcap.specs.declared.fault.PcapFault.TheVariants.{Read};
 ghost use Rattle.rm_summary.specs.Ends.{Ends, IsExact};
 
@@ -37,24 +38,8 @@ pub fn summary<F: Shelf, K: Sink>(
     shelf: &mut F,
     out: &mut K,
 ) -> Result<(), SummaryFault>
-    ensures ends { Ends lead keep_short (record {
-      held = F.held shelf.old capture.now;
-      reads = F.faults shelf.old capture.now;
-      reads_after = F.faults shelf.new capture.now;
-      puts = K.faults out.old;
-      puts_after = K.faults out.new;
-      content = K.content out.old;
-      content_after = K.content out.new;
-    }) result }
-    ensures exact { IsExact lead keep_short (record {
-      held = F.held shelf.old capture.now;
-      reads = F.faults shelf.old capture.now;
-      reads_after = F.faults shelf.new capture.now;
-      puts = K.faults out.old;
-      puts_after = K.faults out.new;
-      content = K.content out.old;
-      content_after = K.content out.new;
-    }) result }
+    ensures ends { Ends lead keep_short (file_use F.held F.faults shelf.old shelf.new capture.now) (sink_use K.content K.faults out.old out.new) result }
+    ensures exact { IsExact lead keep_short (file_use F.held F.faults shelf.old shelf.new capture.now) (sink_use K.content K.faults out.old out.new) result }
     ensures shelf { KeepsShelf F.held F.faults shelf.old shelf.new (λ each. each ≡ capture.now) (result ≡ Err (SummaryFault.Capture Read)) }
     ensures puts_later { K.faults out.old ≤ K.faults out.new }
 {

@@ -2,6 +2,7 @@
 ghost use Rattle.std.specs.Prelude.{◌≡◌, ◌≤◌, Err, IfOk, IfErr, length};
 ghost use Rattle.rm_edge.specs.Outside.{OfFile};
 ghost use Rattle.rm_edge.specs.Shelves.{KeepsShelf};
+ghost use Rattle.rm_edge.specs.Uses.{file_use};
 ghost use Rattle.rm_pcap.specs.declared.fault.PcapFault.TheVariants.{Read};
 ghost use Rattle.rm_summary.specs.Counted.{IsOf, ending_word};
 ghost use Rattle.rm_summary.specs.Ends.{IsFault};
@@ -22,13 +23,12 @@ pub enum Ending {
 
 impl Ending {
     /// The word of the last line.
-    pub fn word(self) -> &'static [u8]
-        ensures is { result.now ≡ ending_word self }
-        ensures short { length result.now ≤ 9 }
+    pub fn word(self) -> [u8; 3]
+        ensures { result ≡ ending_word self }
     {
         match self {
-            Ending::End => b"end",
-            Ending::Cut => b"cut",
+            Ending::End => *b"end",
+            Ending::Cut => *b"cut",
         }
     }
 }
@@ -50,7 +50,7 @@ pub fn read<F: Shelf>(
 ) -> Result<Summary, PcapFault>
     ensures shelf { KeepsShelf F.held F.faults shelf.old shelf.new (λ each. each ≡ name.now) (result ≡ Err Read) }
     ensures counted { IfOk result (λ summary. OfFile (F.held shelf.old name.now) (λ bytes. IsOf lead keep_short bytes summary)) }
-    ensures fault { IfErr result (IsFault lead (F.held shelf.old name.now) (F.faults shelf.old name.now) (F.faults shelf.new name.now)) }
+    ensures fault { IfErr result (IsFault lead (file_use F.held F.faults shelf.old shelf.new name.now)) }
 {
     let mut capture = Capture::begin(alloc, shelf, name, lead)?;
     let mut counts = Counts::new();

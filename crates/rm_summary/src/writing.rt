@@ -16,7 +16,10 @@ pub fn write<K: Sink>(summary: &Summary, out: &mut K) -> Result<(), Failed>
     ensures cause { HasCause (K.faults out.old) (K.faults out.new) result }
 {
     write_figures(&FIGURES, &summary.counts, out)?;
-    out.put(&line(summary.ending.word(), summary.counts.figure(Figure::Frames)))
+    out.put(&line(
+        &summary.ending.word(),
+        summary.counts.figure(Figure::Frames),
+    ))
 }
 
 // Writes the lines of some figures.

@@ -29,11 +29,7 @@ impl Model for ListClock {
 
     ghost Value = { ClockState };
 
-    ghost view = { λ c. record {
-      moments = c.moments.items;
-      calls = c.calls;
-      next = c.next;
-    } };
+    ghost view = { λ c. record { moments = c.moments.items; calls = c.calls; next = c.next } };
 }
 
 impl ListClock {

@@ -3,6 +3,7 @@ ghost use Rattle.rm_edge.specs.Outside.{HasCause, one_more};
 ghost use Rattle.rm_edge.specs.Link.{Receives};
 ghost use Rattle.rm_edge.specs.MemLink.{IsToFail, failed_at};
 
+use super::calls::Calls;
 use super::datagrams::{Arriving, Departed};
 use crate::outside::{Failed, Link, Peer};
 use arrayvec::ArrayVec;
@@ -23,8 +24,7 @@ pub struct MemLink {
     sent: Vec<Departed>,
     // How many more can be sent.
     room: usize,
-    calls: u64,
-    failing: Vec<u64>,
+    calls: Calls,
     faults: u64,
 }
 
@@ -40,8 +40,8 @@ impl Model for MemLink {
       waiting = drop l.received l.arriving.items;
       sent = l.sent.items;
       room = l.room;
-      calls = l.calls;
-      failing = l.failing.items;
+      calls = l.calls.count;
+      failing = l.calls.failing.items;
       faults = l.faults;
     } };
 
@@ -60,8 +60,7 @@ impl MemLink {
             received: 0,
             sent: Vec::new(alloc),
             room: 0,
-            calls: 0,
-            failing: Vec::new(alloc),
+            calls: Calls::new(alloc),
             faults: 0,
         }
     }
@@ -94,7 +93,7 @@ impl MemLink {
             ≡ record self.old { failing = self.old.failing ++ call ∷ [] }) }
         ensures err { OnErr result (self.new ≡ self.old) }
     {
-        self.failing.push(call).map_err(|_| NoMemory)
+        self.calls.fail(call)
     }
 
     /// The datagram sent at that place, the first one being at 0: to whom, and its octets. None exactly where fewer were sent.
@@ -113,8 +112,7 @@ impl MemLink {
         ensures ok { OnOk result (self.new ≡ record self.old { calls = one_more self.old.calls }) }
         ensures err { OnErr result (self.new ≡ failed_at self.old) }
     {
-        self.calls = self.calls.saturating_add(1);
-        if self.failing.contains(&self.calls) {
+        if self.calls.begin() {
             return Err(self.fault());
         }
         Ok(())

@@ -3,6 +3,7 @@ ghost use Rattle.rm_edge.specs.Outside.{Absent, File, Reads, HasCause, OfFile, o
 ghost use Rattle.rm_edge.specs.Shelves.{KeepsShelf};
 ghost use Rattle.rm_edge.specs.MemShelf.{is_named, held_in, faults_in, IsToFail};
 
+use super::calls::Calls;
 use super::stored_file::StoredFile;
 use crate::outside::{Failed, Shelf};
 use rm_val::NoMemory;
@@ -17,8 +18,7 @@ pub struct MemShelf {
     alloc: Global,
     files: Vec<StoredFile>,
     absent_faults: u64,
-    calls: u64,
-    failing: Vec<u64>,
+    calls: Calls,
     most: usize,
 }
 
@@ -31,8 +31,8 @@ impl Model for MemShelf {
     ghost view = { λ s. record {
       files = s.files.items;
       absent_faults = s.absent_faults;
-      calls = s.calls;
-      failing = s.failing.items;
+      calls = s.calls.count;
+      failing = s.calls.failing.items;
       most = s.most;
     } };
 
@@ -54,8 +54,7 @@ impl MemShelf {
             alloc,
             files: Vec::new(alloc),
             absent_faults: 0,
-            calls: 0,
-            failing: Vec::new(alloc),
+            calls: Calls::new(alloc),
             most: usize::MAX,
         }
     }
@@ -80,11 +79,10 @@ impl MemShelf {
     /// Lists the number of a read that is to fail, the first read since the shelf was made being 1.
     /// After NoMemory the shelf is as before.
     pub fn fail(&mut self, call: u64) -> Result<(), NoMemory>
-        ensures ok { OnOk result (self.new
-            ≡ record self.old { failing = self.old.failing ++ call ∷ [] }) }
+        ensures ok { OnOk result (self.new ≡ record self.old { failing = self.old.failing ++ call ∷ [] }) }
         ensures err { OnErr result (self.new ≡ self.old) }
     {
-        self.failing.push(call).map_err(|_| NoMemory)
+        self.calls.fail(call)
     }
 
     /// Sets the most octets that one read gives from now on, which must be at least 1.
@@ -130,12 +128,12 @@ impl Shelf for MemShelf {
         ensures failing { self.new.failing ≡ self.old.failing }
         ensures pieces { self.new.most ≡ self.old.most }
     {
-        self.calls = self.calls.saturating_add(1);
+        let fails = self.calls.begin();
         let Some(place) = place_of(&self.files, name) else {
             self.absent_faults = self.absent_faults.saturating_add(1);
             return Err(Failed);
         };
-        if self.failing.contains(&self.calls) {
+        if fails {
             self.files[place].count_fault();
             return Err(Failed);
         }

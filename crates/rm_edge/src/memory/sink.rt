@@ -31,13 +31,7 @@ impl Model for MemSink {
 
     ghost Value = { SinkState };
 
-    ghost view = { λ s. record {
-      bytes = s.bytes.items;
-      room = s.room;
-      calls = s.calls;
-      planned = s.planned.items;
-      faults = s.faults;
-    } };
+    ghost view = { λ s. record { bytes = s.bytes.items; room = s.room; calls = s.calls; planned = s.planned.items; faults = s.faults } };
 
     ghost invariant = { λ s. vec_len s.bytes + s.room ≤ vec_capacity s.bytes };
 }

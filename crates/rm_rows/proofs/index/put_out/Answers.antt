@@ -12,21 +12,12 @@ pub take_entered-requires-clause-order : goal.take_entered-requires-clause-order
 take_entered-requires-clause-order g c = taken_order g.K.Ord.cmp g.met.K.Ord.total c.args.list.now c.args.entered.now.items c.args.index.now.items c.requires.kept c.take_oldest.new.self c.requires.some c.take_oldest.result c.take_oldest.ensures.some c.in-Some.ptr c.in-Some.is c.take_oldest.ensures.nodes
 
 pub take_entered-requires-clause-held : goal.take_entered-requires-clause-held
-take_entered-requires-clause-held g c = (
-  c.in-Some.ptr,
-  taken_in g.K.Ord.cmp g.met.K.Ord.total c.args.list.now c.args.entered.now.items c.args.index.now.items c.requires.kept c.take_oldest.new.self c.requires.some c.take_oldest.result c.take_oldest.ensures.some c.in-Some.ptr c.in-Some.is c.take_oldest.ensures.nodes,
-  (c.row-row.result.now, c.row-row.ensures, refl),
-)
+take_entered-requires-clause-held g c =
+    let among = taken_in g.K.Ord.cmp g.met.K.Ord.total c.args.list.now c.args.entered.now.items c.args.index.now.items c.requires.kept c.take_oldest.new.self c.requires.some c.take_oldest.result c.take_oldest.ensures.some c.in-Some.ptr c.in-Some.is c.take_oldest.ensures.nodes in
+    (c.in-Some.ptr, among, (c.row-row.result.now, c.row-row.ensures, refl))
 
 pub take_key-requires-clause-index : goal.take_key-requires-clause-index
 take_key-requires-clause-index g c = taken_index g.K.Ord.cmp g.met.K.Ord.total c.args.list.now c.args.entered.now.items c.args.index.now.items c.requires.kept c.take_oldest.new.self c.requires.some c.take_oldest.result c.take_oldest.ensures.some c.in-Some.ptr c.in-Some.is c.take_oldest.ensures.nodes
-
-pub take_key-requires-clause-held : goal.take_key-requires-clause-held
-take_key-requires-clause-held g c = (
-  c.in-Some.ptr,
-  taken_member g.K.Ord.cmp g.met.K.Ord.total c.args.list.now c.args.entered.now.items c.args.index.now.items c.requires.kept c.take_oldest.new.self c.requires.some c.take_oldest.result c.take_oldest.ensures.some c.in-Some.ptr c.in-Some.is c.take_oldest.ensures.nodes,
-  (c.row-row.result.now, c.row-row.ensures, refl),
-)
 
 pub unreachable-requires : goal.unreachable-requires
 unreachable-requires g c =
@@ -40,3 +31,8 @@ returns-clause-out g c =
     put_out_is g.K.Ord.cmp g.met.K.Ord.total c.args.list.now c.args.entered.now.items c.args.index.now.items c.requires.kept c.take_oldest.new.self c.requires.some c.take_oldest.result c.take_oldest.ensures.some c.in-Some.ptr c.in-Some.is c.take_oldest.ensures.nodes c.row-row.result.now c.take_entered.new.entered.items c.take_key.new.index.items c.row-row.ensures
     (c.take_entered.ensures.items c.in-Some.ptr among (c.row-row.result.now, c.row-row.ensures, refl))
     (c.take_key.ensures.items c.in-Some.ptr member (c.row-row.result.now, c.row-row.ensures, refl))
+
+pub take_key-requires-clause-held : goal.take_key-requires-clause-held
+take_key-requires-clause-held g c =
+    let among = taken_member g.K.Ord.cmp g.met.K.Ord.total c.args.list.now c.args.entered.now.items c.args.index.now.items c.requires.kept c.take_oldest.new.self c.requires.some c.take_oldest.result c.take_oldest.ensures.some c.in-Some.ptr c.in-Some.is c.take_oldest.ensures.nodes in
+    (c.in-Some.ptr, among, (c.row-row.result.now, c.row-row.ensures, refl))

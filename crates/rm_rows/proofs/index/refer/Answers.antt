@@ -4,7 +4,7 @@ use Rattle.rm_evicting.specs.Row.{without_oldest}
 use Rattle.rm_evicting.proofs.Keys.{exact_key}
 use Rattle.rm_rows.specs.Index.{IsIndex, IsGap, rows_in}
 use Rattle.rm_rows.proofs.KeptLemmas.{is_index, gap_none}
-use Rattle.rm_rows.proofs.TouchLemmas.{touched-held, touched-fresh, touched-full, answer-held, answer-fresh, answer-full, blank_row, rows_count, held_here, held_nowhere, place_within, found_in, found_key_of, holds_renewed}
+use Rattle.rm_rows.proofs.TouchLemmas.{touched-held, touched-fresh, touched-full, answer-held, answer-fresh, answer-full, blank_row, place_within, found_in, is_here, is_away, holds_renewed}
 use Rattle.rm_rows.proofs.index.refer.Goals as goal
 
 pub find-requires : goal.find-requires
@@ -41,50 +41,33 @@ returns-in-Ok-clause-kept g c =
 
 pub returns-in-Ok-clause-rows : goal.returns-in-Ok-clause-rows
 returns-in-Ok-clause-rows g c =
-    let exact = exact_key g.K.PartialEq.eq g.K.Ord.cmp g.met.K.Eq.laws g.met.K.Ord.matches_eq g.met.K.Key.exact in
-    let k = c.requires.kept.kept in let xs = c.args.index.now.items in
-    let member = found_in g.K.Ord.cmp c.args.list.now c.args.index.now c.deref.result.now c.deref.ensures.value c.args.key c.in-Ok.place c.in-Ok.ensures.found c.index.result.now c.index.ensures in
-    let key = found_key_of g.K.Ord.cmp c.args.list.now c.args.index.now c.deref.result.now c.deref.ensures.value c.args.key c.in-Ok.place c.in-Ok.ensures.found c.index.result.now c.index.ensures in
-    c.renew.ensures.rows c.args.entered.now.items xs c.args.key (record { kept = k; member = member; stamps = c.requires.stamp; ticks = c.requires.tick }) key
-    ∙ sym (touched-held g.K.PartialEq.eq g.V.Blank.blank_value c.args.capacity c.args.key c.args.stamp c.args.tick (rows_in c.args.list.now c.args.entered.now.items) (held_here g.K.Ord.cmp g.met.K.Ord.total g.K.PartialEq.eq exact c.args.list.now c.args.entered.now.items xs k c.args.key c.index.result.now member key))
+    let here = is_here g.K.Ord.cmp g.met.K.Ord.total g.K.PartialEq.eq (exact_key g.K.PartialEq.eq g.K.Ord.cmp g.met.K.Eq.laws g.met.K.Ord.matches_eq g.met.K.Key.exact) c.args.list.now c.args.entered.now.items c.args.index.now c.requires.kept.kept c.deref.result.now c.deref.ensures.value c.args.key c.in-Ok.place c.in-Ok.ensures.found c.index.result.now c.index.ensures in
+    c.renew.ensures.rows c.args.entered.now.items c.args.index.now.items c.args.key (record { kept = c.requires.kept.kept; member = here.member; stamps = c.requires.stamp; ticks = c.requires.tick }) here.key
+    ∙ sym (touched-held g.K.PartialEq.eq g.V.Blank.blank_value c.args.capacity c.args.key c.args.stamp c.args.tick (rows_in c.args.list.now c.args.entered.now.items) here.held)
 
 pub returns-in-Ok-clause-answer : goal.returns-in-Ok-clause-answer
 returns-in-Ok-clause-answer g c =
-    let exact = exact_key g.K.PartialEq.eq g.K.Ord.cmp g.met.K.Eq.laws g.met.K.Ord.matches_eq g.met.K.Key.exact in
-    let member = found_in g.K.Ord.cmp c.args.list.now c.args.index.now c.deref.result.now c.deref.ensures.value c.args.key c.in-Ok.place c.in-Ok.ensures.found c.index.result.now c.index.ensures in
-    let key = found_key_of g.K.Ord.cmp c.args.list.now c.args.index.now c.deref.result.now c.deref.ensures.value c.args.key c.in-Ok.place c.in-Ok.ensures.found c.index.result.now c.index.ensures in
-    sym (answer-held g.K.PartialEq.eq c.args.capacity c.args.key (rows_in c.args.list.now c.args.entered.now.items) (held_here g.K.Ord.cmp g.met.K.Ord.total g.K.PartialEq.eq exact c.args.list.now c.args.entered.now.items c.args.index.now.items c.requires.kept.kept c.args.key c.index.result.now member key))
+    let here = is_here g.K.Ord.cmp g.met.K.Ord.total g.K.PartialEq.eq (exact_key g.K.PartialEq.eq g.K.Ord.cmp g.met.K.Eq.laws g.met.K.Ord.matches_eq g.met.K.Key.exact) c.args.list.now c.args.entered.now.items c.args.index.now c.requires.kept.kept c.deref.result.now c.deref.ensures.value c.args.key c.in-Ok.place c.in-Ok.ensures.found c.index.result.now c.index.ensures in
+    sym (answer-held g.K.PartialEq.eq c.args.capacity c.args.key (rows_in c.args.list.now c.args.entered.now.items) here.held)
 
 pub returns-then-len-capacity-clause-rows : goal.returns-then-len-capacity-clause-rows
 returns-then-len-capacity-clause-rows g c =
-    let exact = exact_key g.K.PartialEq.eq g.K.Ord.cmp g.met.K.Eq.laws g.met.K.Ord.matches_eq g.met.K.Key.exact in
-    let gap = subst (λ (l : List Ptr). IsGap g.K.Ord.cmp c.args.list.now l c.args.key c.in-Err.place) c.deref.ensures.value c.in-Err.ensures.absent in
-    let off = held_nowhere g.K.Ord.cmp g.met.K.Ord.total g.K.PartialEq.eq exact c.args.list.now c.args.entered.now.items c.args.index.now.items c.requires.kept.kept c.args.key c.in-Err.place gap in
-    let count = rows_count g.K.Ord.cmp g.met.K.Ord.total g.K.PartialEq.eq exact c.args.list.now c.args.entered.now.items c.args.index.now.items c.requires.kept.kept in
+    let away = is_away g.K.Ord.cmp g.met.K.Ord.total g.K.PartialEq.eq (exact_key g.K.PartialEq.eq g.K.Ord.cmp g.met.K.Eq.laws g.met.K.Ord.matches_eq g.met.K.Key.exact) c.args.list.now c.args.entered.now.items c.args.index.now c.requires.kept.kept c.deref.result.now c.deref.ensures.value c.args.key c.in-Err.place c.in-Err.ensures.absent in
     c.enter.ensures.rows ∙ ap (λ v. rows_in c.args.list.now c.args.entered.now.items ++ blank_row g.K.PartialEq.eq v c.args.key c.args.stamp c.args.tick ∷ []) c.blank.ensures
-    ∙ sym (touched-fresh g.K.PartialEq.eq g.V.Blank.blank_value c.args.capacity c.args.key c.args.stamp c.args.tick (rows_in c.args.list.now c.args.entered.now.items) off (omega arith))
+    ∙ sym (touched-fresh g.K.PartialEq.eq g.V.Blank.blank_value c.args.capacity c.args.key c.args.stamp c.args.tick (rows_in c.args.list.now c.args.entered.now.items) away.off (omega (arith, away.count)))
 
 pub returns-then-len-capacity-clause-answer : goal.returns-then-len-capacity-clause-answer
 returns-then-len-capacity-clause-answer g c =
-    let exact = exact_key g.K.PartialEq.eq g.K.Ord.cmp g.met.K.Eq.laws g.met.K.Ord.matches_eq g.met.K.Key.exact in
-    let gap = subst (λ (l : List Ptr). IsGap g.K.Ord.cmp c.args.list.now l c.args.key c.in-Err.place) c.deref.ensures.value c.in-Err.ensures.absent in
-    let off = held_nowhere g.K.Ord.cmp g.met.K.Ord.total g.K.PartialEq.eq exact c.args.list.now c.args.entered.now.items c.args.index.now.items c.requires.kept.kept c.args.key c.in-Err.place gap in
-    let count = rows_count g.K.Ord.cmp g.met.K.Ord.total g.K.PartialEq.eq exact c.args.list.now c.args.entered.now.items c.args.index.now.items c.requires.kept.kept in
-    sym (answer-fresh g.K.PartialEq.eq c.args.capacity c.args.key (rows_in c.args.list.now c.args.entered.now.items) off (omega arith))
+    let away = is_away g.K.Ord.cmp g.met.K.Ord.total g.K.PartialEq.eq (exact_key g.K.PartialEq.eq g.K.Ord.cmp g.met.K.Eq.laws g.met.K.Ord.matches_eq g.met.K.Key.exact) c.args.list.now c.args.entered.now.items c.args.index.now c.requires.kept.kept c.deref.result.now c.deref.ensures.value c.args.key c.in-Err.place c.in-Err.ensures.absent in
+    sym (answer-fresh g.K.PartialEq.eq c.args.capacity c.args.key (rows_in c.args.list.now c.args.entered.now.items) away.off (omega (arith, away.count)))
 
 pub returns-else-len-capacity-clause-rows : goal.returns-else-len-capacity-clause-rows
 returns-else-len-capacity-clause-rows g c =
-    let exact = exact_key g.K.PartialEq.eq g.K.Ord.cmp g.met.K.Eq.laws g.met.K.Ord.matches_eq g.met.K.Key.exact in
-    let gap = subst (λ (l : List Ptr). IsGap g.K.Ord.cmp c.args.list.now l c.args.key c.in-Err.place) c.deref.ensures.value c.in-Err.ensures.absent in
-    let off = held_nowhere g.K.Ord.cmp g.met.K.Ord.total g.K.PartialEq.eq exact c.args.list.now c.args.entered.now.items c.args.index.now.items c.requires.kept.kept c.args.key c.in-Err.place gap in
-    let count = rows_count g.K.Ord.cmp g.met.K.Ord.total g.K.PartialEq.eq exact c.args.list.now c.args.entered.now.items c.args.index.now.items c.requires.kept.kept in
+    let away = is_away g.K.Ord.cmp g.met.K.Ord.total g.K.PartialEq.eq (exact_key g.K.PartialEq.eq g.K.Ord.cmp g.met.K.Eq.laws g.met.K.Ord.matches_eq g.met.K.Key.exact) c.args.list.now c.args.entered.now.items c.args.index.now c.requires.kept.kept c.deref.result.now c.deref.ensures.value c.args.key c.in-Err.place c.in-Err.ensures.absent in
     c.replace.ensures.rows ∙ ap (λ v. without_oldest (rows_in c.args.list.now c.args.entered.now.items) ++ blank_row g.K.PartialEq.eq v c.args.key c.args.stamp c.args.tick ∷ []) c.blank.ensures
-    ∙ sym (touched-full g.K.PartialEq.eq g.V.Blank.blank_value c.args.capacity c.args.key c.args.stamp c.args.tick (rows_in c.args.list.now c.args.entered.now.items) off (omega arith))
+    ∙ sym (touched-full g.K.PartialEq.eq g.V.Blank.blank_value c.args.capacity c.args.key c.args.stamp c.args.tick (rows_in c.args.list.now c.args.entered.now.items) away.off (omega (arith, away.count)))
 
 pub returns-else-len-capacity-clause-answer : goal.returns-else-len-capacity-clause-answer
 returns-else-len-capacity-clause-answer g c =
-    let exact = exact_key g.K.PartialEq.eq g.K.Ord.cmp g.met.K.Eq.laws g.met.K.Ord.matches_eq g.met.K.Key.exact in
-    let gap = subst (λ (l : List Ptr). IsGap g.K.Ord.cmp c.args.list.now l c.args.key c.in-Err.place) c.deref.ensures.value c.in-Err.ensures.absent in
-    let off = held_nowhere g.K.Ord.cmp g.met.K.Ord.total g.K.PartialEq.eq exact c.args.list.now c.args.entered.now.items c.args.index.now.items c.requires.kept.kept c.args.key c.in-Err.place gap in
-    let count = rows_count g.K.Ord.cmp g.met.K.Ord.total g.K.PartialEq.eq exact c.args.list.now c.args.entered.now.items c.args.index.now.items c.requires.kept.kept in
-    sym (answer-full g.K.PartialEq.eq c.args.capacity c.args.key (rows_in c.args.list.now c.args.entered.now.items) c.replace.result off (omega arith) c.replace.ensures.key)
+    let away = is_away g.K.Ord.cmp g.met.K.Ord.total g.K.PartialEq.eq (exact_key g.K.PartialEq.eq g.K.Ord.cmp g.met.K.Eq.laws g.met.K.Ord.matches_eq g.met.K.Key.exact) c.args.list.now c.args.entered.now.items c.args.index.now c.requires.kept.kept c.deref.result.now c.deref.ensures.value c.args.key c.in-Err.place c.in-Err.ensures.absent in
+    sym (answer-full g.K.PartialEq.eq c.args.capacity c.args.key (rows_in c.args.list.now c.args.entered.now.items) c.replace.result away.off (omega (arith, away.count)) c.replace.ensures.key)

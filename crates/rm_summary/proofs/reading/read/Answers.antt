@@ -1,20 +1,21 @@
 use Rattle.std.proofs.Common.{◌≡◌, Ok, Err, refl, sym, ap, ◌∙◌, arith}
 use Rattle.std.proofs.lemmas.Result.{err_from_is_err_and}
+use Rattle.rm_edge.specs.Uses.{file_use}
 use Rattle.rm_pcap.specs.View.{progress_of}
 use Rattle.rm_pcap.specs.Calls.{Steps}
 use Rattle.rm_pcap.specs.Progress.{frame_of}
-use Rattle.rm_pcap.specs.declared.frame.Step.TheVariants.{Next, End, Cut}
+use Rattle.rm_pcap.specs.declared.frame.Step.TheVariants.{End, Cut}
 use Rattle.rm_summary.specs.declared.reading.Ending.TheVariants as ending
 use Rattle.rm_edge.proofs.Keeping.{keeps_more, quiet_then}
 use Rattle.rm_pcap.specs.declared.fault.PcapFault.TheVariants.{Read}
-use Rattle.rm_summary.proofs.ReadLemmas.{counting_begins, counting_more, counting_stops, lawful_frame, fault_at_first, fault_of_record, few_more}
+use Rattle.rm_summary.proofs.ReadLemmas.{counting_begins, counting_more, counting_stops, is_passed, one_more, fault_at_first, fault_of_record}
 use Rattle.rm_summary.proofs.reading.read.Goals as goal
 
 pub returns-in_err-capture-clause-fault : goal.returns-in_err-capture-clause-fault
 returns-in_err-capture-clause-fault g c =
     let p = err_from_is_err_and c.from_residual.result c.from_residual.ensures.1 in
-    rw (p.1, p.2) (fault_at_first c.args.lead (g.F.Shelf.held c.args.shelf.now c.args.name.now) (g.F.Shelf.faults c.args.shelf.now c.args.name.now) (g.F.Shelf.faults c.begin.new.shelf c.args.name.now) c.in_err-capture.field-0.0
-    c.in_err-capture.ensures.cause (λ absent. let e = sym c.in_err-capture.was ∙ c.begin.ensures.absent absent in cc) c.in_err-capture.ensures.header c.in_err-capture.ensures.kinds)
+    rw (p.1, p.2) (fault_at_first c.args.lead (file_use g.F.Shelf.held g.F.Shelf.faults c.args.shelf.now c.begin.new.shelf c.args.name.now) c.in_err-capture.field-0.0
+    c.in_err-capture.ensures.cause (λ absent. let e = sym c.in_err-capture.was ∙ c.begin.ensures.absent absent in cc) c.in_err-capture.ensures.header)
 
 pub loop-capture-init : goal.loop-capture-init
 loop-capture-init g c = record {
@@ -42,42 +43,29 @@ pub returns-in_err-frame-clause-fault : goal.returns-in_err-frame-clause-fault
 returns-in_err-frame-clause-fault g c =
     let i = c.loop-capture.invariant in
     let p = err_from_is_err_and c.from_residual-in_err-frame.result c.from_residual-in_err-frame.ensures.1 in
-    rw (p.1, p.2) (fault_of_record c.args.lead c.args.keep_short (g.F.Shelf.held c.args.shelf.now c.args.name.now) (g.F.Shelf.faults c.args.shelf.now c.args.name.now) (g.F.Shelf.faults c.next.new.shelf c.args.name.now) (progress_of c.loop-capture.capture) c.loop-capture.counts c.in_err-frame.field-0.0
+    rw (p.1, p.2) (fault_of_record c.args.lead c.args.keep_short (file_use g.F.Shelf.held g.F.Shelf.faults c.args.shelf.now c.next.new.shelf c.args.name.now) (progress_of c.loop-capture.capture) c.loop-capture.counts c.in_err-frame.field-0.0
     (λ e. let rose = c.in_err-frame.ensures.cause e in omega (arith, rose, i.quiet c.args.name.now)) (rw (i.same c.args.name.now) at c.in_err-frame.ensures.faults) i.counting)
 
 pub count-requires-clause-room : goal.count-requires-clause-room
 count-requires-clause-room g c =
-    let i = c.loop-capture.invariant in
-    let steps : Steps (g.F.Shelf.held c.loop-capture.shelf c.args.name.now) (progress_of c.loop-capture.capture) (progress_of c.next.follows.lender-at-none) c.next.result = c.next.follows.holds-at-none in
-    let step : c.next.result ≡ Ok (Next c.in-Next.frame) = c.in_ok-frame.was ∙ ap Ok c.in-Next.is in
-    let (found, passes, shows) = rw step at steps in
-    let (after, is, lawful) = lawful_frame _ _ _ found c.in-Next.frame passes shows in
-    omega (arith, i.few, lawful.number, lawful.few)
+    let passed = is_passed (g.F.Shelf.held c.args.shelf.now c.args.name.now) (g.F.Shelf.held c.loop-capture.shelf c.args.name.now) (progress_of c.loop-capture.capture) (progress_of c.next.follows.lender-at-none) c.next.result c.in-Next.frame (c.loop-capture.invariant.same c.args.name.now) c.next.follows.holds-at-none (c.in_ok-frame.was ∙ ap Ok c.in-Next.is) in
+    omega (arith, c.loop-capture.invariant.few, passed.lawful.number, passed.lawful.few)
 
 pub loop-capture-smaller : goal.loop-capture-smaller
 loop-capture-smaller g c =
-    let i = c.loop-capture.invariant in
-    let steps : Steps (g.F.Shelf.held c.loop-capture.shelf c.args.name.now) (progress_of c.loop-capture.capture) (progress_of c.next.follows.lender-at-none) c.next.result = c.next.follows.holds-at-none in
-    let step : c.next.result ≡ Ok (Next c.in-Next.frame) = c.in_ok-frame.was ∙ ap Ok c.in-Next.is in
-    let (found, passes, shows) = rw step at steps in
-    let (after, is, lawful) = lawful_frame _ _ _ found c.in-Next.frame passes shows in
-    let passed = few_more _ _ _ _ after found is passes lawful in
-    omega (arith, passed, lawful.number, lawful.few)
+    let passed = is_passed (g.F.Shelf.held c.args.shelf.now c.args.name.now) (g.F.Shelf.held c.loop-capture.shelf c.args.name.now) (progress_of c.loop-capture.capture) (progress_of c.next.follows.lender-at-none) c.next.result c.in-Next.frame (c.loop-capture.invariant.same c.args.name.now) c.next.follows.holds-at-none (c.in_ok-frame.was ∙ ap Ok c.in-Next.is) in
+    omega (arith, one_more _ _ _ _ passed, passed.lawful.number, passed.lawful.few)
 
 pub loop-capture-preserved : goal.loop-capture-preserved
 loop-capture-preserved g c =
     let i = c.loop-capture.invariant in
-    let steps : Steps (g.F.Shelf.held c.loop-capture.shelf c.args.name.now) (progress_of c.loop-capture.capture) (progress_of c.next.follows.lender-at-none) c.next.result = c.next.follows.holds-at-none in
-    let step : c.next.result ≡ Ok (Next c.in-Next.frame) = c.in_ok-frame.was ∙ ap Ok c.in-Next.is in
-    let (found, passes, shows) = rw step at steps in
-    let (after, is, lawful) = lawful_frame _ _ _ found c.in-Next.frame passes shows in
-    let passed = few_more _ _ _ _ after found is passes lawful in
+    let passed = is_passed (g.F.Shelf.held c.args.shelf.now c.args.name.now) (g.F.Shelf.held c.loop-capture.shelf c.args.name.now) (progress_of c.loop-capture.capture) (progress_of c.next.follows.lender-at-none) c.next.result c.in-Next.frame (c.loop-capture.invariant.same c.args.name.now) c.next.follows.holds-at-none (c.in_ok-frame.was ∙ ap Ok c.in-Next.is) in
     record {
       same = λ each. c.in_ok-frame.ensures.shelf.constant each ∙ i.same each;
       quiet = λ each. c.in_ok-frame.ensures.shelf.quiet (λ e. cc) each ∙ i.quiet each;
-      few = omega (arith, i.few, c.count.ensures.frames, passed);
-      counting = counting_more c.args.lead c.args.keep_short (g.F.Shelf.held c.args.shelf.now c.args.name.now) (progress_of c.loop-capture.capture) (progress_of c.next.follows.lender-at-none) (frame_of c.in-Next.frame) after c.loop-capture.counts c.count.new.self
-          (rw (i.same c.args.name.now, is) at passes) c.count.ensures.counted i.counting;
+      few = omega (arith, i.few, c.count.ensures.frames, one_more _ _ _ _ passed);
+      counting = counting_more c.args.lead c.args.keep_short (g.F.Shelf.held c.args.shelf.now c.args.name.now) (progress_of c.loop-capture.capture) (progress_of c.next.follows.lender-at-none) (frame_of c.in-Next.frame) passed.after c.loop-capture.counts c.count.new.self
+          passed.passes c.count.ensures.counted i.counting;
     }
 
 pub returns-in-End-clause-counted : goal.returns-in-End-clause-counted

@@ -16,5 +16,5 @@ pub returns-clause-text : goal.returns-clause-text
 returns-clause-text g c =
     let counts = c.args.summary.now.counts in
     puts_then _ _ _ (figure_lines (figure_in counts) figures) (line (ending_word c.args.summary.now.ending) (figure_in counts Frames)) c.deref.result.now c.put.result
-    (c.deref.ensures.0 ∙ c.line.ensures ∙ ap (λ (word : List ℕ). line word c.figure.result) c.word.ensures.is ∙ ap (line (ending_word c.args.summary.now.ending)) c.figure.ensures)
+    (c.deref.ensures.0 ∙ c.line.ensures ∙ ap (λ (word : List ℕ). line word c.figure.result) c.word.ensures ∙ ap (line (ending_word c.args.summary.now.ending)) c.figure.ensures)
     c.in_ok-write_figures.ensures.text c.put.ensures.octets

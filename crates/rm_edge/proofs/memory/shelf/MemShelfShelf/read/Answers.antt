@@ -20,8 +20,8 @@ returns-in_default c =
       pieces = search rules;
     }
 
-pub returns-then-contains : goal.returns-then-contains
-returns-then-contains c =
+pub returns-then-fails : goal.returns-then-fails
+returns-then-fails c =
     let place : position (is_named c.args.name.now) c.self.inside.files.items ≡ Some c.in-Some.place = rw (← c.deref.ensures.value, ← c.place_of.ensures) c.in-Some.is in
     let stands = stands_at c.self.inside.files.items c.args.name.now c.in-Some.place c.index_mut.result.now place c.index_mut.ensures.value in
     let counts = counts_fault c.self.inside.files.items c.in-Some.place c.self.inside.absent_faults c.index_mut.result.now c.count_fault.new.self c.args.name.now stands c.count_fault.ensures.counted c.count_fault.ensures.later in
