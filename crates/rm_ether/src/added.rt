@@ -39,12 +39,7 @@ pub fn added(counter: Counter, facts: &Facts) -> u64
 pub fn add(sum: &mut u64, counter: Counter, facts: &Facts)
     ensures { sum.new ≡ (sum.old + counted counter facts.now) % 2 ^ 64 }
 {
-    let more = added(counter, facts);
-    let before = *sum;
-    // Most counters don't count a frame, and their sums aren't written.
-    if more > 0 {
-        *sum = before.wrapping_add(more);
-    }
+    *sum = sum.wrapping_add(added(counter, facts));
 }
 
 // 1 for a frame that counts, 0 for one that doesn't.
