@@ -10,6 +10,7 @@ mod Cells
 pub mod Intervals
 pub mod Sums
 mod Pace
+mod Following
 mod Watching
 pub mod Dues
 pub mod ShownRows

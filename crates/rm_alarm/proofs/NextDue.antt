@@ -42,7 +42,7 @@ due_is rows settings journal is kept i = by_row (row_in rows i) refl
 pub next_by : (due other : ℕ → Option ℕ) (next : Option (ℕ × ℕ)) → ((i : ℕ) → due i ≡ other i) → IsNextDue due next → IsNextDue other next
 next_by due other next same is = subst (λ (f : ℕ → Option ℕ). IsNextDue f next) (λ d i. same i d) is
 
-abbrev due_in_row : Option (Row AlarmRow) → Option ℕ
+abbrev pub due_in_row : Option (Row AlarmRow) → Option ℕ
 due_in_row = option_and_then (λ (row : Row AlarmRow). option_map (λ course. course.due) row.columns.course)
 
 -- a change that leaves what is kept of samples

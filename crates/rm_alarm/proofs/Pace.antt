@@ -46,7 +46,7 @@ no_first None p h = refl
 no_first (Some x) p h = cc
 
 -- an alarm that keeps something of its samples has an interval
-has_interval : (s : State) (o : Option ℤ) (course : Course) → is_paced s o (Some course) ≡ true → 1 ≤ nat_abs (unwrap_or o (pos 0))
+pub has_interval : (s : State) (o : Option ℤ) (course : Course) → is_paced s o (Some course) ≡ true → 1 ≤ nat_abs (unwrap_or o (pos 0))
 has_interval s (Some z) course is = grind (arith, nat_tests)
 has_interval Valid None course is = absurd (cc)
 has_interval UnderCreation None course is = absurd (cc)

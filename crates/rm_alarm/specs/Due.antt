@@ -1,5 +1,5 @@
 -- Which sample is due next, by the rows.
-use Rattle.std.specs.Prelude.{◌≡◌, ◌⊎◌, ℕ, ◌<◌, ◌≤◌, List, Option, Some, None}
+use Rattle.std.specs.Prelude.{◌≡◌, ◌⊎◌, ℕ, ◌<◌, ◌≤◌, List, Bool, false, nat_eq, Option, Some, None}
 use Rattle.std.specs.Option.{option_and_then, option_map}
 use Rattle.std.proofs.Common.{inl, inr, ap, arith}
 use Rattle.std.proofs.Props.{props}
@@ -12,6 +12,15 @@ use Rattle.rm_alarm.specs.declared.row.AlarmRow.{AlarmRow}
 abbrev pub due_at : List (Row AlarmRow) → ℕ → Option ℕ
 due_at rows alarm =
     option_and_then (λ (row : Row AlarmRow). option_map (λ course. course.due) row.columns.course) (row_in rows alarm)
+
+-- whether the sample that is taken next is one of an alarm
+abbrev pub is_of : Option (ℕ × ℕ) → ℕ → Bool
+is_of None alarm = false
+is_of (Some next) alarm = nat_eq next.1 alarm
+
+-- all samples are due after a moment, or at it and of an alarm above one
+abbrev pub AreBehind : (ℕ → Option ℕ) → ℕ → ℕ → Type 0
+AreBehind due moment last = (other later : ℕ) → due other ≡ Some later → (moment < later) ⊎ ((moment ≡ later) × (last < other))
 
 either_prop : {One Other : Type 0} → IsProp One → IsProp Other → (One → Other → ⊥) → IsProp (One ⊎ Other)
 either_prop one other apart (inl a) (inl b) = ap inl (one a b)

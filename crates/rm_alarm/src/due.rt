@@ -1,7 +1,7 @@
 // Which sample is due next.
-ghost use Rattle.std.specs.Prelude.{◌≡◌};
+ghost use Rattle.std.specs.Prelude.{◌≡◌, true, Some};
 ghost use Rattle.rm_acts.specs.Alarms.{IsNextDue, nearer};
-ghost use Rattle.rm_alarm.specs.Due.{due_at};
+ghost use Rattle.rm_alarm.specs.Due.{due_at, is_of, AreBehind};
 
 use crate::alarms::Alarms;
 use crate::row::AlarmRow;
@@ -20,6 +20,37 @@ pub(crate) fn earliest(rows: &Controls<AlarmRow>) -> Option<(u64, u32)>
         last = index;
     }
     next
+}
+
+/// The same once an alarm took its sample at a moment, in milliseconds. `first` says that it was the one that came next: then the one
+/// above it often comes next, and the others aren't looked at.
+pub(crate) fn following(
+    rows: &Controls<AlarmRow>,
+    first: bool,
+    moment: u32,
+    last: u32,
+) -> Option<(u64, u32)>
+    requires { first ≡ true → AreBehind (due_at rows.now) moment last }
+    ensures { IsNextDue (due_at rows.now) result }
+{
+    if first {
+        if let Some(index) = rows.after(last) {
+            if is_due(due(rows, index), moment) {
+                return Some((u64::from(moment), index));
+            }
+        }
+    }
+    earliest(rows)
+}
+
+/// Whether the sample that is taken next is one of this alarm.
+pub(crate) fn is_of(next: Option<(u64, u32)>, index: u32) -> bool
+    ensures { result ≡ is_of next index }
+{
+    match next {
+        Some((_, number)) => number == index,
+        None => false,
+    }
 }
 
 impl FallsDue for Alarms {
@@ -50,6 +81,16 @@ fn due(rows: &Controls<AlarmRow>, index: u32) -> Option<u64>
     match rows.get(index)?.course {
         Some(course) => Some(course.due),
         None => None,
+    }
+}
+
+// Whether a sample is due at this moment.
+fn is_due(due: Option<u64>, moment: u32) -> bool
+    ensures { result ≡ true → due ≡ Some moment }
+{
+    match due {
+        Some(due) => due == u64::from(moment),
+        None => false,
     }
 }
 

@@ -14,7 +14,7 @@ ghost use Rattle.rm_alarm.specs.Left.{samples_left};
 ghost use Rattle.rm_alarm.specs.Taking.{HasTaken};
 
 use crate::alarms::Alarms;
-use crate::due::earliest;
+use crate::due::{following, is_of};
 use crate::row::AlarmRow;
 use rm_acts::Sampled;
 use rm_group::Look;
@@ -52,15 +52,16 @@ impl Alarms {
         ensures fewer { (latest : ℕ) → moment ≤ latest → samples_left self.new latest < samples_left self.old latest }
     {
         prove!(self.rows.len() <= 32);
+        let first = is_of(self.next, index);
         match read(&self.rows, index, moment, look) {
             Some(reading) => {
                 let sampled = take(&mut self.rows, index, moment, reading.value);
-                self.next = earliest(&self.rows);
+                self.next = following(&self.rows, first, moment, index);
                 sampled
             }
             None => {
                 self.rows.remove(index);
-                self.next = earliest(&self.rows);
+                self.next = following(&self.rows, first, moment, index);
                 Sampled::Gone
             }
         }
@@ -73,7 +74,7 @@ fn read<L: Look>(rows: &Controls<AlarmRow>, index: u32, moment: u32, look: &L) -
         → result ≡ L.readings look.now moment (variable_kept row.columns) }
 {
     match rows.get(index) {
-        Some(row) => look.reading(&row.variable(), moment),
+        Some(row) => row.reading(moment, look),
         None => None,
     }
 }

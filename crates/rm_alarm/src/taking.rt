@@ -10,6 +10,8 @@ use crate::course::Course;
 use crate::row::AlarmRow;
 use crate::sample_type::SampleType;
 use rm_acts::Sampled;
+use rm_group::Look;
+use rm_model::Reading;
 use rm_val::Oid;
 
 impl AlarmRow {
@@ -20,6 +22,16 @@ impl AlarmRow {
         match &self.variable {
             Some(name) => name.copied(),
             None => Oid::from_slice(&[0, 0]).unwrap(),
+        }
+    }
+
+    /// What its variable reads at a moment, in milliseconds.
+    pub fn reading<L: Look>(&self, moment: u32, look: &L) -> Option<Reading>
+        ensures { result ≡ L.readings look.now moment (variable_kept self.now) }
+    {
+        match &self.variable {
+            Some(name) => look.reading(name, moment),
+            None => look.reading(&self.variable(), moment),
         }
     }
 

@@ -19,6 +19,7 @@ use Rattle.rm_status.proofs.RowFacts.{row_there}
 use Rattle.rm_alarm.proofs.RowFacts.{variable_is}
 use Rattle.rm_alarm.proofs.Samples.{Based, rows_samples, kept_samples, based_samples, sample_comes_to}
 use Rattle.rm_alarm.proofs.Taken.{Due, due_row, spelled_taken, spelled_gone, rows_gone, kept_gone, based_gone}
+use Rattle.rm_alarm.proofs.Following.{behind_taken, behind_gone}
 use Rattle.rm_alarm.proofs.Pace.{paced_taken, paced_gone, fewer_taken, fewer_gone}
 use Rattle.rm_alarm.proofs.alarms.Alarms.sample.Goals as goal
 
@@ -31,6 +32,16 @@ reads : (rows : List (Row AlarmRow)) (held : AreControlRows alarm_table rows) (j
 reads rows held journal is index moment due readings read o told same =
     ap number_read (sym same ∙ told due.row due.here ∙ ap readings (variable_is rows journal is index due.row due.here (row_there alarm_table rows index due.row held due.here)))
 
+pub following-self-requires : goal.following-self-requires
+following-self-requires g c first =
+    let fits : SFits w64 c.in-Some.reading.value = search rules in
+    let taken : HasTaken c.args.self.now.rows c.take-sampled.new.rows c.args.index c.args.moment c.in-Some.reading.value c.take-sampled.result = simp (to_z-of_z, fits) at c.take-sampled.ensures in
+    behind_taken c.args.self.now.rows c.take-sampled.new.rows c.args.index c.args.moment c.args.self.now.next c.requires c.args.self.now.nearest (sym c.is_of-first.ensures ∙ first) c.in-Some.reading.value c.take-sampled.result c.args.self.now.paced taken
+
+pub following-self-requires-in-None : goal.following-self-requires-in-None
+following-self-requires-in-None g c first =
+    behind_gone c.args.self.now.rows c.remove.new.self c.args.index c.args.moment c.args.self.now.next c.requires c.args.self.now.nearest (sym c.is_of-first.ensures ∙ first) c.remove.ensures
+
 pub invariant_of-self : goal.invariant_of-self
 invariant_of-self g c =
     let fits : SFits w64 c.in-Some.reading.value = search rules in
@@ -39,7 +50,7 @@ invariant_of-self g c =
     record {
       spelled = spelled_taken c.args.self.now.rows c.take-sampled.new.rows c.args.index c.args.moment c.in-Some.reading.value c.take-sampled.result due taken c.args.self.now.spelled;
       paced = paced_taken c.args.self.now.rows c.take-sampled.new.rows c.args.index c.args.moment c.in-Some.reading.value c.take-sampled.result due taken c.args.self.now.paced;
-      nearest = c.earliest-self.ensures;
+      nearest = c.following-self.ensures;
     }
 
 pub returns-in-Some : goal.returns-in-Some
@@ -74,7 +85,7 @@ invariant_of-self-in-None g c =
     record {
       spelled = spelled_gone c.args.self.now.rows c.remove.new.self c.args.index c.remove.ensures c.args.self.now.spelled;
       paced = paced_gone c.args.self.now.rows c.remove.new.self c.args.index c.remove.ensures c.args.self.now.paced;
-      nearest = c.earliest-self-in-None.ensures;
+      nearest = c.following-self-in-None.ensures;
     }
 
 pub returns-in-None : goal.returns-in-None
