@@ -39,16 +39,16 @@ Reads Absent at into result = IsErr result
 Reads (File bytes) at into (Ok count) = Gives bytes at count into
 Reads (File bytes) at into (Err e) = Unit {0}
 
--- the octets held are those before, and these; nothing is said where they aren't told
-abbrev pub Adds : Option (List ℕ) → Option (List ℕ) → List ℕ → Type 0
+-- what is held is what was before, and these, octets or datagrams; nothing is said where it isn't told
+abbrev pub Adds : {A : Type 0} → Option (List A) → Option (List A) → List A → Type 0
 Adds None new piece = Unit {0}
 Adds (Some old) new piece = new ≡ Some (old ++ piece)
 
 -- a front of the piece was added
-abbrev pub AddsFront : Option (List ℕ) → Option (List ℕ) → List ℕ → Type 0
+abbrev pub AddsFront : {A : Type 0} → Option (List A) → Option (List A) → List A → Type 0
 AddsFront old new piece = (n : ℕ) × Adds old new (take n piece)
 
 -- a put adds the whole piece, or fails and adds a front of it
-abbrev pub Puts : {T E : Type 0} → Option (List ℕ) → Option (List ℕ) → List ℕ → Result T E → Type 0
+abbrev pub Puts : {A T E : Type 0} → Option (List A) → Option (List A) → List A → Result T E → Type 0
 Puts old new piece (Ok done) = Adds old new piece
 Puts old new piece (Err e) = AddsFront old new piece
