@@ -1,4 +1,7 @@
 // What frames and Sets make of the sums of each row.
+ghost use Rattle.std.specs.Prelude.{◌≡◌};
+ghost use Rattle.rm_ether.specs.Counted.{counted};
+ghost use Rattle.rm_ether.specs.Standing.{sums_of};
 ghost use Rattle.rm_ether.specs.StatisticsRows.{counting, resting};
 
 use crate::row::StatisticsRow;
@@ -8,10 +11,25 @@ use rm_proto::Facts;
 use rm_status::Change;
 
 /// A frame is counted in each valid row whose data source is the interface of the frame.
-#[derive(Clone, Copy)]
+#[derive(Drop)]
 pub struct Adding<'a> {
     /// The facts of the frame.
     pub facts: &'a Facts,
+    /// What it adds to each sum, worked out once for all rows.
+    pub added: Statistics,
+    ghost worked_out: { added ≡ sums_of (λ each. counted each facts.now) },
+}
+
+impl<'a> Adding<'a> {
+    /// Of a frame with these facts.
+    pub fn of(facts: &'a Facts) -> Adding<'a>
+        ensures { result.facts.now ≡ facts.now }
+    {
+        Adding {
+            facts,
+            added: Statistics::of_frame(facts),
+        }
+    }
 }
 
 impl Change<StatisticsRow> for Adding<'_> {
@@ -21,7 +39,7 @@ impl Change<StatisticsRow> for Adding<'_> {
         match state {
             State::Valid => {
                 if columns.source == self.facts.interface {
-                    columns.statistics.count(self.facts);
+                    columns.statistics.add(&self.added);
                 }
             }
             _ => {}

@@ -63,7 +63,8 @@ impl Ether {
         ensures frames { frames_given self.new ≡ frames_given self.old + 1 }
         ensures last { last_given self.new ≡ moment }
     {
-        self.rows.change_each(&Adding { facts });
+        let adding = Adding::of(facts);
+        self.rows.change_each(&adding);
         self.frames += 1;
         self.last = moment;
     }

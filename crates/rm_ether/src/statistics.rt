@@ -1,7 +1,7 @@
 // What a row of etherStats counts.
-ghost use Rattle.std.specs.Prelude.{◌≡◌, ◌+◌, ◌<◌, ◌≤◌};
+ghost use Rattle.std.specs.Prelude.{◌≡◌, ◌+◌, ◌%◌, ◌^◌, ◌<◌, ◌≤◌};
 
-use crate::added::add;
+use crate::added::{add, added};
 use crate::counter::Counter;
 use rm_group::{MOST_FRAMES, MOST_OCTETS};
 use rm_proto::Facts;
@@ -31,8 +31,8 @@ pub struct Statistics {
 }
 
 impl Statistics {
-    ghost use Rattle.rm_ether.specs.Counted.{counted_from};
-    ghost use Rattle.rm_ether.specs.Standing.{counter_of, no_sums, with_frame, AreBounded};
+    ghost use Rattle.rm_ether.specs.Counted.{counted, counted_from};
+    ghost use Rattle.rm_ether.specs.Standing.{counter_of, sums_of, no_sums, with_frame, AreBounded};
     ghost use Rattle.rm_ether.specs.declared.counter.Counter.{Counter};
 
     /// Of no frame.
@@ -96,6 +96,44 @@ impl Statistics {
             Counter::Pkts1024to1518Octets,
             facts,
         );
+    }
+
+    /// What a frame adds to each sum.
+    pub fn of_frame(facts: &Facts) -> Statistics
+        ensures { result ≡ sums_of (λ each. counted each facts.now) }
+    {
+        Statistics {
+            packets: added(Counter::Pkts, facts),
+            octets: added(Counter::Octets, facts),
+            broadcast: added(Counter::BroadcastPkts, facts),
+            multicast: added(Counter::MulticastPkts, facts),
+            undersize: added(Counter::UndersizePkts, facts),
+            oversize: added(Counter::OversizePkts, facts),
+            of_64: added(Counter::Pkts64Octets, facts),
+            of_65_to_127: added(Counter::Pkts65to127Octets, facts),
+            of_128_to_255: added(Counter::Pkts128to255Octets, facts),
+            of_256_to_511: added(Counter::Pkts256to511Octets, facts),
+            of_512_to_1023: added(Counter::Pkts512to1023Octets, facts),
+            of_1024_to_1518: added(Counter::Pkts1024to1518Octets, facts),
+        }
+    }
+
+    /// Adds other sums to them, each modulo 2^64.
+    pub fn add(&mut self, more: &Statistics)
+        ensures { self.new ≡ sums_of (λ each. (counter_of self.old each + counter_of more.now each) % 2 ^ 64) }
+    {
+        self.packets = self.packets.wrapping_add(more.packets);
+        self.octets = self.octets.wrapping_add(more.octets);
+        self.broadcast = self.broadcast.wrapping_add(more.broadcast);
+        self.multicast = self.multicast.wrapping_add(more.multicast);
+        self.undersize = self.undersize.wrapping_add(more.undersize);
+        self.oversize = self.oversize.wrapping_add(more.oversize);
+        self.of_64 = self.of_64.wrapping_add(more.of_64);
+        self.of_65_to_127 = self.of_65_to_127.wrapping_add(more.of_65_to_127);
+        self.of_128_to_255 = self.of_128_to_255.wrapping_add(more.of_128_to_255);
+        self.of_256_to_511 = self.of_256_to_511.wrapping_add(more.of_256_to_511);
+        self.of_512_to_1023 = self.of_512_to_1023.wrapping_add(more.of_512_to_1023);
+        self.of_1024_to_1518 = self.of_1024_to_1518.wrapping_add(more.of_1024_to_1518);
     }
 
     /// The value of a counter. That of frames that were lost, damaged or collided is 0, since a capture doesn't have these.
