@@ -1,5 +1,5 @@
 -- How the parts of a run make its end.
-use Rattle.std.proofs.Common.{◌≡◌, ◌⊎◌, ℕ, List, [], Option, Some, None, Result, Ok, Err, refl, sym, ap, ◌∙◌, subst, arith, inl, inr}
+use Rattle.std.proofs.Common.{◌≡◌, ◌⊎◌, ℕ, List, [], Option, Result, Ok, Err, refl, sym, ap, ◌∙◌, subst, arith, inl, inr}
 use Rattle.rm_edge.specs.Outside.{Held, File, OfFile, AddsFront}
 use Rattle.rm_model.specs.Journal.{Frame}
 use Rattle.rm_pcap.specs.Records.{Stop, Broken, AreRecords, ReadsAs, beginning}
@@ -8,12 +8,15 @@ use Rattle.rm_pcap.specs.Progress.{Progress, begun}
 use Rattle.rm_pcap.specs.Calls.{BeginsAs, IsFirstFault}
 use Rattle.rm_pcap.specs.declared.form.Form.{Form}
 use Rattle.rm_pcap.specs.declared.fault.PcapFault.{PcapFault}
-use Rattle.rm_pcap.specs.declared.fault.PcapFault.TheVariants.{Magic, Version, LinkType, Included, Original, Late, TooMany, Read, NoMemory as OutOfMemory}
+use Rattle.rm_pcap.specs.declared.fault.PcapFault.TheVariants.{Magic, Version, LinkType, Read, NoMemory as OutOfMemory}
 use Rattle.rm_agent.specs.declared.settings.Settings.{Settings}
 use Rattle.rm_probe.specs.Capture.{IsFaultless, IsCapture, IsCaptureFile, IsBroken, CallsFor, status_of}
 use Rattle.rm_requests.specs.Lines.{TimedDatagram, requests_of, AreRequests, HasTooManyLines, IsRequestFile, IsWrongAt}
 use Rattle.rm_requests.specs.declared.fault.RequestsFault.{RequestsFault}
 use Rattle.rm_requests.specs.declared.fault.RequestsFault.TheVariants.{Line, TooLong as TooManyLines, Read as ReadFailed}
+use Rattle.rm_agent.specs.Orderly.{IsOrderly}
+use Rattle.rm_probe.specs.Said.{lines}
+use Rattle.rm_probe.specs.Output.{adds_none}
 use Rattle.rm_probe.specs.Text.{IsText}
 use Rattle.rm_probe.specs.Steps.{FindsAnother, IsNotCapture, IsNotLeft, IsNotRequests, JudgesCapture, Leaves, Writes}
 use Rattle.rm_probe.specs.Requests.{JudgesRequests, status_by}
@@ -22,6 +25,14 @@ use Rattle.rm_probe.specs.Ends.{Ends, OfBoth, JudgesFiles, IsExact, IsComplete, 
 use Rattle.rm_probe.specs.declared.status.Status.{Status}
 use Rattle.rm_probe.specs.declared.status.Status.TheVariants.{Done, Usage, BadCapture, BadRequests, ReadFault, WriteFault, NoMemory, LinkFault, TooLong}
 use Rattle.rm_probe.proofs.RecordLemmas.{leaves_all, of_told}
+use Rattle.rm_probe.proofs.PassingLemmas.{SomethingSaid}
+use Rattle.rm_probe.proofs.RunLemmas.{said_none}
+
+-- a run that has written nothing has written a front
+pub text_none : (settings : Settings) → SomethingSaid → IsOrderly [] → (old : Option (List ℕ)) (frames : List Frame) (stop : Stop) (requests : List TimedDatagram) → (text : List ℕ) × IsText settings frames stop requests text × AddsFront old old text
+text_none settings every orderly old frames stop requests =
+    let (said, is) = said_none settings every orderly frames stop requests in
+    (lines said, record { said = said; is_run = is; whole = refl }, (0, adds_none old))
 
 module _ (lead : ℕ) where
   -- the header of a capture has no fault

@@ -1,8 +1,9 @@
 -- Frames that pass up to a moment.
-use Rattle.std.proofs.Common.{◌≡◌, ℕ, suc, ◌+◌, ◌<◌, ◌≤◌, true, false, List, [], ◌∷◌, ◌++◌, length, take, drop, Option, Some, None, Ok, Err, inl, inr, refl, sym, ap, subst, ◌∙◌, arith, take_while, append_assoc}
+use Rattle.std.proofs.Common.{◌≡◌, ℕ, suc, ◌+◌, ◌<◌, ◌≤◌, true, false, List, [], ◌∷◌, ◌++◌, length, map, take, drop, Option, Some, None, Err, inl, inr, refl, sym, ap, subst, ◌∙◌, arith, take_while, append_assoc}
 use Rattle.std.specs.Prelude.{⊤}
 use Rattle.std.specs.List.{prefix_len}
 use Rattle.std.proofs.lemmas.List.{append-nil}
+use mathlib.Core.List.{map-append}
 use Rattle.std.proofs.lemmas.Bool.Decides.{nat_tests}
 use Rattle.rm_edge.specs.Outside.{Held, File}
 use Rattle.rm_model.specs.Journal.{Frame, Journal, passes}
@@ -10,20 +11,19 @@ use Rattle.rm_pcap.specs.Records.{Stop, Broken, Found, Whole, Stops as StopsAt}
 use Rattle.rm_pcap.specs.Progress.{Progress, next_in, moment_found, passing, Shows, frame_of, IsLawfulFind}
 use Rattle.rm_pcap.specs.Calls.{Looks, Passes, Fails, IsBroken}
 use Rattle.rm_pcap.specs.declared.frame.Frame.{Frame as Lent}
-use Rattle.rm_pcap.specs.declared.frame.Step.{Step}
 use Rattle.rm_pcap.specs.declared.frame.Step.TheVariants.{Next}
 use Rattle.rm_pcap.specs.declared.fault.PcapFault.{PcapFault}
 use Rattle.rm_pcap.specs.declared.fault.PcapFault.TheVariants.{Magic, Version, LinkType, Included, Original, Late, TooMany, Read, NoMemory}
 use Rattle.rm_pcap.specs.declared.reach.Reach.{Reach}
 use Rattle.rm_agent.specs.declared.settings.Settings.{Settings}
 use Rattle.rm_probe.specs.Advance.{IsAdvanced}
-use Rattle.rm_probe.specs.Events.{Event, comings, is_by, frames_after}
+use Rattle.rm_probe.specs.Events.{is_by, frames_after}
 use Rattle.rm_probe.specs.Probe.{settings_of, last_given, frames_given, Stands}
-use Rattle.rm_probe.specs.Steps.{ArePassing, HasBegun, Advanced, Advances, Finishes, IsNotBefore, Keeps, Leaves}
-use Rattle.rm_probe.specs.Notes.{Note, Sent, trap_lines}
-use Rattle.rm_probe.specs.Text.{AreLines, last_line}
+use Rattle.rm_probe.specs.Steps.{ArePassing, HasBegun, Advanced, Advances, IsNotBefore, Keeps, Leaves}
+use Rattle.rm_probe.specs.Notes.{Note}
+use Rattle.rm_probe.specs.Said.{Said, Notified, Sent}
 use Rattle.rm_probe.specs.declared.probe.Probe.{Probe}
-use Rattle.rm_probe.proofs.PassingLemmas.{all_frames, passing_more, lines_after}
+use Rattle.rm_probe.proofs.PassingLemmas.{passing_more}
 use Rattle.rm_probe.proofs.RecordLemmas.{leaves_looking, leaves_passing, leaves_first, leaves_none}
 
 -- of the frames left, so many have passed, with these notifications
@@ -193,16 +193,6 @@ advances_fault m held bytes old now new probe probe' probe'' notes (Late at) is 
 advances_fault m held bytes old now new probe probe' probe'' notes TooMany is fails p = λ frames stop journal left stands. let q = p frames stop journal left stands in broken held bytes now q.left stop TooMany (λ e. cc) is fails.cause q.leaves
 advances_fault m held bytes old now new probe probe' probe'' notes NoMemory is fails p = λ frames stop journal left stands. let q = p frames stop journal left stands in broken held bytes now q.left stop NoMemory (λ e. cc) is fails.cause q.leaves
 
--- the lines of all frames
-lines_of_all : (settings : Settings) (frames : List Frame) (journal : Journal) (notes : List Note) (reached : Journal) → frames_after 4294967295 frames ≡ [] → ArePassing settings journal (take_while (is_by 4294967295) frames) notes reached
-    → AreLines settings journal (comings frames) (trap_lines notes)
-unfolding AreLines
-lines_of_all settings frames journal notes reached none passing =
-    let taken : List Frame = take_while (is_by 4294967295) frames in
-    let whole : comings taken ++ [] ≡ comings frames = append-nil (comings taken) ∙ ap comings (sym (append-nil taken) ∙ ap (λ (fs : List Frame). taken ++ fs) (sym none) ∙ all_frames 4294967295 frames) in
-    subst (λ (es : List Event). AreLines settings journal es (trap_lines notes)) whole
-    (subst (λ (t : List ℕ). AreLines settings journal (comings taken ++ []) t) (append-nil (trap_lines notes)) (lines_after settings journal taken notes reached [] [] passing refl))
-
 -- what stands next isn't before the last moment given, where a look found it
 pub keeps_looking : (held : Held) (moment : ℕ) (probe : Probe) (old new : Progress) (found : Found) → Looks held old new found → Keeps moment probe old → Keeps moment probe new
 keeps_looking held moment probe old new found looks keeps =
@@ -249,7 +239,7 @@ pub keeps_begun : (probe : Probe) (progress : Progress) → last_given probe ≡
 keeps_begun probe progress first keeps = subst (λ (m : ℕ). Keeps m probe progress) (sym first) keeps
 
 -- a capture whose frames pass up to a moment
-pub record Advancing {F N : Type 0} (held : F → List ℕ → Held) (faults : F → List ℕ → ℕ) (first now : F) (name : List ℕ) (since : N → N → List Note → Type 0) (notes notes' : N) (moment : ℕ) (old progress : Progress) (probe probe' : Probe) : Type 0 where
+pub record Advancing {F N : Type 0} (held : F → List ℕ → Held) (faults : F → List ℕ → ℕ) (first now : F) (name : List ℕ) (since : N → N → List Said → Type 0) (notes notes' : N) (moment : ℕ) (old progress : Progress) (probe probe' : Probe) : Type 0 where
   pub same : (each : List ℕ) → held now each ≡ held first each
   pub quiet : (each : List ℕ) → faults now each ≡ faults first each
   pub settings : settings_of probe' ≡ settings_of probe
@@ -261,24 +251,10 @@ pub record Advancing {F N : Type 0} (held : F → List ℕ → Held) (faults : F
       → Passed (settings_of probe) moment bytes progress probe' old.reach.count frames stop journal more
 
 -- notifications, and then others
-pub sent_more : {N : Type 0} (since : N → N → List Note → Type 0) (old mid new : N) (notes more : List Note) → Sent since old mid notes → Sent since mid new more → Sent since old new (notes ++ more)
-sent_more since old mid new notes more first second = λ start sent is.
-    subst (λ (all : List Note). since start new all) (append_assoc sent notes more) (second start (sent ++ notes) (first start sent is))
+pub sent_more : {N : Type 0} (since : N → N → List Said → Type 0) (old mid new : N) (notes more : List Note) → Sent since old mid notes → Sent since mid new more → Sent since old new (notes ++ more)
+sent_more since old mid new notes more first second = λ start said is.
+    subst (λ (all : List Said). since start new all) (append_assoc said (map Notified notes) (map Notified more) ∙ ap (λ (all : List Said). said ++ all) (sym (map-append Notified notes more)))
+    (second start (said ++ map Notified notes) (first start said is))
 
-pub sent_none : {N : Type 0} (since : N → N → List Note → Type 0) (state : N) → Sent since state state []
-sent_none since state = λ start sent is. subst (λ (all : List Note). since start state all) (sym (append-nil sent)) is
-
--- all frames have passed, and the step says how the records stop
-pub finish_last : (held' : Held) (bytes : List ℕ) (old looked new : Progress) (probe probe' : Probe) (notes : List Note) (requests taken : ℕ) (line : List ℕ) (step : Step) (found : Found) (at : Stop)
-    → ((frames : List Frame) (stop : Stop) (journal : Journal) → Leaves old bytes frames stop → Stands probe journal → Advanced (settings_of probe) 4294967295 bytes looked probe' old.reach.count frames stop journal notes)
-    → looked.ahead ≡ Some (StopsAt at) → Passes held' looked new found → Shows step found → taken ≡ looked.reach.count
-    → ((stop : Stop) → Shows step (StopsAt stop) → line ≡ last_line stop taken requests)
-    → Finishes {T = Unit {0}} bytes old probe requests notes line (Ok tt)
-finish_last held' bytes old looked new probe probe' notes requests taken line step found at advances ahead found_so shows count last frames stop journal left stands =
-    let a = advances frames stop journal left stands in
-    let same : StopsAt at ≡ found = sym (found_so.finds.again (StopsAt at) ahead) in
-    let none = leaves_none looked bytes (frames_after 4294967295 frames) stop at (a.left.agrees.ahead (StopsAt at) ahead) a.left in
-    let all : taken ≡ old.reach.count + length frames = omega (arith, count, a.count, ap length none.none) in (
-      lines_of_all (settings_of probe) frames journal notes a.reached none.none a.passing,
-      last at (subst (λ (f : Found). Shows step f) (sym same) shows) ∙ ap (λ (k : ℕ). last_line at k requests) all ∙ ap (λ (s : Stop). last_line s (old.reach.count + length frames) requests) (sym none.stop_is),
-    )
+pub sent_none : {N : Type 0} (since : N → N → List Said → Type 0) (state : N) → Sent since state state []
+sent_none since state = λ start said is. subst (λ (all : List Said). since start state all) (sym (append-nil said)) is

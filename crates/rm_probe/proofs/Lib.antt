@@ -4,7 +4,9 @@ pub mod SampleLemmas
 pub mod JudgeLemmas
 pub mod FrameLemmas
 pub mod AnswerLemmas
-pub mod NoteLemmas
+pub mod OutputLemmas
+pub mod EventLemmas
+pub mod StepLemmas
 pub mod WritingLemmas
 pub mod RunLemmas
 pub mod EndLemmas

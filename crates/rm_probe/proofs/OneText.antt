@@ -1,7 +1,6 @@
 -- One text of the same frames and datagrams.
-use Rattle.std.proofs.Common.{◌≡◌, ◌⊎◌, inl, inr, ℕ, Bool, true, List, [], ◌∷◌, ◌++◌, length, map, drop, Option, Some, None, refl, sym, ap, subst, ◌∙◌, codes}
+use Rattle.std.proofs.Common.{◌≡◌, ◌⊎◌, inl, inr, ℕ, Bool, true, List, [], ◌∷◌, ◌++◌, length, map, drop, Option, Some, None, refl, sym, ap, subst, ◌∙◌}
 use Rattle.std.specs.List.{slice_get}
-use Rattle.hex.specs.Hex.{encode_lower}
 use Rattle.rm_model.specs.Journal.{Frame, Journal, passes}
 use Rattle.rm_pcap.specs.Records.{Stop}
 use Rattle.rm_pdu.specs.declared.kind.Kind.TheVariants.{Set}
@@ -15,9 +14,10 @@ use Rattle.rm_agent.specs.Groups.{Reserves}
 use Rattle.rm_requests.specs.Lines.{TimedDatagram}
 use Rattle.rm_agent.specs.Advance.{Notification, IsAdvanced as AgentIsAdvanced}
 use Rattle.rm_probe.specs.Advance.{note_of, IsAdvanced}
-use Rattle.rm_probe.specs.Notes.{Note, trap_lines}
+use Rattle.rm_probe.specs.Notes.{Note}
+use Rattle.rm_probe.specs.Said.{Response, Replied, Dropped, Said, Notified, Responded, Last, lines}
 use Rattle.rm_probe.specs.Events.{Event, Comes, Asks, events}
-use Rattle.rm_probe.specs.Text.{reason_text, IsAnswered, dropped, replied, answer_line, IsAnswer, AreLines, ReservesNothing, AreWithoutChoice, Choice, AreLinesBy, IsText, IsTextBy, last_line}
+use Rattle.rm_probe.specs.Text.{IsAnswered, dropped, replied, AreSaid, ReservesNothing, AreWithoutChoice, Choice, AreSaidBy, IsText, IsTextBy}
 
 -- octets are one thing, a request that is no SetRequest that reserves storage has one reply, and samples come in one way
 pub record OneOfEach (settings : Settings) : Type 0 where
@@ -39,92 +39,85 @@ module _ (settings : Settings) (one : OneOfEach settings) where
   not_both v reason request same some none = let e : Some reason ≡ None = sym some ∙ ap (reason_for settings) same ∙ none in cc
 
   -- one thing is said of a datagram that is no SetRequest that reserves storage, and one journal is then there
-  said_once : (journal : Journal) (moment : ℕ) (datagram text other : List ℕ) (after later : Journal) → ReservesNothing journal datagram
-      → IsAnswered settings journal moment datagram text after → IsAnswered settings journal moment datagram other later → (text ≡ other) × (after ≡ later)
-  said_once journal moment datagram text other after later nothing (dropped v reason is why says stays) (dropped w cause is' why' says' stays') =
+  said_once : (journal : Journal) (moment : ℕ) (datagram : List ℕ) (response other : Response) (after later : Journal) → ReservesNothing journal datagram
+      → IsAnswered settings journal moment datagram response after → IsAnswered settings journal moment datagram other later → (response ≡ other) × (after ≡ later)
+  said_once journal moment datagram response other after later nothing (dropped v reason is why says stays) (dropped w cause is' why' says' stays') =
       let same : v ≡ w = one.parse true datagram v w is is' in
       let e : Some reason ≡ Some cause = sym why ∙ ap (reason_for settings) same ∙ why' in
       let causes : reason ≡ cause = cc in
-      (says ∙ ap (λ (r : Reason). codes "drop " ++ reason_text r) causes ∙ sym says', stays ∙ sym stays')
-  said_once journal moment datagram text other after later nothing (dropped v reason is why says stays) (replied request reply is' why' replies says') =
+      (says ∙ ap Dropped causes ∙ sym says', stays ∙ sym stays')
+  said_once journal moment datagram response other after later nothing (dropped v reason is why says stays) (replied request reply is' why' replies says') =
       absurd (not_both v reason request (one.parse true datagram v (message request) is is') why why')
-  said_once journal moment datagram text other after later nothing (replied request reply is why replies says) (dropped v reason is' why' says' stays') =
+  said_once journal moment datagram response other after later nothing (replied request reply is why replies says) (dropped v reason is' why' says' stays') =
       absurd (not_both v reason request (one.parse true datagram v (message request) is' is) why' why)
-  said_once journal moment datagram text other after later nothing (replied request reply is why replies says) (replied asked answer is' why' answers says') =
+  said_once journal moment datagram response other after later nothing (replied request reply is why replies says) (replied asked answer is' why' answers says') =
       let same : message request ≡ message asked = one.parse true datagram (message request) (message asked) is is' in
       let requests : request ≡ asked = cc in
       let (once, stays) = one.reply journal moment asked reply answer after later (nothing asked is')
       (subst (λ (r : Message). IsReplyAfter settings journal moment r reply after) requests replies) answers in
-      (says ∙ ap (λ (r : Message). codes "reply " ++ encode_lower (message_octets r)) once ∙ sym says', stays)
+      (says ∙ ap (λ (r : Message). Replied (message_octets r)) once ∙ sym says', stays)
 
-  -- so it has one line
-  line_once : (journal : Journal) (number : ℕ) (request : TimedDatagram) (line other : List ℕ) (after later : Journal) → ReservesNothing journal request.datagram → IsAnswer settings journal number request line after → IsAnswer settings journal number request other later
-      → (line ≡ other) × (after ≡ later)
-  unfolding IsAnswer
-  line_once journal number request line other after later nothing (text, said, is) (word, says, is') =
-      let (same, stays) = said_once journal request.moment request.datagram text word after later nothing said says in
-      (is ∙ ap (answer_line request.moment number) same ∙ sym is', stays)
-
-  -- a datagram has one line with the same answer
-  chosen_once : (journal : Journal) (number : ℕ) (request : TimedDatagram) (choice : Option Choice) (line other : List ℕ) (after later : Journal)
-      → ReservesNothing journal request.datagram ⊎ (choice ≡ Some (record { line = line; after = after }))
-      → ReservesNothing journal request.datagram ⊎ (choice ≡ Some (record { line = other; after = later }))
-      → IsAnswer settings journal number request line after → IsAnswer settings journal number request other later → (line ≡ other) × (after ≡ later)
-  chosen_once journal number request choice line other after later (inl nothing) chosen answer answer' = line_once journal number request line other after later nothing answer answer'
-  chosen_once journal number request choice line other after later (inr chosen) (inl nothing) answer answer' = line_once journal number request line other after later nothing answer answer'
-  chosen_once journal number request choice line other after later (inr chosen) (inr again) answer answer' =
-      let first : Choice = record { line = line; after = after } in
-      let second : Choice = record { line = other; after = later } in
+  -- a datagram has one response with the same answer
+  chosen_once : (journal : Journal) (moment : ℕ) (datagram : List ℕ) (choice : Option Choice) (response other : Response) (after later : Journal)
+      → ReservesNothing journal datagram ⊎ (choice ≡ Some (record { response = response; after = after }))
+      → ReservesNothing journal datagram ⊎ (choice ≡ Some (record { response = other; after = later }))
+      → IsAnswered settings journal moment datagram response after → IsAnswered settings journal moment datagram other later → (response ≡ other) × (after ≡ later)
+  chosen_once journal moment datagram choice response other after later (inl nothing) chosen answer answer' = said_once journal moment datagram response other after later nothing answer answer'
+  chosen_once journal moment datagram choice response other after later (inr chosen) (inl nothing) answer answer' = said_once journal moment datagram response other after later nothing answer answer'
+  chosen_once journal moment datagram choice response other after later (inr chosen) (inr again) answer answer' =
+      let first : Choice = record { response = response; after = after } in
+      let second : Choice = record { response = other; after = later } in
       let same : Some first ≡ Some second = sym chosen ∙ again in
       let equal : first ≡ second = cc in
-      (ap (λ (c : Choice). c.line) equal, ap (λ (c : Choice). c.after) equal)
+      (ap (λ (c : Choice). c.response) equal, ap (λ (c : Choice). c.after) equal)
 
-  lines_once : (journal : Journal) (es : List Event) (choices : List Choice) (text other : List ℕ) → AreLinesBy settings journal es choices text → AreLinesBy settings journal es choices other → text ≡ other
-  unfolding AreLinesBy
-  lines_once journal [] choices text other is is' = is ∙ sym is'
-  lines_once journal (Comes frame ∷ es) choices text other (notes, rest, ready, advanced, is, are) (notes', rest', ready', advanced', is', are') =
+  all_once : (journal : Journal) (es : List Event) (choices : List Choice) (said other : List Said) → AreSaidBy settings journal es choices said → AreSaidBy settings journal es choices other → said ≡ other
+  unfolding AreSaidBy
+  all_once journal [] choices said other is is' = is ∙ sym is'
+  all_once journal (Comes frame ∷ es) choices said other (notes, rest, ready, advanced, is, are) (notes', rest', ready', advanced', is', are') =
       let (same, stays) = advanced_once frame.moment journal notes notes' ready ready' advanced advanced' in
-      let more : rest ≡ rest' = lines_once (passes frame ∷ ready) es choices rest rest' are (subst (λ (j : Journal). AreLinesBy settings (passes frame ∷ j) es choices rest') (sym stays) are') in
-      is ∙ ap (λ (n : List Note). trap_lines n ++ rest) same ∙ ap (λ (r : List ℕ). trap_lines notes' ++ r) more ∙ sym is'
-  lines_once journal (Asks number request ∷ es) choices text other (notes, line, rest, ready, after, advanced, answer, chosen, is, are) (notes', line', rest', ready', after', advanced', answer', chosen', is', are') =
+      let more : rest ≡ rest' = all_once (passes frame ∷ ready) es choices rest rest' are (subst (λ (j : Journal). AreSaidBy settings (passes frame ∷ j) es choices rest') (sym stays) are') in
+      is ∙ ap (λ (n : List Note). map Notified n ++ rest) same ∙ ap (λ (r : List Said). map Notified notes' ++ r) more ∙ sym is'
+  all_once journal (Asks number request ∷ es) choices said other (notes, response, rest, ready, after, advanced, answer, chosen, is, are) (notes', response', rest', ready', after', advanced', answer', chosen', is', are') =
       let (told, readies) = advanced_once request.moment journal notes notes' ready ready' advanced advanced' in
-      let (same, stays) = chosen_once ready number request (slice_get choices 0) line line' after after' chosen
-      (subst (λ (j : Journal). ReservesNothing j request.datagram ⊎ (slice_get choices 0 ≡ Some (record { line = line'; after = after' }))) (sym readies) chosen') answer
-      (subst (λ (j : Journal). IsAnswer settings j number request line' after') (sym readies) answer') in
-      let more : rest ≡ rest' = lines_once after es (drop 1 choices) rest rest' are (subst (λ (j : Journal). AreLinesBy settings j es (drop 1 choices) rest') (sym stays) are') in
-      is ∙ ap (λ (n : List Note). trap_lines n ++ (line ++ rest)) told ∙ ap (λ (l : List ℕ). trap_lines notes' ++ (l ++ rest)) same ∙ ap (λ (r : List ℕ). trap_lines notes' ++ (line' ++ r)) more ∙ sym is'
+      let (same, stays) = chosen_once ready request.moment request.datagram (slice_get choices 0) response response' after after' chosen
+      (subst (λ (j : Journal). ReservesNothing j request.datagram ⊎ (slice_get choices 0 ≡ Some (record { response = response'; after = after' }))) (sym readies) chosen') answer
+      (subst (λ (j : Journal). IsAnswered settings j request.moment request.datagram response' after') (sym readies) answer') in
+      let more : rest ≡ rest' = all_once after es (drop 1 choices) rest rest' are (subst (λ (j : Journal). AreSaidBy settings j es (drop 1 choices) rest') (sym stays) are') in
+      is ∙ ap (λ (n : List Note). map Notified n ++ Responded number request.moment response ∷ rest) told ∙ ap (λ (r : Response). map Notified notes' ++ Responded number request.moment r ∷ rest) same
+      ∙ ap (λ (r : List Said). map Notified notes' ++ Responded number request.moment response' ∷ r) more ∙ sym is'
 
   -- where no SetRequest reserves storage, no answer has to be given
-  without_choice : (journal : Journal) (es : List Event) (text : List ℕ) → AreWithoutChoice settings journal es → AreLines settings journal es text → AreLinesBy settings journal es [] text
-  unfolding AreLines AreWithoutChoice AreLinesBy
-  without_choice journal [] text without is = is
-  without_choice journal (Comes frame ∷ es) text without (notes, rest, ready, advanced, is, are) =
+  without_choice : (journal : Journal) (es : List Event) (said : List Said) → AreWithoutChoice settings journal es → AreSaid settings journal es said → AreSaidBy settings journal es [] said
+  unfolding AreSaid AreWithoutChoice AreSaidBy
+  without_choice journal [] said without is = is
+  without_choice journal (Comes frame ∷ es) said without (notes, rest, ready, advanced, is, are) =
       (notes, rest, ready, advanced, is, without_choice (passes frame ∷ ready) es rest (without notes ready advanced) are)
-  without_choice journal (Asks number request ∷ es) text without (notes, line, rest, ready, after, advanced, answer, is, are) =
+  without_choice journal (Asks number request ∷ es) said without (notes, response, rest, ready, after, advanced, answer, is, are) =
       let (nothing, others) = without notes ready advanced in
-      (notes, line, rest, ready, after, advanced, answer, inl nothing, is, without_choice after es rest (others line after answer) are)
+      (notes, response, rest, ready, after, advanced, answer, inl nothing, is, without_choice after es rest (others response after answer) are)
 
   pub text_once : (frames : List Frame) (stop : Stop) (requests : List TimedDatagram) (choices : List Choice) (text other : List ℕ) → IsTextBy settings frames stop requests choices text → IsTextBy settings frames stop requests choices other → text ≡ other
   text_once frames stop requests choices text other is is' =
-      is.whole ∙ ap (λ (lines : List ℕ). lines ++ last_line stop (length frames) (length requests)) (lines_once [] (events 1 frames requests) choices is.lines is'.lines is.are_lines is'.are_lines) ∙ sym is'.whole
+      is.whole ∙ ap (λ (said : List Said). lines (said ++ Last stop (length frames) (length requests) ∷ [])) (all_once [] (events 1 frames requests) choices is.before is'.before is.are_said is'.are_said) ∙ sym is'.whole
 
   pub text_alone : (frames : List Frame) (stop : Stop) (requests : List TimedDatagram) (text : List ℕ) → AreWithoutChoice settings [] (events 1 frames requests) → IsText settings frames stop requests text → IsTextBy settings frames stop requests [] text
   text_alone frames stop requests text without is =
-      record { lines = is.lines; are_lines = without_choice [] (events 1 frames requests) is.lines without is.are_lines; whole = is.whole }
+      record { before = is.is_run.before; are_said = without_choice [] (events 1 frames requests) is.is_run.before without is.is_run.are_said; whole = is.whole ∙ ap lines is.is_run.whole }
 
--- the answers by which lines are written
-lines_by : (settings : Settings) (journal : Journal) (es : List Event) (text : List ℕ) → AreLines settings journal es text → (choices : List Choice) × AreLinesBy settings journal es choices text
-unfolding AreLines AreLinesBy
-lines_by settings journal [] text is = ([], is)
-lines_by settings journal (Comes frame ∷ es) text (notes, rest, ready, advanced, is, are) =
-    let (choices, by) = lines_by settings (passes frame ∷ ready) es rest are in (choices, (notes, rest, ready, advanced, is, by))
-lines_by settings journal (Asks number request ∷ es) text (notes, line, rest, ready, after, advanced, answer, is, are) =
-    let (choices, by) = lines_by settings after es rest are in
-    (record { line = line; after = after } ∷ choices, (notes, line, rest, ready, after, advanced, answer, inr refl, is, by))
+-- the answers by which things are said
+said_by : (settings : Settings) (journal : Journal) (es : List Event) (said : List Said) → AreSaid settings journal es said → (choices : List Choice) × AreSaidBy settings journal es choices said
+unfolding AreSaid AreSaidBy
+said_by settings journal [] said is = ([], is)
+said_by settings journal (Comes frame ∷ es) said (notes, rest, ready, advanced, is, are) =
+    let (choices, by) = said_by settings (passes frame ∷ ready) es rest are in (choices, (notes, rest, ready, advanced, is, by))
+said_by settings journal (Asks number request ∷ es) said (notes, response, rest, ready, after, advanced, answer, is, are) =
+    let (choices, by) = said_by settings after es rest are in
+    (record { response = response; after = after } ∷ choices, (notes, response, rest, ready, after, advanced, answer, inr refl, is, by))
 
 -- each text is written by some answers
 pub text_by : (settings : Settings) (frames : List Frame) (stop : Stop) (requests : List TimedDatagram) (text : List ℕ) → IsText settings frames stop requests text
     → (choices : List Choice) × IsTextBy settings frames stop requests choices text
 text_by settings frames stop requests text is =
-    let (choices, by) = lines_by settings [] (events 1 frames requests) is.lines is.are_lines in
-    (choices, record { lines = is.lines; are_lines = by; whole = is.whole })
+    let (choices, by) = said_by settings [] (events 1 frames requests) is.is_run.before is.is_run.are_said in
+    (choices, record { before = is.is_run.before; are_said = by; whole = is.whole ∙ ap lines is.is_run.whole })

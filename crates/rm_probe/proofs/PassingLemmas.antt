@@ -1,7 +1,6 @@
--- Frames that pass, each after the samples that are due, and the lines that may be written for events.
+-- Frames that pass, each after the samples that are due, and what may be said of events.
 use Rattle.std.proofs.Common.{◌≡◌, ℕ, Bool, true, List, [], ◌∷◌, ◌++◌, map, take_while, Option, Some, None, refl, sym, ap, subst, ◌∙◌, append_assoc}
 use Rattle.std.proofs.lemmas.List.{append-nil, take-append-drop}
-use Rattle.std.proofs.lemmas.Grind.{flat_map-append}
 use Rattle.std.specs.List.{prefix_len}
 use mathlib.Core.List.{map-append}
 use Rattle.rm_model.specs.Journal.{Frame, Journal, passes}
@@ -14,9 +13,9 @@ use Rattle.rm_agent.specs.Orderly.{NoneIsDue, IsOrderly}
 use Rattle.rm_agent.specs.Advance.{Notification, IsAdvanced as AgentIsAdvanced}
 use Rattle.rm_probe.specs.Advance.{note_of, IsAdvanced}
 use Rattle.rm_probe.specs.Events.{Event, Comes, Asks, is_by, frames_after, comings}
-use Rattle.rm_requests.specs.Lines.{TimedDatagram}
-use Rattle.rm_probe.specs.Notes.{Note, trap_line, trap_lines}
-use Rattle.rm_probe.specs.Text.{IsAnswered, dropped, replied, IsAnswer, AreLines}
+use Rattle.rm_probe.specs.Notes.{Note}
+use Rattle.rm_probe.specs.Said.{Response, Said, Notified, Responded}
+use Rattle.rm_probe.specs.Text.{IsAnswered, dropped, replied, AreSaid}
 use Rattle.rm_probe.specs.Steps.{ArePassing, HasBegun}
 
 -- Each datagram is something, and has a reply if it isn't dropped. From each orderly journal the samples up to a moment come to an end,
@@ -32,7 +31,7 @@ pub record EveryEvent : Type 0 where
       → IsReplyAfter settings journal now request reply after → IsOrderly after
 
 what_is_said : EveryEvent → (settings : Settings) (journal : Journal) (moment : ℕ) (datagram : List ℕ) (v : Parse) (reason : Option Reason) → IsParse true datagram v → reason_for settings v ≡ reason
-    → (text : List ℕ) × (after : Journal) × IsAnswered settings journal moment datagram text after
+    → (response : Response) × (after : Journal) × IsAnswered settings journal moment datagram response after
 what_is_said every settings journal moment datagram v (Some reason) is why = (_, journal, dropped v reason is why refl refl)
 what_is_said every settings journal moment datagram (message request) None is why =
     let (reply, after, replies) = every.reply settings journal moment datagram request is why in
@@ -42,34 +41,29 @@ what_is_said every settings journal moment datagram (malformed at) None is why =
 what_is_said every settings journal moment datagram (other_version z) None is why = absurd cc
 what_is_said every settings journal moment datagram (not_request tag) None is why = absurd cc
 
--- so each has a line
-a_line : EveryEvent → (settings : Settings) (journal : Journal) (number : ℕ) (request : TimedDatagram) → (line : List ℕ) × (after : Journal) × IsAnswer settings journal number request line after
-unfolding IsAnswer
-a_line every settings journal number request =
-    let (v, is) = every.parse true request.datagram in
-    let (text, after, said) = what_is_said every settings journal request.moment request.datagram v (reason_for settings v) is refl in
-    (_, after, (text, said, refl))
+-- so something may be said of each
+a_response : EveryEvent → (settings : Settings) (journal : Journal) (moment : ℕ) (datagram : List ℕ) → (response : Response) × (after : Journal) × IsAnswered settings journal moment datagram response after
+a_response every settings journal moment datagram =
+    let (v, is) = every.parse true datagram in
+    what_is_said every settings journal moment datagram v (reason_for settings v) is refl
 
 -- what is said leaves an orderly journal
 answered_orderly : EveryEvent → (settings : Settings) (journal : Journal) (moment : ℕ) → IsOrderly journal → NoneIsDue moment journal
-    → (datagram text : List ℕ) (after : Journal) → IsAnswered settings journal moment datagram text after → IsOrderly after
-answered_orderly every settings journal moment orderly none datagram text after (dropped v reason is why says stays) = subst IsOrderly (sym stays) orderly
-answered_orderly every settings journal moment orderly none datagram text after (replied request reply is why replies says) =
+    → (datagram : List ℕ) (response : Response) (after : Journal) → IsAnswered settings journal moment datagram response after → IsOrderly after
+answered_orderly every settings journal moment orderly none datagram response after (dropped v reason is why says stays) = subst IsOrderly (sym stays) orderly
+answered_orderly every settings journal moment orderly none datagram response after (replied request reply is why replies says) =
     every.replied settings journal moment request reply after orderly none replies
 
 -- the frames up to a moment, and those after it
 pub all_frames : (moment : ℕ) (frames : List Frame) → take_while (is_by moment) frames ++ frames_after moment frames ≡ frames
 all_frames moment frames = take-append-drop (prefix_len (is_by moment) frames) frames
 
-pub more_traps : (some others : List Note) → trap_lines (some ++ others) ≡ trap_lines some ++ trap_lines others
-more_traps some others = flat_map-append trap_line some others
-
 pub more_comings : (some others : List Frame) → comings (some ++ others) ≡ comings some ++ comings others
 more_comings some others = map-append Comes some others
 
--- from each orderly journal on something may be written
-abbrev pub SomeLines : Type 0
-SomeLines = (settings : Settings) (journal : Journal) → IsOrderly journal → (es : List Event) → (text : List ℕ) × AreLines settings journal es text
+-- from each orderly journal on something may be said
+abbrev pub SomethingSaid : Type 0
+SomethingSaid = (settings : Settings) (journal : Journal) → IsOrderly journal → (es : List Event) → (said : List Said) × AreSaid settings journal es said
 
 module _ (settings : Settings) where
   -- one frame more
@@ -80,18 +74,23 @@ module _ (settings : Settings) where
   passing_more journal (first ∷ frames) notes reached frame more ready (told, later, begun, is, notes_are, are) advanced =
       (told, later ++ more, begun, is, ap (λ (n : List Note). n ++ more) notes_are ∙ append_assoc told later more, passing_more (passes first ∷ begun) frames later reached frame more ready are advanced)
 
-  -- frames that pass, and what may be written for what follows them
-  pub lines_after : (journal : Journal) (frames : List Frame) (notes : List Note) (reached : Journal) (es : List Event) (text : List ℕ) → ArePassing settings journal frames notes reached
-      → AreLines settings reached es text → AreLines settings journal (comings frames ++ es) (trap_lines notes ++ text)
-  unfolding AreLines
-  lines_after journal [] notes reached es text are lines = rw are.0 (subst (λ (j : Journal). AreLines settings j es text) are.1 lines)
-  lines_after journal (frame ∷ frames) notes reached es text (told, later, ready, is, notes_are, are) lines = (
+  -- of no event nothing is said
+  pub nothing_said : (journal : Journal) → AreSaid settings journal [] []
+  unfolding AreSaid
+  nothing_said journal = refl
+
+  -- frames that pass, and what may be said of what follows them
+  pub said_after : (journal : Journal) (frames : List Frame) (notes : List Note) (reached : Journal) (es : List Event) (said : List Said) → ArePassing settings journal frames notes reached
+      → AreSaid settings reached es said → AreSaid settings journal (comings frames ++ es) (map Notified notes ++ said)
+  unfolding AreSaid
+  said_after journal [] notes reached es said are is = rw are.0 (subst (λ (j : Journal). AreSaid settings j es said) are.1 is)
+  said_after journal (frame ∷ frames) notes reached es said (told, later, ready, is, notes_are, are) more = (
     told,
-    trap_lines later ++ text,
+    map Notified later ++ said,
     ready,
     is,
-    ap (λ (n : List Note). trap_lines n ++ text) notes_are ∙ ap (λ (t : List ℕ). t ++ text) (more_traps told later) ∙ append_assoc (trap_lines told) (trap_lines later) text,
-    lines_after (passes frame ∷ ready) frames later reached es text are lines,
+    ap (λ (n : List Note). map Notified n ++ said) notes_are ∙ ap (λ (t : List Said). t ++ said) (map-append Notified told later) ∙ append_assoc (map Notified told) (map Notified later) said,
+    said_after (passes frame ∷ ready) frames later reached es said are more,
   )
 
   -- the samples that are due up to a moment, with their notes
@@ -101,29 +100,26 @@ module _ (settings : Settings) where
       let (still, none) = every.sampled settings to journal sent ready orderly is in
       (map note_of sent, ready, record { sent = sent; advanced = is; noted = refl }, still, none)
 
-  -- from an orderly journal on something may be written
-  pub some_lines : EveryEvent → (journal : Journal) → IsOrderly journal → (es : List Event) → (text : List ℕ) × AreLines settings journal es text
-  unfolding AreLines IsAnswer
-  some_lines every journal orderly [] = ([], refl)
-  some_lines every journal orderly (Comes frame ∷ es) =
+  -- from an orderly journal on something may be said
+  pub some_said : EveryEvent → (journal : Journal) → IsOrderly journal → (es : List Event) → (said : List Said) × AreSaid settings journal es said
+  unfolding AreSaid
+  some_said every journal orderly [] = ([], refl)
+  some_said every journal orderly (Comes frame ∷ es) =
       let (notes, ready, is, still, none) = some_advance every frame.moment journal orderly in
-      let r = some_lines every (passes frame ∷ ready) (every.passed ready frame still none) es in
-      (trap_lines notes ++ r.0, (notes, r.0, ready, is, refl, r.1))
-  some_lines every journal orderly (Asks number request ∷ es) =
+      let r = some_said every (passes frame ∷ ready) (every.passed ready frame still none) es in
+      (map Notified notes ++ r.0, (notes, r.0, ready, is, refl, r.1))
+  some_said every journal orderly (Asks number request ∷ es) =
       let (notes, ready, is, still, none) = some_advance every request.moment journal orderly in
-      let a = a_line every settings ready number request in
-      let r = some_lines every a.1 (after_orderly ready still none a.0 a.1 a.2) es in
-      (trap_lines notes ++ (a.0 ++ r.0), (notes, a.0, r.0, ready, a.1, is, a.2, refl, r.1))
-    where
-      after_orderly : (ready : Journal) → IsOrderly ready → NoneIsDue request.moment ready → (line : List ℕ) (after : Journal) → IsAnswer settings ready number request line after → IsOrderly after
-      after_orderly ready still none line after (text, said, line_is) = answered_orderly every settings ready request.moment still none request.datagram text after said
+      let a = a_response every settings ready request.moment request.datagram in
+      let r = some_said every a.1 (answered_orderly every settings ready request.moment still none request.datagram a.0 a.1 a.2) es in
+      (map Notified notes ++ Responded number request.moment a.0 ∷ r.0, (notes, a.0, r.0, ready, a.1, is, a.2, refl, r.1))
 
-  -- some frames up to a moment have passed, and something may be written for what is left
-  pub begun_lines : SomeLines → (moment : ℕ) (frames : List Frame) (journal : Journal) (notes : List Note) (es : List Event) → HasBegun settings moment frames journal notes
-      → (text : List ℕ) × AreLines settings journal (comings (take_while (is_by moment) frames) ++ es) (trap_lines notes ++ text)
-  begun_lines every moment frames journal notes es begun =
+  -- some frames up to a moment have passed, and something may be said of what is left
+  pub begun_said : SomethingSaid → (moment : ℕ) (frames : List Frame) (journal : Journal) (notes : List Note) (es : List Event) → HasBegun settings moment frames journal notes
+      → (said : List Said) × AreSaid settings journal (comings (take_while (is_by moment) frames) ++ es) (map Notified notes ++ said)
+  begun_said every moment frames journal notes es begun =
       let left : List Frame = take_while (is_by moment) begun.left in
       let r = every settings begun.reached begun.orderly (comings left ++ es) in
       let all : comings begun.passed ++ (comings left ++ es) ≡ comings (take_while (is_by moment) frames) ++ es =
       sym (append_assoc (comings begun.passed) (comings left) es) ∙ ap (λ (c : List Event). c ++ es) (sym (more_comings begun.passed left) ∙ ap comings (sym begun.taken)) in
-      (r.0, subst (λ (e : List Event). AreLines settings journal e (trap_lines notes ++ r.0)) all (lines_after journal begun.passed notes begun.reached (comings left ++ es) r.0 begun.passing r.1))
+      (r.0, subst (λ (e : List Event). AreSaid settings journal e (map Notified notes ++ r.0)) all (said_after journal begun.passed notes begun.reached (comings left ++ es) r.0 begun.passing r.1))

@@ -1,5 +1,5 @@
 -- Records that are left of a capture.
-use Rattle.std.proofs.Common.{◌≡◌, ◌≤◌, ℕ, List, [], ◌∷◌, Result, Ok, Err, inl, inr, refl, sym, ap, subst, ◌∙◌}
+use Rattle.std.proofs.Common.{◌≡◌, ℕ, List, [], ◌∷◌, Result, Ok, Err, inl, inr, refl, sym, ap, subst, ◌∙◌}
 use Rattle.rm_edge.specs.Outside.{Held, Untold, Absent, File, OfFile, Rose}
 use Rattle.rm_model.specs.Journal.{Frame}
 use Rattle.rm_pcap.specs.Records.{Stop, Ended, CutAt, Broken, Found, Whole, Stops as StopsAt, found_at, AreRecords, ReadsAs, beginning}

@@ -9,7 +9,8 @@ use Rattle.rm_agent.specs.Orderly.{NoneIsDue}
 use Rattle.rm_agent.specs.Agent.{sample_of, IsWritten}
 use Rattle.rm_agent.specs.Advance.{sent_at, notifications_of, none_due, one_due}
 use Rattle.rm_probe.specs.Advance.{note_of, notes_of, IsAdvanced}
-use Rattle.rm_probe.specs.Notes.{Note, Sent}
+use Rattle.rm_probe.specs.Notes.{Note}
+use Rattle.rm_probe.specs.Said.{Said, Sent}
 use Rattle.rm_probe.specs.Probe.{settings_of, last_given, frames_given, Stands}
 use Rattle.rm_probe.specs.declared.probe.Probe.{Probe}
 
@@ -45,7 +46,7 @@ advanced_more settings to journal next notes after due early is = record {
 }
 
 -- some samples were taken up to a moment
-pub record Sampling {N : Type 0} (since : N → N → List Note → Type 0) (notes notes' : N) (to : ℕ) (probe probe' : Probe) : Type 0 where
+pub record Sampling {N : Type 0} (since : N → N → List Said → Type 0) (notes notes' : N) (to : ℕ) (probe probe' : Probe) : Type 0 where
   pub settings : settings_of probe' ≡ settings_of probe
   pub last : last_given probe' ≤ to
   pub frames : frames_given probe' ≡ frames_given probe

@@ -2,8 +2,11 @@ pub mod Capture
 pub mod Requests
 pub mod Events
 pub mod Notes
+pub mod Said
 pub mod Advance
 pub mod Text
+pub mod Post
+pub mod Output
 pub mod Probe
 pub mod Steps
 pub mod Status

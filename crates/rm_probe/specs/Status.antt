@@ -1,5 +1,7 @@
 -- The exit status of the program, and what it says on standard error.
-use Rattle.std.specs.Prelude.{ℕ, List, ◌++◌, codes, decimal, Result, Ok, Err}
+use Rattle.std.specs.Prelude.{ℕ, List, ◌++◌, codes, decimal}
+use Rattle.rm_probe.specs.declared.output.OutputFault.{OutputFault}
+use Rattle.rm_probe.specs.declared.output.OutputFault.TheVariants.{Put, Send}
 use Rattle.rm_probe.specs.declared.status.Status.{Status}
 use Rattle.rm_probe.specs.declared.status.Status.TheVariants.{Done, Usage, BadCapture, BadRequests, ReadFault, WriteFault, NoMemory, LinkFault, TooLong}
 
@@ -14,10 +16,10 @@ number_of NoMemory = 7
 number_of LinkFault = 8
 number_of TooLong = 9
 
--- how a run ends by the put of its last line
-abbrev pub status_after : {E : Type 0} → Result (Unit {0}) E → Status
-status_after (Ok done) = Done
-status_after (Err fault) = WriteFault
+-- how a put or a send that fails ends a run
+abbrev pub status_for : OutputFault → Status
+status_for Put = WriteFault
+status_for Send = LinkFault
 
 abbrev pub text_of : Status → List ℕ
 text_of Done = codes "done"

@@ -1,5 +1,5 @@
 -- What the steps of a run do.
-use Rattle.std.specs.Prelude.{◌≡◌, ◌⊎◌, ℕ, ◌+◌, ◌≤◌, List, [], ◌∷◌, ◌++◌, length, take_while, Option, Some, None, Result, Ok, Err, ⊤}
+use Rattle.std.specs.Prelude.{◌≡◌, ◌⊎◌, ℕ, ◌+◌, ◌≤◌, List, [], ◌∷◌, ◌++◌, length, map, take_while, Option, Some, None, Result, Ok, Err, ⊤}
 use Rattle.rm_edge.specs.Outside.{Adds, AddsFront, File, Held, OfFile, Rose}
 use Rattle.rm_model.specs.Journal.{Frame, Journal, passes}
 use Rattle.rm_pcap.specs.Records.{Stop, Broken, Found, Whole, Stops, AreRecords}
@@ -9,12 +9,16 @@ use Rattle.rm_pcap.specs.declared.fault.PcapFault.{PcapFault}
 use Rattle.rm_pcap.specs.declared.fault.PcapFault.TheVariants.{Included, Original, Late, TooMany, Read}
 use Rattle.rm_probe.specs.Advance.{IsAdvanced}
 use Rattle.rm_agent.specs.Orderly.{IsOrderly}
-use Rattle.rm_probe.specs.Notes.{Note, Sent, trap_lines}
+use Rattle.rm_probe.specs.Notes.{Note}
+use Rattle.rm_probe.specs.Said.{Response, Said, Notified, Responded, Last, stop_before, Sent}
 use Rattle.rm_probe.specs.Capture.{IsCaptureFile, IsFaultless, CallsFor, status_of}
 use Rattle.rm_requests.specs.Lines.{TimedDatagram, IsRequestFile}
 use Rattle.rm_probe.specs.declared.replaying.NumberedDatagram.{NumberedDatagram}
 use Rattle.rm_probe.specs.Events.{Event, Asks, comings, is_by, frames_after}
-use Rattle.rm_probe.specs.Text.{IsAnswer, AreLines, IsText, last_line}
+use Rattle.rm_probe.specs.Text.{IsAnswered, AreSaid, IsRun, IsText}
+use Rattle.rm_probe.specs.Status.{status_for}
+use Rattle.rm_probe.specs.declared.output.OutputFault.{OutputFault}
+use Rattle.rm_probe.specs.declared.output.OutputFault.TheVariants.{Put, Send}
 use Rattle.rm_probe.specs.Probe.{settings_of, last_given, frames_given, Stands}
 use Rattle.rm_probe.specs.declared.probe.Probe.{Probe}
 use Rattle.rm_agent.specs.declared.settings.Settings.{Settings}
@@ -82,7 +86,7 @@ pub record Advanced (settings : Settings) (moment : ℕ) (bytes : List ℕ) (pro
   pub count : progress.reach.count + length (frames_after moment frames) ≡ before + length frames
 
 -- notifications came, and this is a fact of them and of the octets that the file has, where they are told
-abbrev pub Notifies : {N : Type 0} → (since : N → N → List Note → Type 0) → N → N → Held → (List Note → List ℕ → Type 0) → Type 0
+abbrev pub Notifies : {N : Type 0} → (since : N → N → List Said → Type 0) → N → N → Held → (List Note → List ℕ → Type 0) → Type 0
 Notifies since old new held P = (more : List Note) × Sent since old new more × ((bytes : List ℕ) → held ≡ File bytes → P more bytes)
 
 -- Whatever the frames left and the journal are, those up to the moment go from the one to the other. Where a read fails, some of
@@ -101,57 +105,72 @@ Advances moment bytes old new probe probe' notes (Err fault) =
 abbrev pub timed : NumberedDatagram → TimedDatagram
 timed request = record { moment = request.moment; datagram = request.datagram.now }
 
--- Whatever the journal is, the line is an answer after these notifications, and the probe stands for the journal after it.
-abbrev pub Answers : Probe → Probe → ℕ → TimedDatagram → List Note → List ℕ → Type 0
-Answers old new number request notes line =
+-- Whatever the journal is, the response is lawful after these notifications, and the probe stands for the journal after it.
+abbrev pub Answers : Probe → Probe → TimedDatagram → List Note → Response → Type 0
+Answers old new request notes response =
     (journal : Journal) → Stands old journal
     → (ready after : Journal) × IsAdvanced (settings_of old) request.moment journal notes ready
-    × IsAnswer (settings_of old) ready number request line after × Stands new after
+    × IsAnswered (settings_of old) ready request.moment request.datagram response after × Stands new after
 
--- What the last line says: of all the frames that were passed and are left. Before it come the notifications of those left.
--- Where a read fails, some of these pass. Another fault is that of the records left.
-abbrev pub Finishes : {T : Type 0} → List ℕ → Progress → Probe → ℕ → List Note → List ℕ → Result T PcapFault → Type 0
-Finishes bytes progress probe requests notes line (Ok done) =
-    (frames : List Frame) (stop : Stop) (journal : Journal) → Leaves progress bytes frames stop → Stands probe journal
-    → AreLines (settings_of probe) journal (comings frames) (trap_lines notes) × (line ≡ last_line stop (progress.reach.count + length frames) requests)
-Finishes bytes progress probe requests notes line (Err Read) =
-    (frames : List Frame) (stop : Stop) (journal : Journal) → Leaves progress bytes frames stop → Stands probe journal
-    → HasBegun (settings_of probe) 4294967295 frames journal notes
-Finishes bytes progress probe requests notes line (Err fault) =
-    (frames : List Frame) (stop : Stop) (journal : Journal) → Leaves progress bytes frames stop → Stands probe journal → stop ≡ Broken fault
-
--- The next lines: those of notifications, and an answer after the frames up to the moment of its datagram. Whatever may be
--- written from there on may follow them.
-pub record IsNextLine (bytes : List ℕ) (old new : Progress) (settings : Settings) (probe : Probe) (number : ℕ) (request : TimedDatagram) (frames : List Frame) (stop : Stop) (journal : Journal) (line : List ℕ) : Type 0 where
+-- What is said next: the notifications up to the moment of a datagram, and a response to it. Whatever may be said from there on may
+-- follow.
+pub record IsNextSaid (bytes : List ℕ) (old new : Progress) (settings : Settings) (probe : Probe) (number : ℕ) (request : TimedDatagram) (frames : List Frame) (stop : Stop) (journal : Journal) (said : List Said) : Type 0 where
   pub left : Leaves new bytes (frames_after request.moment frames) stop
   pub count : new.reach.count + length (frames_after request.moment frames) ≡ old.reach.count + length frames
   pub after : Journal
-  pub goes : (more : List Event) (text : List ℕ) → AreLines settings after more text
-      → AreLines settings journal (comings (take_while (is_by request.moment) frames) ++ Asks number request ∷ more) (line ++ text)
+  pub goes : (more : List Event) (rest : List Said) → AreSaid settings after more rest
+      → AreSaid settings journal (comings (take_while (is_by request.moment) frames) ++ Asks number request ∷ more) (said ++ rest)
   pub stands : Stands probe after
 
--- the last lines: those of the notifications of the frames that are left, and the last one
-abbrev pub IsLastLine : Settings → ℕ → ℕ → List Frame → Stop → Journal → List ℕ → Type 0
-IsLastLine settings passed requests frames stop journal text =
-    (lines : List ℕ) × AreLines settings journal (comings frames) lines × (text ≡ lines ++ last_line stop (passed + length frames) requests)
+-- notifications, and then a response to the datagram of that number
+pub record IsResponse (number : ℕ) (said : List Said) : Type 0 where
+  pub notes : List Note
+  pub moment : ℕ
+  pub response : Response
+  pub is : said ≡ map Notified notes ++ Responded number moment response ∷ []
 
--- a status as a result: Done is no error
-abbrev pub done : Status → Result (Unit {0}) Status
-done Done = Ok tt
-done status = Err status
+-- what is said last: the notifications of the frames that are left, and the last line
+abbrev pub IsLastSaid : Settings → ℕ → ℕ → List Frame → Stop → Journal → List Said → Type 0
+IsLastSaid settings passed requests frames stop journal said =
+    (before : List Said) × AreSaid settings journal (comings frames) before × (said ≡ before ++ Last stop (passed + length frames) requests ∷ [])
 
--- what a put is for the run: one that fails ends it
-abbrev pub written_by : {E : Type 0} → Result (Unit {0}) E → Result (Unit {0}) Status
-written_by (Ok done) = Ok done
-written_by (Err fault) = Err WriteFault
+-- the last line of so many frames and datagrams, where these frames may be left
+abbrev pub IsLastLine : ℕ → ℕ → List Frame → Stop → List Said → Type 0
+IsLastLine passed requests left stop said = said ≡ Last (stop_before left stop) passed requests ∷ []
 
--- What is written for a line: the whole line, or a front of it where a put failed, or a front of the notifications that had
--- come where a read failed. Other faults are how the records stop.
-abbrev pub WritesLine : {T : Type 0} → (List ℕ → Type 0) → (List Note → Type 0) → Stop → Option (List ℕ) → Option (List ℕ) → Result T Status → Type 0
-WritesLine IsNext IsBegun stop content content' (Ok done) = (line : List ℕ) × IsNext line × Adds content content' line
-WritesLine IsNext IsBegun stop content content' (Err WriteFault) = (line : List ℕ) × IsNext line × AddsFront content content' line
-WritesLine IsNext IsBegun stop content content' (Err ReadFault) = (notes : List Note) × IsBegun notes × AddsFront content content' (trap_lines notes)
-WritesLine IsNext IsBegun stop content content' (Err status) = (fault : PcapFault) × (stop ≡ Broken fault) × (status ≡ status_of fault)
+-- what the result of an output is for the run: one that takes nothing more ends it
+abbrev pub told_by : Result (Unit {0}) OutputFault → Result (Unit {0}) Status
+told_by (Ok done) = Ok done
+told_by (Err fault) = Err (status_for fault)
+
+-- the status of a run by its result
+abbrev pub ends_by : {T : Type 0} → Result T Status → Status
+ends_by (Ok done) = Done
+ends_by (Err status) = status
+
+-- What was said by a step: what it was to say, where nothing but a put or a send failed; some of its notifications where a read did.
+-- Other faults are how the records stop.
+abbrev pub SaysNext : {T : Type 0} → (List Said → Type 0) → (List Note → Type 0) → Stop → List Said → Result T Status → Type 0
+SaysNext IsNext IsBegun stop said (Ok done) = IsNext said
+SaysNext IsNext IsBegun stop said (Err WriteFault) = IsNext said
+SaysNext IsNext IsBegun stop said (Err LinkFault) = IsNext said
+SaysNext IsNext IsBegun stop said (Err ReadFault) = (notes : List Note) × IsBegun notes × (said ≡ map Notified notes)
+SaysNext IsNext IsBegun stop said (Err status) = (fault : PcapFault) × (stop ≡ Broken fault) × (status ≡ status_of fault)
+
+-- what failed last after a step: nothing, or what it ends by
+abbrev pub FailsBy : {T : Type 0} → Option OutputFault → Result T Status → Type 0
+FailsBy failed (Ok done) = failed ≡ None
+FailsBy failed (Err WriteFault) = failed ≡ Some Put
+FailsBy failed (Err LinkFault) = failed ≡ Some Send
+FailsBy failed (Err status) = ⊤
+
+-- what was said by a run: all of it, or the first of it where a read, a put or a send failed
+abbrev pub SaysRun : {T : Type 0} → Settings → List Frame → Stop → List TimedDatagram → List Said → Result T Status → Type 0
+SaysRun settings frames stop requests said (Ok done) = IsRun settings frames stop requests said
+SaysRun settings frames stop requests said (Err WriteFault) = (rest : List Said) × IsRun settings frames stop requests (said ++ rest)
+SaysRun settings frames stop requests said (Err LinkFault) = (rest : List Said) × IsRun settings frames stop requests (said ++ rest)
+SaysRun settings frames stop requests said (Err ReadFault) = (rest : List Said) × IsRun settings frames stop requests (said ++ rest)
+SaysRun settings frames stop requests said (Err other) = ⊥
 
 -- what a run writes: its text, or a front of it where a read or a put failed, or nothing for want of memory
 abbrev pub Writes : Settings → List Frame → Stop → List TimedDatagram → Option (List ℕ) → Option (List ℕ) → Status → Type 0
@@ -161,13 +180,18 @@ Writes settings frames stop requests old new ReadFault = (text : List ℕ) × Is
 Writes settings frames stop requests old new NoMemory = new ≡ old
 Writes settings frames stop requests old new other = ⊥
 
--- what isn't of a call on the capture, nor of a put
+-- what isn't of a call on the capture, nor of a put or a send
 abbrev pub IsForeign : Status → Type 0
 IsForeign Usage = ⊤
 IsForeign (BadRequests line) = ⊤
 IsForeign NoMemory = ⊤
-IsForeign LinkFault = ⊤
 IsForeign status = ⊥
+
+-- these don't come once both files were judged and the capture was begun
+abbrev pub IsQuiet : Status → Type 0
+IsQuiet Usage = ⊤
+IsQuiet NoMemory = ⊤
+IsQuiet status = ⊥
 
 -- no capture is held, or none is left of it
 abbrev pub IsNotCapture : ℕ → Held → Type 0

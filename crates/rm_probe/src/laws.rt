@@ -6,7 +6,8 @@ ghost use Rattle.rm_agent.specs.declared.settings.Settings.{Settings};
 ghost use Rattle.rm_agent.specs.Orderly.{IsOrderly};
 ghost use Rattle.rm_requests.specs.Lines.{TimedDatagram};
 ghost use Rattle.rm_probe.specs.Events.{Event, events};
-ghost use Rattle.rm_probe.specs.Text.{AreLines, AreWithoutChoice, Choice, IsText, IsTextBy};
+ghost use Rattle.rm_probe.specs.Said.{Said};
+ghost use Rattle.rm_probe.specs.Text.{AreSaid, AreWithoutChoice, Choice, IsText, IsTextBy};
 
 use rm_agent::{
     advance_is_orderly, every_advance, every_reply, frame_is_orderly, one_advance, one_reply,
@@ -41,10 +42,10 @@ pub fn every_text_has_answers()
         → (choices : List Choice) × IsTextBy settings frames stop requests choices text }
 {}
 
-/// A law: from an orderly journal on, there are lines of all events.
-pub(crate) fn every_line()
-    ensures { (settings : Settings) (journal : Journal) → IsOrderly journal → (events : List Event) → (text : List ℕ)
-        × AreLines settings journal events text }
+/// A law: from an orderly journal on, something may be said of all events.
+pub(crate) fn something_said()
+    ensures { (settings : Settings) (journal : Journal) → IsOrderly journal → (events : List Event) → (said : List Said)
+        × AreSaid settings journal events said }
 {
     every_parse();
     every_reply();

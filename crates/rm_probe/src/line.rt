@@ -2,10 +2,8 @@
 ghost use Rattle.std.specs.Prelude.{◌≡◌, ◌+◌, ◌≤◌, ◌++◌, [], decimal, length};
 ghost use Rattle.hex.specs.Hex.{encode_lower};
 ghost use Rattle.rm_agent.specs.Answers.{IsShort};
-ghost use Rattle.rm_probe.specs.Text.{reason_text, answer_text, answer_line, last_line};
+ghost use Rattle.rm_probe.specs.Said.{Responded, answer_line, last_line, line_of, reason_text, response_of, response_text, stop_by};
 ghost use Rattle.rm_probe.specs.Notes.{trap_line};
-ghost use Rattle.rm_pcap.specs.Records.{Stop, Stops};
-ghost use Rattle.rm_pcap.specs.Progress.{Shows};
 
 use arrayvec::ArrayVec;
 use itoa::Buffer;
@@ -68,7 +66,7 @@ fn push_reason(line: &mut Line, reason: Reason)
 fn push_answer(line: &mut Line, answer: Answer, out: &[u8; MOST_REPLY])
     requires front { length line.old.items ≤ 100 }
     requires short { IsShort answer }
-    ensures text { line.new.items ≡ line.old.items ++ answer_text answer out.now }
+    ensures text { line.new.items ≡ line.old.items ++ response_text (response_of answer out.now) }
     ensures short { length line.new.items ≤ 3060 }
 {
     match answer {
@@ -106,7 +104,7 @@ pub fn answer_line(
 )
     requires empty { line.old.items ≡ [] }
     requires short { IsShort answer }
-    ensures { line.new.items ≡ answer_line moment number (answer_text answer out.now) }
+    ensures { line.new.items ≡ line_of (Responded number moment (response_of answer out.now)) }
 {
     push_number(line, u64::from(moment));
     push(line, b" ");
@@ -117,10 +115,10 @@ pub fn answer_line(
 }
 
 /// Writes the last line into an empty line. The step tells whether the capture was cut short.
-#[tactic(auto, unfolding(crate::specs::Text::last_line))]
+#[tactic(auto, unfolding(crate::specs::Said::last_line))]
 pub fn last_line(step: Step<'_>, frames: u64, requests: u64, line: &mut Line)
     requires { line.old.items ≡ [] }
-    ensures { (stop : Stop) → Shows step.entry (Stops stop) → line.new.items ≡ last_line stop frames requests }
+    ensures { line.new.items ≡ last_line (stop_by step.entry) frames requests }
 {
     match step {
         Step::Cut(_) => push(line, b"cut"),

@@ -1,62 +1,132 @@
 // The output of a run.
-ghost use Rattle.std.specs.Prelude.{◌≡◌, ◌⊎◌, ◌≤◌, true, false, OnOk, OnErr, refl};
-ghost use Rattle.std.specs.Result.{is_err};
-ghost use Rattle.rm_edge.specs.Outside.{Puts, Rose};
-ghost use Rattle.rm_probe.specs.Notes.{HasNoted, nothing_noted};
+ghost use Rattle.std.specs.Prelude.{◌≡◌, ◌∷◌, [], None, refl};
+ghost use Rattle.rm_agent.specs.Answers.{IsShort};
+ghost use Rattle.rm_probe.specs.Said.{Responded, response_of, to_each};
+ghost use Rattle.rm_probe.specs.Output.{HasAdded, Says, failed_by, nothing_added, shown};
 
 use crate::line::{self, Line};
 use crate::notes::Notes;
-use rm_edge::{Failed, Sink};
+use crate::post::{Addressee, Post, Unsent};
+use rm_agent::{Answer, MOST_REPLY};
+use rm_edge::Sink;
 
-/// The output of a run: lines, each put whole into a sink. Once a put has failed, nothing more is put.
-#[derive(Drop)]
-pub struct Output<'a, K: Sink> {
-    sink: &'a mut K,
-    failed: bool,
+/// Why an output takes nothing more.
+#[derive(Clone, Copy, Debug, PartialEq, Eq)]
+pub enum OutputFault {
+    /// A put failed.
+    Put,
+    /// A send failed.
+    Send,
 }
 
-impl<'a, K: Sink> Output<'a, K> {
-    /// The output into a sink, of which no put has failed yet.
-    pub fn new(sink: &'a mut K) -> Output<'a, K>
+/// The output of a run: lines, each put whole into a sink, and the messages that some of them tell, each sent after its line. Once a
+/// put or a send has failed, nothing more is put or sent.
+#[derive(Drop)]
+pub struct Output<'a, K: Sink, P: Post> {
+    sink: &'a mut K,
+    post: P,
+    failed: Option<OutputFault>,
+}
+
+impl<'a, K: Sink> Output<'a, K, Unsent> {
+    /// The output into a sink, of which no put has failed yet. Nothing is sent.
+    pub fn new(sink: &'a mut K) -> Output<'a, K, Unsent>
         ensures same_reference { result.sink.ghost_name ≡ sink.entry.ghost_name }
         ensures sink { result.sink.now ≡ sink.old }
-        ensures failed { result.failed ≡ false }
+        ensures failed { result.failed ≡ None }
+    {
+        Output::posting(sink, Unsent)
+    }
+}
+
+impl<'a, K: Sink, P: Post> Output<'a, K, P> {
+    /// The output into a sink and a post, of which no call has failed yet.
+    pub fn posting(sink: &'a mut K, post: P) -> Output<'a, K, P>
+        ensures same_reference { result.sink.ghost_name ≡ sink.entry.ghost_name }
+        ensures sink { result.sink.now ≡ sink.old }
+        ensures post { result.post ≡ post }
+        ensures failed { result.failed ≡ None }
     {
         Output {
             sink,
-            failed: false,
+            post,
+            failed: None,
         }
     }
 
-    /// Puts a line. Failed comes where this put fails, or one failed before; a front of the line may then have been put.
-    pub(crate) fn put(&mut self, line: &Line) -> Result<(), Failed>
+    /// Puts a line. A fault comes where this put fails, or a call failed before; a front of the line may then have been put.
+    pub(crate) fn put(&mut self, line: &Line) -> Result<(), OutputFault>
         ensures same_reference { self.new.sink.ghost_name ≡ self.old.sink.ghost_name }
-        ensures octets { Puts (K.content self.old.sink.now) (K.content self.new.sink.now) line.now.items result }
-        ensures later { K.faults self.old.sink.now ≤ K.faults self.new.sink.now }
-        ensures cause { OnErr result ((self.old.failed ≡ true) ⊎ Rose (K.faults self.old.sink.now) (K.faults self.new.sink.now)) }
-        ensures first { OnOk result (self.old.failed ≡ false) }
-        ensures stays { self.old.failed ≡ true → K.content self.new.sink.now ≡ K.content self.old.sink.now }
-        ensures failed { self.new.failed ≡ is_err result }
+        ensures post { self.new.post ≡ self.old.post }
+        ensures adds { HasAdded (shown K.content K.faults P.sent P.faults self.old.sink.now self.old.post self.old.failed)
+            (shown K.content K.faults P.sent P.faults self.new.sink.now self.new.post self.new.failed) line.now.items [] }
+        ensures failed { self.new.failed ≡ failed_by result }
     {
-        if self.failed {
-            return Err(Failed);
+        if let Some(fault) = self.failed {
+            return Err(fault);
         }
-        let result = self.sink.put(line.as_slice());
-        self.failed = result.is_err();
-        result
+        match self.sink.put(line.as_slice()) {
+            Ok(()) => Ok(()),
+            Err(_) => {
+                self.failed = Some(OutputFault::Put);
+                Err(OutputFault::Put)
+            }
+        }
+    }
+
+    // Puts a line, and sends the message that it tells.
+    fn tell(&mut self, line: &Line, to: Addressee, message: &[u8]) -> Result<(), OutputFault>
+        ensures same_reference { self.new.sink.ghost_name ≡ self.old.sink.ghost_name }
+        ensures post { P.same self.old.post self.new.post }
+        ensures adds { HasAdded (shown K.content K.faults P.sent P.faults self.old.sink.now self.old.post self.old.failed)
+            (shown K.content K.faults P.sent P.faults self.new.sink.now self.new.post self.new.failed) line.now.items
+            (to_each (P.peers self.old.post to) message.now) }
+        ensures failed { self.new.failed ≡ failed_by result }
+    {
+        self.put(line)?;
+        match self.post.send(to, message) {
+            Ok(()) => Ok(()),
+            Err(_) => {
+                self.failed = Some(OutputFault::Send);
+                Err(OutputFault::Send)
+            }
+        }
+    }
+
+    /// Puts the line of a datagram, with its moment in milliseconds and its number, and what is answered, and sends the reply if
+    /// there is one, which stands at the front of `out`.
+    pub(crate) fn answer(
+        &mut self,
+        moment: u32,
+        number: u64,
+        answer: Answer,
+        out: &[u8; MOST_REPLY],
+    ) -> Result<(), OutputFault>
+        requires short { IsShort answer }
+        ensures same_reference { self.new.sink.ghost_name ≡ self.old.sink.ghost_name }
+        ensures says { Says K.content K.faults P.sent P.faults P.peers P.same self.old.sink.now self.old.post self.old.failed
+            self.new.sink.now self.new.post self.new.failed (Responded number moment (response_of answer out.now) ∷ []) }
+        ensures failed { self.new.failed ≡ failed_by result }
+    {
+        let mut line = Line::new();
+        line::answer_line(moment, number, answer, out, &mut line);
+        match answer {
+            Answer::Reply(count) => self.tell(&line, Addressee::Asking, &out[..count]),
+            Answer::Drop(_) => self.put(&line),
+        }
     }
 }
 
-impl<K: Sink> Notes for Output<'_, K> {
-    ghost since = { λ start now notes. (now.sink.ghost_name ≡ start.sink.ghost_name)
-        × HasNoted (K.content start.sink.now) (K.content now.sink.now) (K.faults start.sink.now) (K.faults now.sink.now) start.failed now.failed notes };
+impl<K: Sink, P: Post> Notes for Output<'_, K, P> {
+    ghost since = { λ start now said. (now.sink.ghost_name ≡ start.sink.ghost_name) × Says K.content K.faults P.sent P.faults P.peers P.same
+        start.sink.now start.post start.failed now.sink.now now.post now.failed said };
 
-    ghost none = { λ state. (refl, nothing_noted (K.content state.sink.now) (K.faults state.sink.now) state.failed) };
+    ghost none = { λ state. (refl, record { still = P.still state.post; adds = nothing_added (shown K.content K.faults P.sent P.faults state.sink.now state.post state.failed) }) };
 
     fn note(&mut self, moment: u32, message: &[u8]) {
         let mut line = Line::new();
         line::trap_line(moment, message, &mut line);
-        // A put that failed is kept in mind.
-        let _ = self.put(&line);
+        // A call that failed is kept in mind.
+        let _ = self.tell(&line, Addressee::Manager, message);
     }
 }

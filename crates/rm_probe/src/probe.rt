@@ -6,7 +6,8 @@ ghost use Rattle.rm_agent.specs.Agent.{due_of_agent, IsNextMoment, samples_left_
 ghost use Rattle.rm_agent.specs.Answers.{IsShort};
 ghost use Rattle.rm_agent.specs.Orderly.{NoneIsDue};
 ghost use Rattle.rm_probe.specs.Advance.{notes_of};
-ghost use Rattle.rm_probe.specs.Notes.{Note, Sent};
+ghost use Rattle.rm_probe.specs.Notes.{Note};
+ghost use Rattle.rm_probe.specs.Said.{Sent};
 
 use crate::notes::Notes;
 use rm_agent::{Agent, Answer, MOST_FRAMES, MOST_REPLY, Settings, advance_is_orderly};
@@ -24,7 +25,8 @@ impl Probe {
     ghost use Rattle.rm_model.specs.Journal.{passes};
     ghost use Rattle.rm_pcap.specs.Progress.{frame_of};
     ghost use Rattle.rm_probe.specs.Advance.{IsAdvanced};
-    ghost use Rattle.rm_probe.specs.Text.{answer_text, IsAnswered};
+    ghost use Rattle.rm_probe.specs.Said.{response_of};
+    ghost use Rattle.rm_probe.specs.Text.{IsAnswered};
     ghost use Rattle.rm_probe.specs.Probe.{settings_of, last_given, frames_given, IsFresh, Stands};
 
     /// The probe before the first frame. NoMemory where there is none for the storage that tables take at first.
@@ -119,7 +121,7 @@ impl Probe {
         ensures answered { (more : List Note) × Sent N.since notes.old notes.new more
             × ((journal : Journal) → Stands self.old journal → (ready after : Journal)
             × IsAdvanced (settings_of self.old) moment journal more ready
-            × IsAnswered (settings_of self.old) ready moment bytes.now (answer_text result out.new) after × Stands self.new after) }
+            × IsAnswered (settings_of self.old) ready moment bytes.now (response_of result out.new) after × Stands self.new after) }
         ensures short { IsShort result }
         ensures settings { settings_of self.new ≡ settings_of self.old }
         ensures last { last_given self.new ≡ moment }

@@ -1,6 +1,7 @@
 // The text of a run: a capture and a request file are read again, which were judged before, and the datagrams are answered.
-ghost use Rattle.std.specs.Prelude.{◌≡◌, ◌⊎◌, ◌≤◌, ◌<◌, ◌^◌, ℕ, false, List, Some, Ok, Err, OnOk, IfErr, []};
+ghost use Rattle.std.specs.Prelude.{◌≡◌, ◌⊎◌, ◌≤◌, ◌<◌, ◌^◌, ◌++◌, ℕ, List, Some, None, Ok, Err, OnOk, IfErr, [], ◌∷◌, map};
 ghost use Rattle.rm_edge.specs.Outside.{Rose, File};
+ghost use Rattle.rm_edge.specs.Link.{Datagram};
 ghost use Rattle.rm_edge.specs.Shelves.{KeepsShelf};
 ghost use Rattle.rm_model.specs.Journal.{Frame, Journal};
 ghost use Rattle.rm_pcap.specs.View.{progress_of};
@@ -9,20 +10,23 @@ ghost use Rattle.rm_pcap.specs.declared.fault.PcapFault.TheVariants.{Read};
 ghost use Rattle.rm_probe.specs.Capture.{IsCapture, IsFaultless};
 ghost use Rattle.rm_requests.specs.Lines.{TimedDatagram, AreRequests};
 ghost use Rattle.rm_requests.specs.Reading.{beginning, reached_of};
-ghost use Rattle.rm_probe.specs.Notes.{Note, Sent};
+ghost use Rattle.rm_probe.specs.Notes.{Note};
+ghost use Rattle.rm_probe.specs.Said.{Notified, Responded, Response, Said, Sent};
+ghost use Rattle.rm_probe.specs.Output.{Says, failed_by};
 ghost use Rattle.rm_probe.specs.Probe.{settings_of, last_given, frames_given, IsFresh, Stands};
-ghost use Rattle.rm_probe.specs.Steps.{Advances, Answers, FindsAnother, Finishes, HasBegun, IsForeign, IsLastLine, IsNextLine, IsNotCapture, IsNotLeft, IsNotRequests, IsOfRecord, Keeps, Leaves, Notifies, Writes, WritesLine, done, timed, written_by};
+ghost use Rattle.rm_probe.specs.Steps.{Advances, Answers, FailsBy, FindsAnother, HasBegun, IsForeign, IsLastLine, IsLastSaid, IsNextSaid, IsNotCapture, IsNotLeft, IsNotRequests, IsOfRecord, IsQuiet, IsResponse, Keeps, Leaves, Notifies, SaysNext, SaysRun, Writes, ends_by, timed, told_by};
 ghost use Rattle.rm_probe.specs.Ends.{IsSilent};
 ghost use Rattle.rm_probe.specs.declared.status.Status.TheVariants.{ReadFault, WriteFault, NoMemory};
 
-use crate::laws::every_line;
+use crate::laws::something_said;
 use crate::line::{self, Line};
 use crate::notes::Notes;
-use crate::output::Output;
+use crate::output::{Output, OutputFault};
+use crate::post::{Post, Unsent};
 use crate::probe::Probe;
 use crate::status::Status;
 use rm_agent::MOST_REPLY;
-use rm_edge::{Failed, Shelf, Sink};
+use rm_edge::{Shelf, Sink};
 use rm_pcap::{Capture, PcapFault, Step};
 use rm_requests::Requests;
 use std::alloc::Global;
@@ -77,127 +81,125 @@ impl Replaying {
         }
     }
 
-    /// Counts the frames that are left, and writes the last line into an empty line, after so many datagrams.
-    fn finish<F: Shelf, N: Notes>(
-        &mut self,
-        shelf: &mut F,
-        name: &str,
-        requests: u64,
-        line: &mut Line,
-        notes: &mut N,
-    ) -> Result<(), PcapFault>
-        requires empty { line.old.items ≡ [] }
-        requires moment { last_given self.old.probe < 2 ^ 32 }
-        requires keeps { Keeps (last_given self.old.probe) self.old.probe (progress_of self.old.capture) }
-        ensures shelf { KeepsShelf F.held F.faults shelf.old shelf.new (λ each. each ≡ name.now) (result ≡ Err Read) }
-        ensures cause { result ≡ Err Read → Rose (F.faults shelf.old name.now) (F.faults shelf.new name.now) }
-        ensures kinds { IfErr result IsOfRecord }
-        ensures last { Notifies N.since notes.old notes.new (F.held shelf.old name.now) (λ more bytes.
-            Finishes bytes (progress_of self.old.capture) self.old.probe requests more line.new.items result) }
-    {
-        self.advance(shelf, name, u32::MAX, notes)?;
-        let frames = u64::from(self.capture.count());
-        let step = self.capture.next(shelf, name)?;
-        line::last_line(step, frames, requests, line);
-        Ok(())
-    }
-
     /// Counts the frames up to the moment of a datagram, answers it, and writes its line.
-    fn write_answer<F: Shelf, K: Sink>(
+    pub fn write_answer<F: Shelf, K: Sink, P: Post>(
         &mut self,
         alloc: Global,
         shelf: &mut F,
         name: &str,
         request: NumberedDatagram<'_>,
-        out: &mut Output<'_, K>,
+        out: &mut Output<'_, K, P>,
     ) -> Result<(), Status>
         requires later { last_given self.old.probe ≤ request.moment }
         requires keeps { Keeps (last_given self.old.probe) self.old.probe (progress_of self.old.capture) }
-        requires output { out.old.failed ≡ false }
+        requires output { out.old.failed ≡ None }
         ensures shelf { KeepsShelf F.held F.faults shelf.old shelf.new (λ each. each ≡ name.now) (result ≡ Err ReadFault) }
-        ensures line { (bytes : List ℕ) (frames : List Frame) (stop : Stop) (journal : Journal) → F.held shelf.old name.now ≡ File bytes
+        ensures says { (said : List Said) × Says K.content K.faults P.sent P.faults P.peers P.same out.old.sink.now out.old.post out.old.failed
+            out.new.sink.now out.new.post out.new.failed said
+            × ((bytes : List ℕ) (frames : List Frame) (stop : Stop) (journal : Journal) → F.held shelf.old name.now ≡ File bytes
             → Leaves (progress_of self.old.capture) bytes frames stop → Stands self.old.probe journal
-            → WritesLine (IsNextLine bytes (progress_of self.old.capture) (progress_of self.new.capture) (settings_of self.old.probe) self.new.probe
-            request.entry.number (timed request.entry) frames stop journal) (HasBegun (settings_of self.old.probe) request.entry.moment frames journal) stop
-            (K.content out.old.sink.now) (K.content out.new.sink.now) result }
+            → SaysNext (IsNextSaid bytes (progress_of self.old.capture) (progress_of self.new.capture) (settings_of self.old.probe) self.new.probe
+            request.entry.number (timed request.entry) frames stop journal) (HasBegun (settings_of self.old.probe) request.entry.moment frames journal) stop said result)
+            × (IsResponse request.entry.number said ⊎ ((notes : List Note) × (said ≡ map Notified notes))) }
+        ensures failed { FailsBy out.new.failed result }
+        ensures same_reference { out.new.sink.ghost_name ≡ out.old.sink.ghost_name }
         ensures settings { settings_of self.new.probe ≡ settings_of self.old.probe }
         ensures keeps { OnOk result (Keeps (last_given self.new.probe) self.new.probe (progress_of self.new.capture)) }
         ensures last { OnOk result (last_given self.new.probe ≡ request.entry.moment) }
-        ensures output { OnOk result (out.new.failed ≡ false) }
-        ensures sink { (out.new.sink.ghost_name ≡ out.old.sink.ghost_name) × (K.faults out.old.sink.now ≤ K.faults out.new.sink.now) }
         ensures reads { result ≡ Err ReadFault → Rose (F.faults shelf.old name.now) (F.faults shelf.new name.now) }
-        ensures writes { result ≡ Err WriteFault → Rose (K.faults out.old.sink.now) (K.faults out.new.sink.now) }
         ensures loud { IfErr result (λ status. IsForeign status → ⊥) }
     {
         self.advance(shelf, name, request.moment, out)?;
-        let mut line = Line::new();
-        answer(alloc, &mut self.probe, request, &mut line, out);
-        written(out.put(&line))
+        told(answer(alloc, &mut self.probe, request, out))
     }
 
-    /// Writes the last line, after so many datagrams.
-    fn write_last<F: Shelf, K: Sink>(
+    /// Writes the last line, after so many datagrams. It says `cut` where no frame is left and the file cuts a record short.
+    pub fn put_last<F: Shelf, K: Sink, P: Post>(
         &mut self,
         shelf: &mut F,
         name: &str,
         requests: u64,
-        out: &mut Output<'_, K>,
-    ) -> Status
+        out: &mut Output<'_, K, P>,
+    ) -> Result<(), Status>
+        ensures shelf { KeepsShelf F.held F.faults shelf.old shelf.new (λ each. each ≡ name.now) (result ≡ Err ReadFault) }
+        ensures same_reference { out.new.sink.ghost_name ≡ out.old.sink.ghost_name }
+        ensures says { (said : List Said) × Says K.content K.faults P.sent P.faults P.peers P.same out.old.sink.now out.old.post out.old.failed
+            out.new.sink.now out.new.post out.new.failed said
+            × ((bytes : List ℕ) (frames : List Frame) (stop : Stop) → F.held shelf.old name.now ≡ File bytes
+            → Leaves (progress_of self.old.capture) bytes frames stop
+            → SaysNext (IsLastLine (progress_of self.old.capture).reach.count requests frames stop) (λ notes. notes ≡ []) stop said result) }
+        ensures failed { FailsBy out.new.failed result }
+        ensures reads { result ≡ Err ReadFault → Rose (F.faults shelf.old name.now) (F.faults shelf.new name.now) }
+        ensures loud { IfErr result (λ status. IsForeign status → ⊥) }
+    {
+        let frames = u64::from(self.capture.count());
+        let step = self.capture.next(shelf, name)?;
+        let mut line = Line::new();
+        line::last_line(step, frames, requests, &mut line);
+        told(out.put(&line))
+    }
+
+    /// Counts the frames that are left, and writes the last line, after so many datagrams.
+    fn write_last<F: Shelf, K: Sink, P: Post>(
+        &mut self,
+        shelf: &mut F,
+        name: &str,
+        requests: u64,
+        out: &mut Output<'_, K, P>,
+    ) -> Result<(), Status>
         requires moment { last_given self.old.probe < 2 ^ 32 }
         requires keeps { Keeps (last_given self.old.probe) self.old.probe (progress_of self.old.capture) }
-        requires output { out.old.failed ≡ false }
-        ensures line { (bytes : List ℕ) (frames : List Frame) (stop : Stop) (journal : Journal) → F.held shelf.old name.now ≡ File bytes
+        requires output { out.old.failed ≡ None }
+        ensures shelf { KeepsShelf F.held F.faults shelf.old shelf.new (λ each. each ≡ name.now) (result ≡ Err ReadFault) }
+        ensures same_reference { out.new.sink.ghost_name ≡ out.old.sink.ghost_name }
+        ensures says { (said : List Said) × Says K.content K.faults P.sent P.faults P.peers P.same out.old.sink.now out.old.post out.old.failed
+            out.new.sink.now out.new.post out.new.failed said
+            × ((bytes : List ℕ) (frames : List Frame) (stop : Stop) (journal : Journal) → F.held shelf.old name.now ≡ File bytes
             → Leaves (progress_of self.old.capture) bytes frames stop → Stands self.old.probe journal
-            → WritesLine (IsLastLine (settings_of self.old.probe) (progress_of self.old.capture).reach.count requests frames stop journal)
-            (HasBegun (settings_of self.old.probe) 4294967295 frames journal) stop (K.content out.old.sink.now) (K.content out.new.sink.now) (done result) }
-        ensures sink { (out.new.sink.ghost_name ≡ out.old.sink.ghost_name) × (K.faults out.old.sink.now ≤ K.faults out.new.sink.now) }
-        ensures reads { result ≡ ReadFault → Rose (F.faults shelf.old name.now) (F.faults shelf.new name.now) }
-        ensures shelf { KeepsShelf F.held F.faults shelf.old shelf.new (λ each. each ≡ name.now) (result ≡ ReadFault) }
-        ensures writes { result ≡ WriteFault → Rose (K.faults out.old.sink.now) (K.faults out.new.sink.now) }
-        ensures loud { IsForeign result → ⊥ }
+            → SaysNext (IsLastSaid (settings_of self.old.probe) (progress_of self.old.capture).reach.count requests frames stop journal)
+            (HasBegun (settings_of self.old.probe) 4294967295 frames journal) stop said result) }
+        ensures failed { FailsBy out.new.failed result }
+        ensures reads { result ≡ Err ReadFault → Rose (F.faults shelf.old name.now) (F.faults shelf.new name.now) }
+        ensures loud { IfErr result (λ status. IsForeign status → ⊥) }
     {
-        let mut line = Line::new();
-        match self.finish(shelf, name, requests, &mut line, out) {
-            Ok(()) => (),
-            Err(fault) => return Status::from(fault),
-        }
-        Status::of_put(out.put(&line))
+        self.advance(shelf, name, u32::MAX, out)?;
+        self.put_last(shelf, name, requests, out)
     }
 
     /// Writes the lines of the datagrams of a request file, which is read from its first line on, and the last one.
-    fn write_lines<F: Shelf, K: Sink>(
+    fn write_lines<F: Shelf, K: Sink, P: Post>(
         &mut self,
         alloc: Global,
         shelf: &mut F,
         name: &str,
         requests: &str,
         reader: &mut Requests,
-        out: &mut Output<'_, K>,
-    ) -> Status
+        out: &mut Output<'_, K, P>,
+    ) -> Result<(), Status>
         requires reached { reached_of reader.old ≡ beginning }
         requires first { IsFresh self.old.probe }
         requires begun { Keeps 0 self.old.probe (progress_of self.old.capture) }
-        requires output { out.old.failed ≡ false }
-        ensures text { (bytes lines : List ℕ) (frames : List Frame) (stop : Stop) (asked : List TimedDatagram)
+        requires output { out.old.failed ≡ None }
+        ensures same_reference { out.new.sink.ghost_name ≡ out.old.sink.ghost_name }
+        ensures says { (said : List Said) × Says K.content K.faults P.sent P.faults P.peers P.same out.old.sink.now out.old.post out.old.failed
+            out.new.sink.now out.new.post out.new.failed said
+            × ((bytes lines : List ℕ) (frames : List Frame) (stop : Stop) (asked : List TimedDatagram)
             → F.held shelf.old name.now ≡ File bytes → F.held shelf.old requests.now ≡ File lines
             → Leaves (progress_of self.old.capture) bytes frames stop → (progress_of self.old.capture).reach.count ≡ 0 → IsFaultless stop
-            → AreRequests lines asked
-            → Writes (settings_of self.old.probe) frames stop asked (K.content out.old.sink.now) (K.content out.new.sink.now) result }
-        ensures finds { FindsAnother (IsNotLeft (F.held shelf.old name.now) (progress_of self.old.capture)) (IsNotRequests (F.held shelf.old requests.now)) result }
-        ensures same_reference { out.new.sink.ghost_name ≡ out.old.sink.ghost_name }
-        ensures write_later { K.faults out.old.sink.now ≤ K.faults out.new.sink.now }
-        ensures reads { result ≡ ReadFault → Rose (F.faults shelf.old name.now) (F.faults shelf.new name.now)
+            → AreRequests lines asked → SaysRun (settings_of self.old.probe) frames stop asked said result) }
+        ensures failed { FailsBy out.new.failed result }
+        ensures finds { FindsAnother (IsNotLeft (F.held shelf.old name.now) (progress_of self.old.capture)) (IsNotRequests (F.held shelf.old requests.now)) (ends_by result) }
+        ensures reads { result ≡ Err ReadFault → Rose (F.faults shelf.old name.now) (F.faults shelf.new name.now)
             ⊎ Rose (F.faults shelf.old requests.now) (F.faults shelf.new requests.now) }
-        ensures shelf { KeepsShelf F.held F.faults shelf.old shelf.new (λ each. (each ≡ name.now) ⊎ (each ≡ requests.now)) (result ≡ ReadFault) }
-        ensures writes { result ≡ WriteFault → Rose (K.faults out.old.sink.now) (K.faults out.new.sink.now) }
-        ensures loud { IsSilent result → ⊥ }
+        ensures shelf { KeepsShelf F.held F.faults shelf.old shelf.new (λ each. (each ≡ name.now) ⊎ (each ≡ requests.now)) (result ≡ Err ReadFault) }
+        ensures loud { IsQuiet (ends_by result) → ⊥ }
     {
-        every_line();
+        something_said();
         loop {
             let asked = match reader.next(shelf, requests) {
                 Ok(Some(asked)) => asked,
                 Ok(None) => return self.write_last(shelf, name, reader.passed(), out),
-                Err(fault) => return Status::of_requests(fault),
+                Err(fault) => return Err(Status::of_requests(fault)),
             };
             let request = NumberedDatagram {
                 number: asked.number,
@@ -206,42 +208,33 @@ impl Replaying {
             };
             match self.write_answer(alloc, shelf, name, request, out) {
                 Ok(()) => (),
-                Err(status) => return status,
+                Err(status) => return Err(status),
             }
         }
     }
 }
 
-// Takes the samples that are due up to the moment of a datagram, answers it, and writes its line into an empty line.
-#[tactic(auto, unfolding(crate::specs::Text::IsAnswer))]
-fn answer<N: Notes>(
+// Takes the samples that are due up to the moment of a datagram, and answers it.
+fn answer<K: Sink, P: Post>(
     alloc: Global,
     probe: &mut Probe,
     request: NumberedDatagram<'_>,
-    line: &mut Line,
-    notes: &mut N,
-)
-    requires empty { line.old.items ≡ [] }
+    out: &mut Output<'_, K, P>,
+) -> Result<(), OutputFault>
     requires later { last_given probe.old ≤ request.moment }
-    ensures answers { (more : List Note) × Sent N.since notes.old notes.new more
-        × Answers probe.old probe.new request.entry.number (timed request.entry) more line.new.items }
+    ensures same_reference { out.new.sink.ghost_name ≡ out.old.sink.ghost_name }
+    ensures answers { (more : List Note) × (response : Response)
+        × Says K.content K.faults P.sent P.faults P.peers P.same out.old.sink.now out.old.post out.old.failed
+        out.new.sink.now out.new.post out.new.failed (map Notified more ++ Responded request.entry.number request.entry.moment response ∷ [])
+        × Answers probe.old probe.new (timed request.entry) more response }
+    ensures failed { out.new.failed ≡ failed_by result }
     ensures settings { settings_of probe.new ≡ settings_of probe.old }
     ensures last { last_given probe.new ≡ request.entry.moment }
     ensures frames { frames_given probe.new ≡ frames_given probe.old }
 {
-    let mut out = [0; MOST_REPLY];
-    let answer = probe.datagram(alloc, request.datagram, request.moment, &mut out, notes);
-    line::answer_line(request.moment, request.number, answer, &out, line);
-}
-
-// A put that fails ends the run.
-fn written(put: Result<(), Failed>) -> Result<(), Status>
-    ensures { result ≡ written_by put }
-{
-    match put {
-        Ok(()) => Ok(()),
-        Err(_) => Err(Status::WriteFault),
-    }
+    let mut reply = [0; MOST_REPLY];
+    let answer = probe.datagram(alloc, request.datagram, request.moment, &mut reply, out);
+    out.answer(request.moment, request.number, answer, &reply)
 }
 
 /// Reads both files again, the capture with its first frame at the moment `lead`, and writes the text of them.
@@ -270,13 +263,34 @@ pub fn write_run<F: Shelf, K: Sink>(
     ensures later { K.faults out.old ≤ K.faults out.new }
     ensures kinds { IsSilent result → result ≡ NoMemory }
 {
-    every_line();
+    something_said();
     match Capture::begin(alloc, shelf, name, lead) {
         Ok(capture) => {
             let mut replaying = Replaying { capture, probe };
             let mut output = Output::new(out);
-            replaying.write_lines(alloc, shelf, name, requests, reader, &mut output)
+            let run = replaying.write_lines(alloc, shelf, name, requests, reader, &mut output);
+            ended(run)
         }
         Err(fault) => Status::from(fault),
+    }
+}
+
+// An output that takes nothing more ends the run.
+fn told(output: Result<(), OutputFault>) -> Result<(), Status>
+    ensures { result ≡ told_by output }
+{
+    match output {
+        Ok(()) => Ok(()),
+        Err(fault) => Err(Status::from(fault)),
+    }
+}
+
+// How a run ends by its result.
+fn ended(run: Result<(), Status>) -> Status
+    ensures { result ≡ ends_by run }
+{
+    match run {
+        Ok(()) => Status::Done,
+        Err(status) => status,
     }
 }

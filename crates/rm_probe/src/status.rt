@@ -1,7 +1,7 @@
 // How a run ended.
 ghost use Rattle.std.specs.Prelude.{◌≡◌, Some};
 
-use rm_edge::Failed;
+use crate::output::OutputFault;
 use rm_pcap::PcapFault;
 use rm_requests::RequestsFault;
 use std::fmt::{self, Display, Formatter, Write};
@@ -31,7 +31,7 @@ pub enum Status {
 
 impl Status {
     ghost use Rattle.rm_probe.specs.Requests.{status_by};
-    ghost use Rattle.rm_probe.specs.Status.{number_of, status_after};
+    ghost use Rattle.rm_probe.specs.Status.{number_of};
 
     /// The exit status of the program that ends so.
     pub fn number(&self) -> u8
@@ -47,16 +47,6 @@ impl Status {
             Status::NoMemory => 7,
             Status::LinkFault => 8,
             Status::TooLong => 9,
-        }
-    }
-
-    /// How a run ends by the put of its last line.
-    pub(crate) fn of_put(put: Result<(), Failed>) -> Status
-        ensures { result ≡ status_after put }
-    {
-        match put {
-            Ok(()) => Status::Done,
-            Err(_) => Status::WriteFault,
         }
     }
 
@@ -90,6 +80,21 @@ impl From<PcapFault> for Status {
             PcapFault::TooMany => Status::TooLong,
             PcapFault::Read => Status::ReadFault,
             PcapFault::NoMemory => Status::NoMemory,
+        }
+    }
+}
+
+/// How a run ends where its output takes nothing more.
+impl From<OutputFault> for Status {
+    ghost use Rattle.std.specs.Prelude.{◌≡◌};
+    ghost use Rattle.rm_probe.specs.Status.{status_for};
+
+    ghost from_gives = { λ fault status. status ≡ status_for fault };
+
+    fn from(fault: OutputFault) -> Status {
+        match fault {
+            OutputFault::Put => Status::WriteFault,
+            OutputFault::Send => Status::LinkFault,
         }
     }
 }

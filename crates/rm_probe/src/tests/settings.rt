@@ -3,7 +3,7 @@ ghost use Rattle.std.specs.Prelude.{◌≡◌, ◌≤◌, length};
 ghost use Rattle.rm_probe.specs.Probe.{last_given, frames_given};
 
 use super::{PACKETS, PACKETS_REPLY, capture_of, shelf_of, sink_of};
-use crate::{Output, Probe, Status, replay};
+use crate::{Output, Probe, Status, Unsent, replay};
 use arrayvec::ArrayVec;
 use rm_agent::{Answer, MOST_REPLY, Settings};
 use rm_edge::MemSink;
@@ -47,7 +47,7 @@ fn said(
     probe: &mut Probe,
     datagram: &[u8],
     moment: u32,
-    output: &mut Output<'_, MemSink>,
+    output: &mut Output<'_, MemSink, Unsent>,
 ) -> Result<String, Fail>
     requires { last_given probe.old ≤ moment }
     ensures last { last_given probe.new ≡ moment }

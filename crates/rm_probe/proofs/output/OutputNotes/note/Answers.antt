@@ -1,13 +1,15 @@
-use Rattle.std.proofs.Common.{◌∙◌}
-use Rattle.rm_probe.proofs.NoteLemmas.{noted_more}
+use Rattle.std.proofs.Common.{◌∙◌, ◌∷◌, [], ℕ}
+use Rattle.rm_probe.specs.Said.{Notified}
+use Rattle.rm_probe.specs.declared.post.Addressee.TheVariants.{Manager, Asking}
+use Rattle.rm_probe.proofs.StepLemmas.{one_note, says_then}
 use Rattle.rm_probe.proofs.output.OutputNotes.note.Goals as goal
 
 pub returns : goal.returns
 returns g c = record {
-  noted = λ start notes since. (
-    c.put.ensures.same_reference ∙ since.0,
-    noted_more (g.K.Sink.content start.sink.now) (g.K.Sink.content c.args.self.now.sink.now) (g.K.Sink.content c.put.new.self.sink.now) (g.K.Sink.faults start.sink.now) (g.K.Sink.faults c.args.self.now.sink.now) (g.K.Sink.faults c.put.new.self.sink.now)
-        start.failed c.args.self.now.failed c.put.new.self.failed notes (record { moment = c.args.moment; message = c.args.message.now }) c.put.result since.1
-        (record { octets = rw c.trap_line.ensures at c.put.ensures.octets; later = c.put.ensures.later; cause = c.put.ensures.cause; first = c.put.ensures.first; stays = c.put.ensures.stays; failed_now = c.put.ensures.failed }),
+  noted = λ start said since. (
+    c.tell.ensures.same_reference ∙ since.0,
+    says_then g.K.Sink.content g.K.Sink.faults g.P.Post.sent g.P.Post.faults g.P.Post.peers g.P.Post.same g.met.P.Post.onward g.met.P.Post.kept start.sink.now c.args.self.now.sink.now c.tell.new.self.sink.now
+        start.post c.args.self.now.post c.tell.new.self.post start.failed c.args.self.now.failed c.tell.new.self.failed said (Notified (record { moment = c.args.moment; message = c.args.message.now }) ∷ []) since.1
+        (record { still = c.tell.ensures.post; adds = one_note (g.P.Post.peers c.args.self.now.post Manager) (λ (number : ℕ). g.P.Post.peers c.args.self.now.post Asking) _ _ _ (rw c.trap_line.ensures at c.tell.ensures.adds) }),
   );
 }

@@ -1,7 +1,8 @@
 use Rattle.std.proofs.Common.{subst}
 use Rattle.rm_agent.specs.declared.settings.Settings.{Settings}
 use Rattle.rm_probe.specs.Probe.{settings_of}
-use Rattle.rm_probe.specs.Text.{answer_text, IsAnswered}
+use Rattle.rm_probe.specs.Said.{response_of}
+use Rattle.rm_probe.specs.Text.{IsAnswered}
 use Rattle.rm_probe.proofs.AnswerLemmas.{is_answered}
 use Rattle.rm_probe.proofs.probe.Probe.datagram.Goals as goal
 
@@ -19,7 +20,7 @@ returns-clause-answered g c =
             ready,
             after,
             is,
-            subst (λ (settings : Settings). IsAnswered settings ready c.args.moment c.args.bytes.now (answer_text c.answer.result c.answer.new.out) after) c.advance.ensures.settings answered,
+            subst (λ (settings : Settings). IsAnswered settings ready c.args.moment c.args.bytes.now (response_of c.answer.result c.answer.new.out) after) c.advance.ensures.settings answered,
             stays none,
           ),
     )

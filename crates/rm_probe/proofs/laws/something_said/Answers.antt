@@ -1,9 +1,9 @@
-use Rattle.rm_probe.proofs.PassingLemmas.{some_lines}
-use Rattle.rm_probe.proofs.laws.every_line.Goals as goal
+use Rattle.rm_probe.proofs.PassingLemmas.{some_said}
+use Rattle.rm_probe.proofs.laws.something_said.Goals as goal
 
 pub returns : goal.returns
 returns c settings journal orderly events =
-    some_lines settings (record {
+    some_said settings (record {
       parse = c.every_parse.ensures;
       reply = c.every_reply.ensures;
       samples = c.every_advance.ensures;
