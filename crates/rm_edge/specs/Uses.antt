@@ -52,6 +52,23 @@ pub record ClockUse : Type 0 where
   pub told : Option (List ℕ)
   pub told_after : Option (List ℕ)
 
+-- a socket, by what links tell and count
+abbrev pub link_use : {L : Type 0} → (L → Option (List ℕ)) → (L → Option (List Datagram)) → (L → Option (List Datagram)) → (L → ℕ) → L → L → LinkUse
+link_use bound received sent faults old new = record {
+  bound = bound old;
+  received = received old;
+  sent = sent old;
+  faults = faults old;
+  bound_after = bound new;
+  received_after = received new;
+  sent_after = sent new;
+  faults_after = faults new;
+}
+
+-- a clock, by what clocks tell
+abbrev pub clock_use : {T : Type 0} → (T → Option (List ℕ)) → T → T → ClockUse
+clock_use told old new = record { told = told old; told_after = told new }
+
 -- a call on the socket failed
 abbrev pub HasLinkFault : LinkUse → Type 0
 HasLinkFault link = Rose link.faults link.faults_after
