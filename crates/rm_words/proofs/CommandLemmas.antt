@@ -3,11 +3,11 @@ use Rattle.std.proofs.Common.{◌≡◌, ℕ, List, [], ◌∷◌, drop, Option,
 use Rattle.std.specs.Prelude.{slice_get}
 use Rattle.std.specs.Option.{is_some}
 use Rattle.rm_words.specs.Names.{commands, word_of, command_named}
-use Rattle.rm_words.specs.Grammar.{Piece, Spells, Options, AreOptions, AreOfReplay, AreOfSummary, Command, replay, summary, decode, StandFor, for_replay, for_summary, for_decode}
+use Rattle.rm_words.specs.Grammar.{Piece, Spells, Options, AreOptions, AreOfReplay, AreOfServe, AreOfSummary, Command, replay, serve, summary, decode, StandFor, for_replay, for_serve, for_summary, for_decode, number_within, port_of}
 use Rattle.rm_words.specs.Parts.{are_whole, pieces_from}
 use Rattle.rm_words.specs.Told.{AreOf, IsRead, command_of}
 use Rattle.rm_words.specs.declared.names.CommandName.{CommandName}
-use Rattle.rm_words.specs.declared.names.CommandName.TheVariants.{Replay, Summary, Decode}
+use Rattle.rm_words.specs.declared.names.CommandName.TheVariants.{Replay, Serve, Summary, Decode}
 use Rattle.rm_words.specs.declared.command.Command as code
 use Rattle.rm_words.specs.declared.parts.Expected.TheVariants.{Any}
 use Rattle.rm_words.proofs.PartLemmas.{found}
@@ -19,6 +19,15 @@ two_operands [] first second a b c = absurd cc
 two_operands (x ∷ []) first second a b c = absurd cc
 two_operands (x ∷ y ∷ []) first second a b c = cc
 two_operands (x ∷ y ∷ z ∷ more) first second a b c = absurd cc
+
+-- four operands, of which there are three
+pub three_operands : (texts : List (List ℕ)) (first second third : List ℕ) → slice_get texts 0 ≡ Some first → slice_get texts 1 ≡ Some second → slice_get texts 2 ≡ Some third → slice_get texts 3 ≡ None
+    → texts ≡ first ∷ second ∷ third ∷ []
+three_operands [] first second third a b c d = absurd cc
+three_operands (x ∷ []) first second third a b c d = absurd cc
+three_operands (x ∷ y ∷ []) first second third a b c d = absurd cc
+three_operands (x ∷ y ∷ z ∷ []) first second third a b c d = cc
+three_operands (x ∷ y ∷ z ∷ w ∷ more) first second third a b c d = absurd cc
 
 in_some : {A : Type 0} (x y : A) → ◌≡◌ {A = Option A} (Some x) (Some y) → x ≡ y
 in_some x y e = cc
@@ -56,6 +65,7 @@ with_word name word words pieces command is spells are = record {
 
 is_of : (all : List (List ℕ)) (command : Command) → StandFor all command → IsOf all command
 is_of all command (for_replay word words pieces capture requests options is spells are) = with_word Replay word words pieces command is spells are
+is_of all command (for_serve word words pieces capture port count trap_port options is spells are) = with_word Serve word words pieces command is spells are
 is_of all command (for_summary word words pieces capture lead keep_short is spells are) = with_word Summary word words pieces command is spells are
 is_of all command (for_decode word words pieces hex is spells are) = with_word Decode word words pieces command is spells are
 
@@ -63,13 +73,20 @@ is_of all command (for_decode word words pieces hex is spells are) = with_word D
 stand : (name : CommandName) (word : List ℕ) (words : List (List ℕ)) (pieces : List Piece) (command : Command) → word ≡ word_of name → Spells name words pieces → AreOf name pieces command
     → StandFor (word ∷ words) command
 stand Replay word words pieces (replay capture requests options) is spells are = for_replay word words pieces capture requests options is spells are
+stand Serve word words pieces (serve capture port count trap_port options) is spells are = for_serve word words pieces capture port count trap_port options is spells are
 stand Summary word words pieces (summary capture lead keep_short) is spells are = for_summary word words pieces capture lead keep_short is spells are
 stand Decode word words pieces (decode hex) is spells are = for_decode word words pieces hex is spells are
+stand Replay word words pieces (serve capture port count trap_port options) is spells are = absurd are
 stand Replay word words pieces (summary capture lead keep_short) is spells are = absurd are
 stand Replay word words pieces (decode hex) is spells are = absurd are
+stand Serve word words pieces (replay capture requests options) is spells are = absurd are
+stand Serve word words pieces (summary capture lead keep_short) is spells are = absurd are
+stand Serve word words pieces (decode hex) is spells are = absurd are
 stand Summary word words pieces (replay capture requests options) is spells are = absurd are
+stand Summary word words pieces (serve capture port count trap_port options) is spells are = absurd are
 stand Summary word words pieces (decode hex) is spells are = absurd are
 stand Decode word words pieces (replay capture requests options) is spells are = absurd are
+stand Decode word words pieces (serve capture port count trap_port options) is spells are = absurd are
 stand Decode word words pieces (summary capture lead keep_short) is spells are = absurd are
 
 behind : (all : List (List ℕ)) (word : List ℕ) (words : List (List ℕ)) → all ≡ word ∷ words → words ≡ drop 1 all
@@ -83,6 +100,7 @@ in_front all word first words is at =
 word_found : (name : CommandName) → command_named (word_of name) ≡ Some name
 unfolding command_named
 word_found Replay = refl
+word_found Serve = refl
 word_found Summary = refl
 word_found Decode = refl
 
@@ -168,6 +186,19 @@ same_replay pieces capture requests capture' requests' options options' a b =
     let second : requests ≡ requests' = cc in
     cc
 
+same_serve : (pieces : List Piece) (capture capture' : List ℕ) (port count trap_port port' count' trap_port' : ℕ) (options options' : Options) → AreOfServe pieces capture port count trap_port options
+    → AreOfServe pieces capture' port' count' trap_port' options' → serve capture port count trap_port options ≡ serve capture' port' count' trap_port' options'
+same_serve pieces capture capture' port count trap_port port' count' trap_port' options options' a b =
+    let texts : ◌≡◌ {A = List (List ℕ)} (capture ∷ a.port_text ∷ a.count_text ∷ []) (capture' ∷ b.port_text ∷ b.count_text ∷ []) = sym a.operands_are ∙ b.operands_are in
+    let first : capture ≡ capture' = cc in
+    let second : a.port_text ≡ b.port_text = cc in
+    let third : a.count_text ≡ b.count_text = cc in
+    let ports : port ≡ port' = same_setting _ _ _ a.port_is (ap port_of second ∙ b.port_is) in
+    let counts : count ≡ count' = same_setting _ _ _ a.count_is (ap (number_within 1 1000000) third ∙ b.count_is) in
+    let trap_ports : trap_port ≡ trap_port' = same_setting _ _ _ a.trap_port_is b.trap_port_is in
+    let same = same_options pieces options options' a.options_are b.options_are in
+    cc
+
 same_operand : (text text' : List ℕ) → ◌≡◌ {A = List (List ℕ)} (text ∷ []) (text' ∷ []) → text ≡ text'
 same_operand text text' same = cc
 
@@ -180,19 +211,32 @@ same_summary pieces capture capture' lead lead' keep_short keep_short' a b =
 
 same_are : (name : CommandName) (pieces : List Piece) (one other : Command) → AreOf name pieces one → AreOf name pieces other → one ≡ other
 same_are Replay pieces (replay capture requests options) (replay capture' requests' options') a b = same_replay pieces capture requests capture' requests' options options' a b
+same_are Serve pieces (serve capture port count trap_port options) (serve capture' port' count' trap_port' options') a b = same_serve pieces capture capture' port count trap_port port' count' trap_port' options options' a b
 same_are Summary pieces (summary capture lead keep_short) (summary capture' lead' keep_short') a b = same_summary pieces capture capture' lead lead' keep_short keep_short' a b
 same_are Decode pieces (decode hex) (decode hex') a b = ap decode (same_operand hex hex' (sym a.operand_is ∙ b.operand_is))
-same_are Replay pieces (replay capture requests options) (summary capture' lead keep_short) a b = absurd b
-same_are Replay pieces (replay capture requests options) (decode hex) a b = absurd b
+same_are Replay pieces (replay capture requests options) (serve capture' port' count' trap_port' options') a b = absurd b
+same_are Replay pieces (replay capture requests options) (summary capture' lead' keep_short') a b = absurd b
+same_are Replay pieces (replay capture requests options) (decode hex') a b = absurd b
+same_are Replay pieces (serve capture port count trap_port options) other a b = absurd a
 same_are Replay pieces (summary capture lead keep_short) other a b = absurd a
 same_are Replay pieces (decode hex) other a b = absurd a
-same_are Summary pieces (summary capture lead keep_short) (replay capture' requests options) a b = absurd b
-same_are Summary pieces (summary capture lead keep_short) (decode hex) a b = absurd b
+same_are Serve pieces (serve capture port count trap_port options) (replay capture' requests' options') a b = absurd b
+same_are Serve pieces (serve capture port count trap_port options) (summary capture' lead' keep_short') a b = absurd b
+same_are Serve pieces (serve capture port count trap_port options) (decode hex') a b = absurd b
+same_are Serve pieces (replay capture requests options) other a b = absurd a
+same_are Serve pieces (summary capture lead keep_short) other a b = absurd a
+same_are Serve pieces (decode hex) other a b = absurd a
+same_are Summary pieces (summary capture lead keep_short) (replay capture' requests' options') a b = absurd b
+same_are Summary pieces (summary capture lead keep_short) (serve capture' port' count' trap_port' options') a b = absurd b
+same_are Summary pieces (summary capture lead keep_short) (decode hex') a b = absurd b
 same_are Summary pieces (replay capture requests options) other a b = absurd a
+same_are Summary pieces (serve capture port count trap_port options) other a b = absurd a
 same_are Summary pieces (decode hex) other a b = absurd a
-same_are Decode pieces (decode hex) (replay capture requests options) a b = absurd b
-same_are Decode pieces (decode hex) (summary capture lead keep_short) a b = absurd b
+same_are Decode pieces (decode hex) (replay capture' requests' options') a b = absurd b
+same_are Decode pieces (decode hex) (serve capture' port' count' trap_port' options') a b = absurd b
+same_are Decode pieces (decode hex) (summary capture' lead' keep_short') a b = absurd b
 same_are Decode pieces (replay capture requests options) other a b = absurd a
+same_are Decode pieces (serve capture port count trap_port options) other a b = absurd a
 same_are Decode pieces (summary capture lead keep_short) other a b = absurd a
 
 pub one_stands : (all : List (List ℕ)) (one other : Command) → StandFor all one → StandFor all other → one ≡ other

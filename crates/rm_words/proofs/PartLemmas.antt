@@ -11,7 +11,7 @@ use Rattle.rm_words.specs.Names.{name_of, takes_value, options, option_named}
 use Rattle.rm_words.specs.Grammar.{dashes, is_plain}
 use Rattle.rm_words.specs.Parts.{is_equals, alone_part, joined_part, cut_part, named_part, dashed_part, plain_part}
 use Rattle.rm_words.specs.declared.names.OptionName.{OptionName}
-use Rattle.rm_words.specs.declared.names.OptionName.TheVariants.{Hosts, Pairs, Upper, Lead, KeepShort, Read, Write}
+use Rattle.rm_words.specs.declared.names.OptionName.TheVariants.{Hosts, Pairs, Upper, Lead, KeepShort, Read, Write, TrapPort}
 use Rattle.rm_words.specs.declared.parts.Part.{Part}
 use Rattle.rm_words.specs.declared.parts.Part.TheVariants.{Operand, End, Flag, Name, Joined, Value, Unknown}
 
@@ -25,6 +25,7 @@ named Lead = refl
 named KeepShort = refl
 named Read = refl
 named Write = refl
+named TrapPort = refl
 
 -- what is found by a text has that text
 pub found : {X : Type 0} (of : X → List ℕ) (text : List ℕ) (some : List X) (one : X) → find (λ x. bytes_eq (of x) text) some ≡ Some one → text ≡ of one
@@ -49,6 +50,7 @@ no_mark Lead = refl
 no_mark KeepShort = refl
 no_mark Read = refl
 no_mark Write = refl
+no_mark TrapPort = refl
 
 -- a name alone
 pub alone : (option : OptionName) → plain_part (dashes ++ name_of option) ≡ alone_part (Some option)
@@ -60,6 +62,7 @@ alone Lead = refl
 alone KeepShort = refl
 alone Read = refl
 alone Write = refl
+alone TrapPort = refl
 
 -- a name with a value
 cut : (option : OptionName) (value : List ℕ) → position_or_len is_equals (name_of option ++ 61 ∷ value) ≡ length (name_of option) → take (length (name_of option)) (name_of option ++ 61 ∷ value) ≡ name_of option
@@ -81,6 +84,7 @@ with_value Lead value = cut Lead value refl refl
 with_value KeepShort value = cut KeepShort value refl refl
 with_value Read value = cut Read value refl refl
 with_value Write value = cut Write value refl refl
+with_value TrapPort value = cut TrapPort value refl refl
 
 pub value_stands : (option : OptionName) (value : List ℕ) → drop (length (name_of option) + 3) (dashes ++ name_of option ++ codes "=" ++ value) ≡ value
 value_stands Hosts value = refl
@@ -90,6 +94,7 @@ value_stands Lead value = refl
 value_stands KeepShort value = refl
 value_stands Read value = refl
 value_stands Write value = refl
+value_stands TrapPort value = refl
 
 -- what a part tells of the word
 abbrev pub Tells : Part → List ℕ → Type 0
@@ -120,6 +125,7 @@ joins Lead value = refl
 joins KeepShort value = refl
 joins Read value = refl
 joins Write value = refl
+joins TrapPort value = refl
 
 joined_tells : (text : List ℕ) (at : ℕ) → position is_equals text ≡ Some at → Tells (joined_part (at + 3) (option_named (take at text))) (45 ∷ 45 ∷ text)
 joined_tells text at stands = by_option (option_named (take at text)) refl

@@ -6,9 +6,9 @@ use Rattle.std.specs.List.{list_all, slice_index}
 use Rattle.std.specs.Char.{is_ascii_graphic, is_ascii_hexdigit}
 use Rattle.rm_words.specs.Names.{word_of, takes, name_of, takes_value}
 use Rattle.rm_words.specs.declared.names.CommandName.{CommandName}
-use Rattle.rm_words.specs.declared.names.CommandName.TheVariants.{Replay, Summary, Decode}
+use Rattle.rm_words.specs.declared.names.CommandName.TheVariants.{Replay, Serve, Summary, Decode}
 use Rattle.rm_words.specs.declared.names.OptionName.{OptionName}
-use Rattle.rm_words.specs.declared.names.OptionName.TheVariants.{Hosts, Pairs, Upper, Lead, KeepShort, Read, Write}
+use Rattle.rm_words.specs.declared.names.OptionName.TheVariants.{Hosts, Pairs, Upper, Lead, KeepShort, Read, Write, TrapPort}
 
 -- what words are behind that of the command: an operand, or an option that is given a value
 pub data Piece : Type 0 where
@@ -61,6 +61,10 @@ unfoldable pub number_within : ℕ → ℕ → List ℕ → Option ℕ
 number_within low high text =
     if all_ascii_digits text && nat_le 1 (length text) && nat_le (length text) 10 && nat_le low (digits_value 10 text) && nat_le (digits_value 10 text) high
     then Some (digits_value 10 text) else None
+
+-- the number of a port
+abbrev pub port_of : List ℕ → Option ℕ
+port_of = number_within 1 65535
 
 -- a community: 1 to 64 characters from `!` to `~`, of which the first isn't a dash
 unfoldable pub is_community : List ℕ → Bool
@@ -115,6 +119,7 @@ pub record AreOptions (pieces : List Piece) (options : Options) : Type 0 where
 -- a command with its operands and options
 pub data Command : Type 0 where
   replay : (capture requests : List ℕ) (options : Options) → Command
+  serve : (capture : List ℕ) (port count trap_port : ℕ) (options : Options) → Command
   summary : (capture : List ℕ) (lead : ℕ) (keep_short : Bool) → Command
   decode : (hex : List ℕ) → Command
 
@@ -123,6 +128,17 @@ pub record AreOfReplay (pieces : List Piece) (capture requests : List ℕ) (opti
   pub operands_are : operands pieces ≡ capture ∷ requests ∷ []
   pub capture_is : is_name capture ≡ true
   pub requests_are : is_name requests ≡ true
+  pub options_are : AreOptions pieces options
+
+-- the operands and options of `serve`: the capture, the port and how many datagrams; and, beside the options of a run, the port that notifications are sent to
+pub record AreOfServe (pieces : List Piece) (capture : List ℕ) (port count trap_port : ℕ) (options : Options) : Type 0 where
+  pub port_text : List ℕ
+  pub count_text : List ℕ
+  pub operands_are : operands pieces ≡ capture ∷ port_text ∷ count_text ∷ []
+  pub capture_is : is_name capture ≡ true
+  pub port_is : port_of port_text ≡ Some port
+  pub count_is : number_within 1 1000000 count_text ≡ Some count
+  pub trap_port_is : setting 162 port_of (values_of TrapPort pieces) ≡ Some trap_port
   pub options_are : AreOptions pieces options
 
 -- the operand and the options of `summary`: the capture
@@ -142,6 +158,9 @@ pub data StandFor : List (List ℕ) → Command → Type 0 where
   for_replay : (word : List ℕ) (words : List (List ℕ)) (pieces : List Piece) (capture requests : List ℕ) (options : Options)
       → word ≡ word_of Replay → Spells Replay words pieces → AreOfReplay pieces capture requests options
       → StandFor (word ∷ words) (replay capture requests options)
+  for_serve : (word : List ℕ) (words : List (List ℕ)) (pieces : List Piece) (capture : List ℕ) (port count trap_port : ℕ) (options : Options)
+      → word ≡ word_of Serve → Spells Serve words pieces → AreOfServe pieces capture port count trap_port options
+      → StandFor (word ∷ words) (serve capture port count trap_port options)
   for_summary : (word : List ℕ) (words : List (List ℕ)) (pieces : List Piece) (capture : List ℕ) (lead : ℕ) (keep_short : Bool)
       → word ≡ word_of Summary → Spells Summary words pieces → AreOfSummary pieces capture lead keep_short
       → StandFor (word ∷ words) (summary capture lead keep_short)

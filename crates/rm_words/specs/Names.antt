@@ -2,19 +2,22 @@
 use Rattle.std.specs.Prelude.{ℕ, List, [], ◌∷◌, find, Bool, true, false, codes, Option}
 use Rattle.std.specs.Str.{bytes_eq}
 use Rattle.rm_words.specs.declared.names.CommandName.{CommandName}
-use Rattle.rm_words.specs.declared.names.CommandName.TheVariants.{Replay, Summary, Decode}
+use Rattle.rm_words.specs.declared.names.CommandName.TheVariants.{Replay, Serve, Summary, Decode}
 use Rattle.rm_words.specs.declared.names.OptionName.{OptionName}
-use Rattle.rm_words.specs.declared.names.OptionName.TheVariants.{Hosts, Pairs, Upper, Lead, KeepShort, Read, Write}
+use Rattle.rm_words.specs.declared.names.OptionName.TheVariants.{Hosts, Pairs, Upper, Lead, KeepShort, Read, Write, TrapPort}
 
 -- the word of a command
 abbrev pub word_of : CommandName → List ℕ
 word_of Replay = codes "replay"
+word_of Serve = codes "serve"
 word_of Summary = codes "summary"
 word_of Decode = codes "decode"
 
 -- the options of a command
 abbrev pub takes : CommandName → OptionName → Bool
+takes Replay TrapPort = false
 takes Replay option = true
+takes Serve option = true
 takes Summary Lead = true
 takes Summary KeepShort = true
 takes Summary option = false
@@ -29,6 +32,7 @@ name_of Lead = codes "lead"
 name_of KeepShort = codes "keep-short"
 name_of Read = codes "read"
 name_of Write = codes "write"
+name_of TrapPort = codes "trap-port"
 
 -- whether an option has a value
 abbrev pub takes_value : OptionName → Bool
@@ -39,16 +43,17 @@ takes_value Lead = true
 takes_value KeepShort = false
 takes_value Read = true
 takes_value Write = true
+takes_value TrapPort = true
 
 abbrev pub commands : List CommandName
-commands = Replay ∷ Summary ∷ Decode ∷ []
+commands = Replay ∷ Serve ∷ Summary ∷ Decode ∷ []
 
 -- the command of a word
 unfoldable pub command_named : List ℕ → Option CommandName
 command_named word = find (λ command. bytes_eq (word_of command) word) commands
 
 abbrev pub options : List OptionName
-options = Hosts ∷ Pairs ∷ Upper ∷ Lead ∷ KeepShort ∷ Read ∷ Write ∷ []
+options = Hosts ∷ Pairs ∷ Upper ∷ Lead ∷ KeepShort ∷ Read ∷ Write ∷ TrapPort ∷ []
 
 -- the option of a name
 unfoldable pub option_named : List ℕ → Option OptionName

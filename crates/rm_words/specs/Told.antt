@@ -1,12 +1,12 @@
 -- The command that the code's is.
 use Rattle.std.specs.Prelude.{◌≡◌, ℕ, List, [], ◌∷◌, true, Option, Some, None}
 use Rattle.std.specs.Borrow.{Bor}
-use Rattle.rm_words.specs.Grammar.{Piece, Options, Command, replay, summary, decode, is_name, AreOfReplay, AreOfSummary, AreOfDecode}
+use Rattle.rm_words.specs.Grammar.{Piece, Options, Command, replay, serve, summary, decode, is_name, AreOfReplay, AreOfServe, AreOfSummary, AreOfDecode}
 use Rattle.rm_words.specs.declared.names.CommandName.{CommandName}
 use Rattle.rm_words.specs.declared.names.CommandName.TheVariants as first_word
 use Rattle.rm_words.specs.declared.options.RunOptions.{RunOptions}
 use Rattle.rm_words.specs.declared.command.Command as code
-use Rattle.rm_words.specs.declared.command.Command.TheVariants.{Replay, Summary, Decode}
+use Rattle.rm_words.specs.declared.command.Command.TheVariants.{Replay, Serve, Summary, Decode}
 
 abbrev pub options_of : RunOptions → Options
 options_of options = record {
@@ -21,6 +21,7 @@ options_of options = record {
 
 abbrev pub command_of : code.Command → Command
 command_of (Replay capture requests options) = replay capture.now requests.now (options_of options)
+command_of (Serve capture port count trap_port options) = serve capture.now port count trap_port (options_of options)
 command_of (Summary capture lead keep_short) = summary capture.now lead keep_short
 command_of (Decode hex) = decode hex.now
 
@@ -34,9 +35,15 @@ abbrev pub AreTwoNames : List (List ℕ) → Option (Bor (List ℕ) × Bor (List
 AreTwoNames texts None = (capture requests : List ℕ) → texts ≡ capture ∷ requests ∷ [] → is_name capture ≡ true → is_name requests ≡ true → ⊥
 AreTwoNames texts (Some names) = (texts ≡ names.0.now ∷ names.1.now ∷ []) × (is_name names.0.now ≡ true) × (is_name names.1.now ≡ true)
 
+-- there are three operands, which are these
+abbrev pub AreThreeTexts : List (List ℕ) → Option (Bor (List ℕ) × Bor (List ℕ) × Bor (List ℕ)) → Type 0
+AreThreeTexts texts None = (first second third : List ℕ) → texts ≡ first ∷ second ∷ third ∷ [] → ⊥
+AreThreeTexts texts (Some found) = texts ≡ found.0.now ∷ found.1.now ∷ found.2.now ∷ []
+
 -- what the operands and options of a command are that begins with a word
 abbrev pub AreOf : CommandName → List Piece → Command → Type 0
 AreOf first_word.Replay pieces (replay capture requests options) = AreOfReplay pieces capture requests options
+AreOf first_word.Serve pieces (serve capture port count trap_port options) = AreOfServe pieces capture port count trap_port options
 AreOf first_word.Summary pieces (summary capture lead keep_short) = AreOfSummary pieces capture lead keep_short
 AreOf first_word.Decode pieces (decode hex) = AreOfDecode pieces hex
 AreOf name pieces other = ⊥

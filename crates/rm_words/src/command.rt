@@ -1,16 +1,17 @@
 // Commands with their operands and options.
 ghost use Rattle.std.specs.Prelude.{◌≡◌, ◌≤◌, length, drop, MatchOption};
-ghost use Rattle.rm_words.specs.Grammar.{AreOptions, Options, StandFor, is_name, lead_of, operands};
+ghost use Rattle.rm_words.specs.Grammar.{AreOptions, Options, StandFor, is_name, lead_of, operands, port_of, setting, values_of};
 ghost use Rattle.rm_words.specs.Grammar.{Command as Meant};
 ghost use Rattle.rm_words.specs.Parts.{pieces_from};
-ghost use Rattle.rm_words.specs.Told.{AreTwoNames, IsOneText, IsRead, command_of, options_of};
-ghost use Rattle.rm_words.specs.declared.names.CommandName.TheVariants.{Decode, Replay, Summary};
+ghost use Rattle.rm_words.specs.Told.{AreThreeTexts, AreTwoNames, IsOneText, IsRead, command_of, options_of};
+ghost use Rattle.rm_words.specs.declared.names.CommandName.TheVariants.{Decode, Replay, Serve, Summary};
+ghost use Rattle.rm_words.specs.declared.names.OptionName.TheVariants.{TrapPort};
 ghost use Rattle.rm_words.specs.declared.parts.Expected.TheVariants.{Any};
 
 use crate::names::{CommandName, OptionName};
 use crate::options::RunOptions;
 use crate::scan::{are_whole, community_of, is_given, number_of, operand};
-use crate::values::is_hex;
+use crate::values::{is_hex, number, port};
 use rm_edge::Words;
 
 /// A command, with its operands and options.
@@ -20,6 +21,15 @@ pub enum Command<'a> {
     Replay {
         capture: &'a str,
         requests: &'a str,
+        options: RunOptions,
+    },
+    /// Answers as many datagrams as `count` says, 1 to 1,000,000, that come to a port of UDP, while the frames of a capture pass.
+    /// Notifications are sent to the port `trap_port`. A port is 1 to 65535.
+    Serve {
+        capture: &'a str,
+        port: u16,
+        count: u32,
+        trap_port: u16,
         options: RunOptions,
     },
     /// Sums up a capture, whose first frame stands at the moment `lead` in milliseconds. A frame of fewer than 60 octets counts as
@@ -56,6 +66,7 @@ pub fn read_command(words: &Words) -> Option<Command<'_>>
     }
     match name {
         CommandName::Replay => read_replay(words),
+        CommandName::Serve => read_serve(words),
         CommandName::Summary => read_summary(words),
         CommandName::Decode => read_decode(words),
     }
@@ -72,6 +83,24 @@ fn read_replay(words: &Words) -> Option<Command<'_>>
         capture,
         requests,
         options,
+    })
+}
+
+// The command `serve` of words that are whole.
+fn read_serve(words: &Words) -> Option<Command<'_>>
+    requires { 1 ≤ length words.now }
+    ensures { IsRead Serve (pieces_from Any (drop 1 words.now)) result }
+{
+    let (capture, port_text, count_text) = three_operands(words)?;
+    if !is_name(capture) {
+        return None;
+    }
+    Some(Command::Serve {
+        capture,
+        port: port(port_text.as_bytes())?,
+        count: number(count_text.as_bytes(), 1, 1_000_000)?,
+        trap_port: trap_port_of(words)?,
+        options: run_options(words)?,
     })
 }
 
@@ -128,6 +157,20 @@ fn two_names(words: &Words) -> Option<(&str, &str)>
     Some((capture, requests))
 }
 
+// The operands, where there are three.
+fn three_operands(words: &Words) -> Option<(&str, &str, &str)>
+    requires { 1 ≤ length words.now }
+    ensures { AreThreeTexts (operands (pieces_from Any (drop 1 words.now))) result }
+{
+    let first = operand(words, 0)?;
+    let second = operand(words, 1)?;
+    let third = operand(words, 2)?;
+    if operand(words, 3).is_some() {
+        return None;
+    }
+    Some((first, second, third))
+}
+
 fn is_name(text: &str) -> bool
     ensures { result ≡ is_name text.now }
 {
@@ -140,6 +183,15 @@ fn lead_of(words: &Words) -> Option<u32>
     ensures { result ≡ lead_of (pieces_from Any (drop 1 words.now)) }
 {
     number_of(words, OptionName::Lead, 0, u32::MAX, 1000)
+}
+
+// The port that notifications are sent to.
+fn trap_port_of(words: &Words) -> Option<u16>
+    requires { 1 ≤ length words.now }
+    ensures { result ≡ setting 162 port_of (values_of TrapPort (pieces_from Any (drop 1 words.now))) }
+{
+    let number = number_of(words, OptionName::TrapPort, 1, 65_535, 162)?;
+    Some(number as u16)
 }
 
 // The options of a run.

@@ -6,6 +6,7 @@ ghost use Rattle.rm_words.specs.Names.{word_of, name_of, command_named, option_n
 #[derive(Clone, Copy, Debug, PartialEq, Eq)]
 pub enum CommandName {
     Replay,
+    Serve,
     Summary,
     Decode,
 }
@@ -27,17 +28,20 @@ pub enum OptionName {
     Read,
     /// The community that may read and write.
     Write,
+    /// The port that notifications are sent to.
+    TrapPort,
 }
 
 /// All commands.
-const COMMANDS: [CommandName; 3] = [
+const COMMANDS: [CommandName; 4] = [
     CommandName::Replay,
+    CommandName::Serve,
     CommandName::Summary,
     CommandName::Decode,
 ];
 
 /// All options.
-const OPTIONS: [OptionName; 7] = [
+const OPTIONS: [OptionName; 8] = [
     OptionName::Hosts,
     OptionName::Pairs,
     OptionName::Upper,
@@ -45,6 +49,7 @@ const OPTIONS: [OptionName; 7] = [
     OptionName::KeepShort,
     OptionName::Read,
     OptionName::Write,
+    OptionName::TrapPort,
 ];
 
 impl CommandName {
@@ -54,6 +59,7 @@ impl CommandName {
     {
         match self {
             CommandName::Replay => "replay",
+            CommandName::Serve => "serve",
             CommandName::Summary => "summary",
             CommandName::Decode => "decode",
         }
@@ -75,7 +81,8 @@ impl CommandName {
         ensures { result ≡ takes self option }
     {
         match self {
-            CommandName::Replay => true,
+            CommandName::Replay => !matches!(option, OptionName::TrapPort),
+            CommandName::Serve => true,
             CommandName::Summary => matches!(option, OptionName::Lead | OptionName::KeepShort),
             CommandName::Decode => false,
         }
@@ -95,6 +102,7 @@ impl OptionName {
             OptionName::KeepShort => b"keep-short",
             OptionName::Read => b"read",
             OptionName::Write => b"write",
+            OptionName::TrapPort => b"trap-port",
         }
     }
 

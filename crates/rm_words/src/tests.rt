@@ -1,5 +1,5 @@
 // What words are read as. The crate `cases` has which words are a command, and which are none.
-use crate::{Command, read_command};
+use crate::{Command, RunOptions, read_command};
 use rm_edge::Words;
 use std::alloc::Global;
 use std::test::Fail;
@@ -13,6 +13,20 @@ fn words_of(alloc: Global, text: &str) -> Result<Words, Fail> {
     Ok(words)
 }
 
+// The options of a run, as text.
+fn told_options(alloc: Global, options: &RunOptions) -> Result<String, Fail> {
+    Ok(format!(in alloc;
+        "{} {} {} {} {} {} {}",
+        options.hosts,
+        options.pairs,
+        options.upper,
+        options.lead,
+        options.keep_short,
+        str::from_utf8(&options.read)?,
+        str::from_utf8(&options.write)?
+    )?)
+}
+
 // The command of a text, as text.
 fn told(alloc: Global, text: &str) -> Result<String, Fail> {
     let words = words_of(alloc, text)?;
@@ -24,16 +38,22 @@ fn told(alloc: Global, text: &str) -> Result<String, Fail> {
                 requests,
                 options,
             },
-        ) => Ok(format!(in alloc;
-            "{capture} {requests} {} {} {} {} {} {} {}",
-            options.hosts,
-            options.pairs,
-            options.upper,
-            options.lead,
-            options.keep_short,
-            str::from_utf8(&options.read)?,
-            str::from_utf8(&options.write)?
-        )?),
+        ) => {
+            let options = told_options(alloc, &options)?;
+            Ok(format!(in alloc; "{capture} {requests} {options}")?)
+        }
+        Some(
+            Command::Serve {
+                capture,
+                port,
+                count,
+                trap_port,
+                options,
+            },
+        ) => {
+            let options = told_options(alloc, &options)?;
+            Ok(format!(in alloc; "{capture} {port} {count} {trap_port} {options}")?)
+        }
         Some(
             Command::Summary {
                 capture,
@@ -58,6 +78,23 @@ fn a_command_is_read(rt: HostRuntime) -> Result<(), Fail> {
             "--c - 1024 1024 2 5 false public a=b",
         ),
         ("replay c", "none"),
+        ("replay c r --trap-port 1", "none"),
+        (
+            "serve c 161 9",
+            "c 161 9 162 1024 1024 1024 1000 false public private",
+        ),
+        (
+            "serve --trap-port=65535 c --hosts 2 65535 1000000 --write w --keep-short",
+            "c 65535 1000000 65535 2 1024 1024 1000 true public w",
+        ),
+        (
+            "serve --trap-port 1 -- --c 0000000001 1",
+            "--c 1 1 1 1024 1024 1024 1000 false public private",
+        ),
+        ("serve c 65536 1", "none"),
+        ("serve c 161 0", "none"),
+        ("serve c 161 9 --trap-port 0", "none"),
+        ("serve c 161", "none"),
         ("summary c", "c 1000 false"),
         ("summary --keep-short c --lead=7", "c 7 true"),
         ("summary c --hosts 2", "none"),

@@ -2,7 +2,7 @@
 ghost use Rattle.std.specs.Prelude.{◌≡◌, ◌≤◌, IfSome, IsTrue, MatchOption, Some, None, length};
 ghost use Rattle.std.specs.List.{list_all};
 ghost use Rattle.std.specs.Char.{is_ascii_graphic, is_ascii_hexdigit};
-ghost use Rattle.rm_words.specs.Grammar.{number_within, community_of, is_community, is_hex};
+ghost use Rattle.rm_words.specs.Grammar.{number_within, port_of, community_of, is_community, is_hex};
 
 use arrayvec::ArrayVec;
 use rm_edge::read_number;
@@ -20,6 +20,14 @@ pub fn number(text: &[u8], low: u32, high: u32) -> Option<u32>
         Some(value) if low <= value && value <= high => Some(value),
         _ => None,
     }
+}
+
+/// The number of a port, if it is one.
+pub fn port(text: &[u8]) -> Option<u16>
+    ensures { result ≡ port_of text.now }
+{
+    let number = number(text, 1, 65_535)?;
+    Some(number as u16)
 }
 
 fn is_visible(text: &[u8]) -> bool
