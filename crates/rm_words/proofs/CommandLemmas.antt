@@ -12,6 +12,7 @@ use Rattle.rm_words.specs.declared.command.Command as code
 use Rattle.rm_words.specs.declared.parts.Expected.TheVariants.{Any}
 use Rattle.rm_words.proofs.PartLemmas.{found}
 use Rattle.rm_words.proofs.SpellLemmas.{spelled_read, whole_spelled}
+use Rattle.rm_words.proofs.WordLemmas.{left_at}
 
 -- three operands, of which there are two
 pub two_operands : (texts : List (List ℕ)) (first second : List ℕ) → slice_get texts 0 ≡ Some first → slice_get texts 1 ≡ Some second → slice_get texts 2 ≡ None → texts ≡ first ∷ second ∷ []
@@ -76,18 +77,7 @@ stand Replay word words pieces (replay capture requests options) is spells are =
 stand Serve word words pieces (serve capture port count trap_port options) is spells are = for_serve word words pieces capture port count trap_port options is spells are
 stand Summary word words pieces (summary capture lead keep_short) is spells are = for_summary word words pieces capture lead keep_short is spells are
 stand Decode word words pieces (decode hex) is spells are = for_decode word words pieces hex is spells are
-stand Replay word words pieces (serve capture port count trap_port options) is spells are = absurd are
-stand Replay word words pieces (summary capture lead keep_short) is spells are = absurd are
-stand Replay word words pieces (decode hex) is spells are = absurd are
-stand Serve word words pieces (replay capture requests options) is spells are = absurd are
-stand Serve word words pieces (summary capture lead keep_short) is spells are = absurd are
-stand Serve word words pieces (decode hex) is spells are = absurd are
-stand Summary word words pieces (replay capture requests options) is spells are = absurd are
-stand Summary word words pieces (serve capture port count trap_port options) is spells are = absurd are
-stand Summary word words pieces (decode hex) is spells are = absurd are
-stand Decode word words pieces (replay capture requests options) is spells are = absurd are
-stand Decode word words pieces (serve capture port count trap_port options) is spells are = absurd are
-stand Decode word words pieces (summary capture lead keep_short) is spells are = absurd are
+stand name word words pieces other is spells are = absurd are
 
 behind : (all : List (List ℕ)) (word : List ℕ) (words : List (List ℕ)) → all ≡ word ∷ words → words ≡ drop 1 all
 behind all word words is = sym (ap (drop 1) is)
@@ -149,12 +139,12 @@ are_read all first name command at named stands =
 abbrev pub IsCommand : List (List ℕ) → Option code.Command → Type 0
 IsCommand all result = MatchOption result ((command : Command) → StandFor all command → ⊥) (λ found. StandFor all (command_of found))
 
-pub read_is : (name : CommandName) (all : List (List ℕ)) (first : List ℕ) (result : Option code.Command) → slice_get all 0 ≡ Some first → all ≡ first ∷ drop 1 all → command_named first ≡ Some name
+pub read_is : (name : CommandName) (all : List (List ℕ)) (first : List ℕ) (result : Option code.Command) → slice_get all 0 ≡ Some first → command_named first ≡ Some name
     → are_whole name Any (drop 1 all) ≡ true → IsRead name (pieces_from Any (drop 1 all)) result → IsCommand all result
-read_is name all first None at front named whole read = λ command stands. read command (are_read all first name command at named stands)
-read_is name all first (Some found) at front named whole read =
+read_is name all first None at named whole read = λ command stands. read command (are_read all first name command at named stands)
+read_is name all first (Some found) at named whole read =
     let stands = stand name first (drop 1 all) (pieces_from Any (drop 1 all)) (command_of found) (name_found first name named) (whole_spelled name (drop 1 all) whole) read in
-    subst (λ (ws : List (List ℕ)). StandFor ws (command_of found)) (sym front) stands
+    subst (λ (ws : List (List ℕ)). StandFor ws (command_of found)) (sym (left_at all 0 first at)) stands
 
 -- words stand for one command at most
 same_setting : {A : Type 0} (o : Option A) (x y : A) → o ≡ Some x → o ≡ Some y → x ≡ y
@@ -214,30 +204,11 @@ same_are Replay pieces (replay capture requests options) (replay capture' reques
 same_are Serve pieces (serve capture port count trap_port options) (serve capture' port' count' trap_port' options') a b = same_serve pieces capture capture' port count trap_port port' count' trap_port' options options' a b
 same_are Summary pieces (summary capture lead keep_short) (summary capture' lead' keep_short') a b = same_summary pieces capture capture' lead lead' keep_short keep_short' a b
 same_are Decode pieces (decode hex) (decode hex') a b = ap decode (same_operand hex hex' (sym a.operand_is ∙ b.operand_is))
-same_are Replay pieces (replay capture requests options) (serve capture' port' count' trap_port' options') a b = absurd b
-same_are Replay pieces (replay capture requests options) (summary capture' lead' keep_short') a b = absurd b
-same_are Replay pieces (replay capture requests options) (decode hex') a b = absurd b
-same_are Replay pieces (serve capture port count trap_port options) other a b = absurd a
-same_are Replay pieces (summary capture lead keep_short) other a b = absurd a
-same_are Replay pieces (decode hex) other a b = absurd a
-same_are Serve pieces (serve capture port count trap_port options) (replay capture' requests' options') a b = absurd b
-same_are Serve pieces (serve capture port count trap_port options) (summary capture' lead' keep_short') a b = absurd b
-same_are Serve pieces (serve capture port count trap_port options) (decode hex') a b = absurd b
-same_are Serve pieces (replay capture requests options) other a b = absurd a
-same_are Serve pieces (summary capture lead keep_short) other a b = absurd a
-same_are Serve pieces (decode hex) other a b = absurd a
-same_are Summary pieces (summary capture lead keep_short) (replay capture' requests' options') a b = absurd b
-same_are Summary pieces (summary capture lead keep_short) (serve capture' port' count' trap_port' options') a b = absurd b
-same_are Summary pieces (summary capture lead keep_short) (decode hex') a b = absurd b
-same_are Summary pieces (replay capture requests options) other a b = absurd a
-same_are Summary pieces (serve capture port count trap_port options) other a b = absurd a
-same_are Summary pieces (decode hex) other a b = absurd a
-same_are Decode pieces (decode hex) (replay capture' requests' options') a b = absurd b
-same_are Decode pieces (decode hex) (serve capture' port' count' trap_port' options') a b = absurd b
-same_are Decode pieces (decode hex) (summary capture' lead' keep_short') a b = absurd b
-same_are Decode pieces (replay capture requests options) other a b = absurd a
-same_are Decode pieces (serve capture port count trap_port options) other a b = absurd a
-same_are Decode pieces (summary capture lead keep_short) other a b = absurd a
+same_are Replay pieces (replay capture requests options) other a b = absurd b
+same_are Serve pieces (serve capture port count trap_port options) other a b = absurd b
+same_are Summary pieces (summary capture lead keep_short) other a b = absurd b
+same_are Decode pieces (decode hex) other a b = absurd b
+same_are name pieces one other a b = absurd a
 
 pub one_stands : (all : List (List ℕ)) (one other : Command) → StandFor all one → StandFor all other → one ≡ other
 one_stands all one other a b =

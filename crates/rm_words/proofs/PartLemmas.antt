@@ -1,8 +1,9 @@
 -- What a word is, by its octets.
-use Rattle.std.proofs.Common.{◌≡◌, ℕ, suc, ◌+◌, ◌<◌, List, [], ◌∷◌, ◌++◌, length, take, drop, Option, Some, None, Bool, true, false, refl, sym, ap, ◌∙◌, arith, position, get_or, length-append}
-use Rattle.std.specs.Prelude.{◌==◌, find, if◌then◌else◌, codes}
+use Rattle.std.proofs.Common.{◌≡◌, ℕ, suc, ◌+◌, ◌<◌, List, [], ◌∷◌, ◌++◌, length, take, drop, Option, Some, None, Bool, true, false, refl, sym, ap, ◌∙◌, arith, position, get_or, length-append, append_assoc}
+use Rattle.std.specs.Prelude.{◌==◌, find, if◌then◌else◌, codes, not}
 use Rattle.std.specs.List.{position_or_len}
 use Rattle.std.specs.Str.{bytes_eq}
+use Rattle.std.proofs.Math.Seq.{drop-append-add, take-append_seam}
 use Rattle.std.proofs.lemmas.Bool.{lt-ltb, eqb-true}
 use Rattle.std.proofs.lemmas.List.{take-append-drop, drop_more}
 use Rattle.std.proofs.lemmas.List.Quantifiers.{position-Some}
@@ -42,7 +43,7 @@ unfolding option_named
 name_is name option is = found name_of name options option is
 
 -- no name has a mark
-pub no_mark : (option : OptionName) → position is_equals (name_of option) ≡ None
+no_mark : (option : OptionName) → position_or_len is_equals (name_of option) ≡ length (name_of option)
 no_mark Hosts = refl
 no_mark Pairs = refl
 no_mark Upper = refl
@@ -65,36 +66,40 @@ alone Write = refl
 alone TrapPort = refl
 
 -- a name with a value
-cut : (option : OptionName) (value : List ℕ) → position_or_len is_equals (name_of option ++ 61 ∷ value) ≡ length (name_of option) → take (length (name_of option)) (name_of option ++ 61 ∷ value) ≡ name_of option
-    → named_part (name_of option ++ 61 ∷ value) ≡ joined_part (length (name_of option) + 3) (Some option)
+joins : (name value : List ℕ) → 45 ∷ 45 ∷ (name ++ 61 ∷ value) ≡ dashes ++ name ++ codes "=" ++ value
+joins name value = ap (λ (t : List ℕ). 45 ∷ 45 ∷ t) (sym (append_assoc name (codes "=") value))
+
+behind_dashes : (name value : List ℕ) → plain_part (45 ∷ 45 ∷ (name ++ 61 ∷ value)) ≡ named_part (name ++ 61 ∷ value)
+unfolding plain_part
+behind_dashes [] value = refl
+behind_dashes (c ∷ cs) value = refl
+
+marked : (name value : List ℕ) → position_or_len is_equals name ≡ length name → position_or_len is_equals (name ++ 61 ∷ value) ≡ length name
+marked [] value none = refl
+marked (c ∷ cs) value none = by_mark (is_equals c) none (marked cs value)
+  where
+    by_mark : (mark : Bool) → (if not mark then 1 + position_or_len is_equals cs else 0) ≡ suc (length cs)
+        → (position_or_len is_equals cs ≡ length cs → position_or_len is_equals (cs ++ 61 ∷ value) ≡ length cs) → (if not mark then 1 + position_or_len is_equals (cs ++ 61 ∷ value) else 0) ≡ suc (length cs)
+    by_mark true none later = absurd (omega (arith, none))
+    by_mark false none later = let behind = later (omega (arith, none)) in omega (arith, behind)
+
+cut : (option : OptionName) (value : List ℕ) → named_part (name_of option ++ 61 ∷ value) ≡ joined_part (length (name_of option) + 3) (Some option)
 unfolding named_part
-cut option value at front =
+cut option value =
+    let at = marked (name_of option) value (no_mark option) in
     let fits : length (name_of option) < length (name_of option ++ 61 ∷ value) = omega (arith, length-append (name_of option) (61 ∷ value)) in
     let is : position is_equals (name_of option ++ 61 ∷ value) ≡ Some (length (name_of option)) = rw (at, lt-ltb (length (name_of option)) (length (name_of option ++ 61 ∷ value)) fits) refl in
     ap (λ (p : Option ℕ). cut_part p (name_of option ++ 61 ∷ value)) is
-    ∙ ap (λ (name : List ℕ). joined_part (length (name_of option) + 3) (option_named name)) front
+    ∙ ap (λ (name : List ℕ). joined_part (length (name_of option) + 3) (option_named name)) (take-append_seam (name_of option) (61 ∷ value))
     ∙ ap (joined_part (length (name_of option) + 3)) (named option)
 
 pub with_value : (option : OptionName) (value : List ℕ) → plain_part (dashes ++ name_of option ++ codes "=" ++ value) ≡ joined_part (length (name_of option) + 3) (Some option)
-unfolding plain_part
-with_value Hosts value = cut Hosts value refl refl
-with_value Pairs value = cut Pairs value refl refl
-with_value Upper value = cut Upper value refl refl
-with_value Lead value = cut Lead value refl refl
-with_value KeepShort value = cut KeepShort value refl refl
-with_value Read value = cut Read value refl refl
-with_value Write value = cut Write value refl refl
-with_value TrapPort value = cut TrapPort value refl refl
+with_value option value = ap plain_part (sym (joins (name_of option) value)) ∙ behind_dashes (name_of option) value ∙ cut option value
 
-pub value_stands : (option : OptionName) (value : List ℕ) → drop (length (name_of option) + 3) (dashes ++ name_of option ++ codes "=" ++ value) ≡ value
-value_stands Hosts value = refl
-value_stands Pairs value = refl
-value_stands Upper value = refl
-value_stands Lead value = refl
-value_stands KeepShort value = refl
-value_stands Read value = refl
-value_stands Write value = refl
-value_stands TrapPort value = refl
+pub value_stands : (name value : List ℕ) → drop (length name + 3) (dashes ++ name ++ codes "=" ++ value) ≡ value
+value_stands name value =
+    let same : length name + 3 ≡ suc (suc (length name + 1)) = omega arith in
+    ap (drop (length name + 3)) (sym (joins name value)) ∙ ap (λ (n : ℕ). drop n (45 ∷ 45 ∷ (name ++ 61 ∷ value))) same ∙ drop-append-add name (61 ∷ value) 1
 
 -- what a part tells of the word
 abbrev pub Tells : Part → List ℕ → Type 0
@@ -117,16 +122,6 @@ alone_tells text = by_option (option_named text) refl
     by_option None is = tt
     by_option (Some option) is = by_value option (takes_value option) refl (name_is text option is)
 
-joins : (option : OptionName) (value : List ℕ) → 45 ∷ 45 ∷ (name_of option ++ (61 ∷ value)) ≡ dashes ++ name_of option ++ codes "=" ++ value
-joins Hosts value = refl
-joins Pairs value = refl
-joins Upper value = refl
-joins Lead value = refl
-joins KeepShort value = refl
-joins Read value = refl
-joins Write value = refl
-joins TrapPort value = refl
-
 joined_tells : (text : List ℕ) (at : ℕ) → position is_equals text ≡ Some at → Tells (joined_part (at + 3) (option_named (take at text))) (45 ∷ 45 ∷ text)
 joined_tells text at stands = by_option (option_named (take at text)) refl
   where
@@ -139,7 +134,7 @@ joined_tells text at stands = by_option (option_named (take at text)) refl
         let value : drop (at + 1) text ≡ drop (at + 3) (45 ∷ 45 ∷ text) = ap (λ (n : ℕ). drop n (45 ∷ 45 ∷ text)) (sym same) in
         let text_is : text ≡ name_of option ++ (61 ∷ drop (at + 3) (45 ∷ 45 ∷ text)) =
         sym (take-append-drop at text) ∙ ap (λ (front : List ℕ). front ++ drop at text) is ∙ ap (λ (rest : List ℕ). name_of option ++ rest) (behind ∙ ap (λ (v : List ℕ). 61 ∷ v) value) in
-        ap (λ (t : List ℕ). 45 ∷ 45 ∷ t) text_is ∙ joins option (drop (at + 3) (45 ∷ 45 ∷ text))
+        ap (λ (t : List ℕ). 45 ∷ 45 ∷ t) text_is ∙ joins (name_of option) (drop (at + 3) (45 ∷ 45 ∷ text))
 
     by_value : (option : OptionName) (valued : Bool) → takes_value option ≡ valued → take at text ≡ name_of option → Tells (if valued then Joined option (at + 3) else Unknown) (45 ∷ 45 ∷ text)
     by_value option true e is = (e, whole option is)

@@ -77,7 +77,7 @@ spelled_read command all all_pieces (joined option word value words pieces taken
     let rest = spelled_read command words pieces more in
     let from = length (name_of option) + 3 in
     let part : plain_part word ≡ Joined option from = ap plain_part is ∙ with_value option value ∙ ap (λ (b : Bool). if b then Joined option from else Unknown) valued in
-    let stands : drop from word ≡ value = ap (drop from) is ∙ value_stands option value in
+    let stands : drop from word ≡ value = ap (drop from) is ∙ value_stands (name_of option) value in
     read_by command (Joined option from) expected.Any word words all_pieces part
     (stand_before _ _ taken rest.whole, ap (λ (ps : List Piece). gives option (drop from word) ∷ ps) rest.pieces_are ∙ ap (λ (v : List ℕ). gives option v ∷ pieces) stands)
 

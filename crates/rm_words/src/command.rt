@@ -64,6 +64,14 @@ pub fn read_command(words: &Words) -> Option<Command<'_>>
     if !are_whole(name, words) {
         return None;
     }
+    read_behind(name, words)
+}
+
+// The command of that name, of words that are whole.
+fn read_behind(name: CommandName, words: &Words) -> Option<Command<'_>>
+    requires { 1 ≤ length words.now }
+    ensures { IsRead name (pieces_from Any (drop 1 words.now)) result }
+{
     match name {
         CommandName::Replay => read_replay(words),
         CommandName::Serve => read_serve(words),
