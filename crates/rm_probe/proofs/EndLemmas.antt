@@ -140,16 +140,16 @@ module _ (lead : ℕ) where
   OneReading = (first : ℕ) (bytes : List ℕ) (frames others : List Frame) (stop last : Stop) → ReadsAs first bytes frames stop → ReadsAs first bytes others last → (frames ≡ others) × (stop ≡ last)
 
   -- a fact of a file that is told
-  told : (held : Held) (bytes : List ℕ) (P : List ℕ → Type 0) → held ≡ File bytes → OfFile held P → P bytes
+  pub told : (held : Held) (bytes : List ℕ) (P : List ℕ → Type 0) → held ≡ File bytes → OfFile held P → P bytes
   told held bytes P is p = subst (λ (h : Held). OfFile h P) is p
 
   -- a capture has no fault
-  not_broken : OneReading → (bytes : List ℕ) (fault : PcapFault) → IsBroken lead fault bytes → IsCaptureFile lead bytes → ⊥
+  pub not_broken : OneReading → (bytes : List ℕ) (fault : PcapFault) → IsBroken lead fault bytes → IsCaptureFile lead bytes → ⊥
   not_broken one bytes fault broken good =
       subst (λ (s : Stop). IsFaultless s) (one lead bytes good.0 broken.0 good.1 (Broken fault) good.2.reads broken.1).1 good.2.faultless
 
   -- the first fault of a file is one
-  same_fault : OneReading → (bytes : List ℕ) (fault other : PcapFault) → IsBroken lead fault bytes → IsBroken lead other bytes → fault ≡ other
+  pub same_fault : OneReading → (bytes : List ℕ) (fault other : PcapFault) → IsBroken lead fault bytes → IsBroken lead other bytes → fault ≡ other
   same_fault one bytes fault other broken again = let e = (one lead bytes broken.0 again.0 (Broken fault) (Broken other) broken.1 again.1).1 in cc
 
   not_many : (lines : List ℕ) → HasTooManyLines lines → IsRequestFile lines → ⊥

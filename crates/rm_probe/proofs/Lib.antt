@@ -10,4 +10,8 @@ pub mod StepLemmas
 pub mod WritingLemmas
 pub mod RunLemmas
 pub mod EndLemmas
+pub mod ArrivalLemmas
+pub mod TurnLemmas
+pub mod ServingLemmas
+pub mod ServeEnds
 pub mod OneText

@@ -1,5 +1,5 @@
 -- One text of the same frames and datagrams.
-use Rattle.std.proofs.Common.{◌≡◌, ◌⊎◌, inl, inr, ℕ, Bool, true, List, [], ◌∷◌, ◌++◌, length, map, drop, Option, Some, None, refl, sym, ap, subst, ◌∙◌}
+use Rattle.std.proofs.Common.{◌≡◌, ◌⊎◌, inl, inr, ℕ, ◌-◌, Bool, true, List, [], ◌∷◌, ◌++◌, length, map, drop, Option, Some, None, refl, sym, ap, subst, ◌∙◌}
 use Rattle.std.specs.List.{slice_get}
 use Rattle.rm_model.specs.Journal.{Frame, Journal, passes}
 use Rattle.rm_pcap.specs.Records.{Stop}
@@ -15,8 +15,9 @@ use Rattle.rm_requests.specs.Lines.{TimedDatagram}
 use Rattle.rm_agent.specs.Advance.{Notification, IsAdvanced as AgentIsAdvanced}
 use Rattle.rm_probe.specs.Advance.{note_of, IsAdvanced}
 use Rattle.rm_probe.specs.Notes.{Note}
-use Rattle.rm_probe.specs.Said.{Response, Replied, Dropped, Said, Notified, Responded, Last, lines}
-use Rattle.rm_probe.specs.Events.{Event, Comes, Asks, events}
+use Rattle.rm_probe.specs.Said.{Response, Replied, Dropped, Said, Notified, Responded, Last, lines, stop_before}
+use Rattle.rm_probe.specs.Events.{Event, Comes, Asks, events, events_by, frames_left}
+use Rattle.rm_probe.specs.Serving.{Arrival, IsServed, IsServedBy, requests_of}
 use Rattle.rm_probe.specs.Text.{IsAnswered, dropped, replied, AreSaid, ReservesNothing, AreWithoutChoice, Choice, AreSaidBy, IsText, IsTextBy}
 
 -- octets are one thing, a request that is no SetRequest that reserves storage has one reply, and samples come in one way
@@ -105,6 +106,15 @@ module _ (settings : Settings) (one : OneOfEach settings) where
   text_alone frames stop requests text without is =
       record { before = is.is_run.before; are_said = without_choice [] (events 1 frames requests) is.is_run.before without is.is_run.are_said; whole = is.whole ∙ ap lines is.is_run.whole }
 
+  pub served_once : (frames : List Frame) (stop : Stop) (arrivals : List Arrival) (choices : List Choice) (said other : List Said) → IsServedBy settings frames stop arrivals choices said → IsServedBy settings frames stop arrivals choices other → said ≡ other
+  served_once frames stop arrivals choices said other is is' =
+      is.whole ∙ ap (λ (before : List Said). before ++ Last (stop_before (frames_left (requests_of arrivals) frames) stop) (length frames - length (frames_left (requests_of arrivals) frames)) (length arrivals) ∷ [])
+      (all_once [] (events_by 1 frames (requests_of arrivals)) choices is.before is'.before is.are_said is'.are_said) ∙ sym is'.whole
+
+  pub served_alone : (frames : List Frame) (stop : Stop) (arrivals : List Arrival) (said : List Said) → AreWithoutChoice settings [] (events_by 1 frames (requests_of arrivals)) → IsServed settings frames stop arrivals said → IsServedBy settings frames stop arrivals [] said
+  served_alone frames stop arrivals said without is =
+      record { before = is.before; are_said = without_choice [] (events_by 1 frames (requests_of arrivals)) is.before without is.are_said; whole = is.whole }
+
 -- the answers by which things are said
 said_by : (settings : Settings) (journal : Journal) (es : List Event) (said : List Said) → AreSaid settings journal es said → (choices : List Choice) × AreSaidBy settings journal es choices said
 unfolding AreSaid AreSaidBy
@@ -121,3 +131,9 @@ pub text_by : (settings : Settings) (frames : List Frame) (stop : Stop) (request
 text_by settings frames stop requests text is =
     let (choices, by) = said_by settings [] (events 1 frames requests) is.is_run.before is.is_run.are_said in
     (choices, record { before = is.is_run.before; are_said = by; whole = is.whole ∙ ap lines is.is_run.whole })
+
+pub served_by : (settings : Settings) (frames : List Frame) (stop : Stop) (arrivals : List Arrival) (said : List Said) → IsServed settings frames stop arrivals said
+    → (choices : List Choice) × IsServedBy settings frames stop arrivals choices said
+served_by settings frames stop arrivals said is =
+    let (choices, by) = said_by settings [] (events_by 1 frames (requests_of arrivals)) is.before is.are_said in
+    (choices, record { before = is.before; are_said = by; whole = is.whole })

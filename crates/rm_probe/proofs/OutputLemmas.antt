@@ -31,16 +31,20 @@ module _ {A : Type 0} where
   pub front_then : (a b c : Option (List A)) (x y : List A) → Adds a b x → AddsFront b c y → AddsFront a c (x ++ y)
   front_then a b c x y p (n, q) = (length x + n, subst (λ (t : List A). Adds a c t) (sym (take_then n x y)) (adds_then a b c x (take n y) p q))
 
-  -- a front of a piece is one of a longer piece
-  pub front_more : (a b : Option (List A)) (x y : List A) → AddsFront a b x → AddsFront a b (x ++ y)
-  front_more a b x y (n, added) =
-      (min n (length x), subst (λ (t : List A). Adds a b t) (sym (take-append-le (min n (length x)) x y (omega arith) ∙ take_least n x)) added)
+  -- a front of a list is one of a longer list
+  pub take_longer : (n : ℕ) (x y : List A) → (k : ℕ) × (take k (x ++ y) ≡ take n x)
+  take_longer n x y = (min n (length x), take-append-le (min n (length x)) x y (omega arith) ∙ take_least n x)
     where
       take_least : (n : ℕ) (x : List A) → take (min n (length x)) x ≡ take n x
       take_least n x = elim (cases_lt n (length x)) [
         | inl lt ↦ let e : min n (length x) ≡ n = omega arith in rw e refl
         | inr le ↦ let e : min n (length x) ≡ length x = omega arith in rw (e, take_all n x le) (take-length x)
       ]
+
+  -- a front of a piece is one of a longer piece
+  pub front_more : (a b : Option (List A)) (x y : List A) → AddsFront a b x → AddsFront a b (x ++ y)
+  front_more a b x y (n, added) =
+      let (k, same) = take_longer n x y in (k, subst (λ (t : List A). Adds a b t) (sym same) added)
 
   module _ (kind : OutputFault) where
     -- a call of that kind, where none had failed

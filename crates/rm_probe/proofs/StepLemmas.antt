@@ -1,9 +1,9 @@
 -- What the steps of a run say.
-use Rattle.std.proofs.Common.{◌≡◌, inl, inr, ℕ, ◌+◌, List, [], ◌∷◌, ◌++◌, length, map, take_while, Option, Result, Ok, Err, refl, sym, ap, subst, ◌∙◌, arith, append_assoc}
+use Rattle.std.proofs.Common.{◌≡◌, inl, inr, ℕ, ◌+◌, List, [], ◌∷◌, ◌++◌, length, map, take, take_while, Option, Some, None, Result, Ok, Err, refl, sym, ap, subst, ◌∙◌, arith, append_assoc}
 use Rattle.std.proofs.lemmas.List.{append-nil}
 use Rattle.std.proofs.lemmas.Grind.{flat_map-append}
 use mathlib.Core.List.{map-append}
-use Rattle.rm_edge.specs.Outside.{Held, File}
+use Rattle.rm_edge.specs.Outside.{Adds, AddsFront, Held, File}
 use Rattle.rm_edge.specs.Link.{Datagram}
 use Rattle.rm_edge.specs.declared.outside.link.Peer.{Peer}
 use Rattle.rm_model.specs.Journal.{Frame, Journal}
@@ -19,20 +19,20 @@ use Rattle.rm_probe.specs.Capture.{status_of}
 use Rattle.rm_probe.specs.Advance.{IsAdvanced}
 use Rattle.rm_probe.specs.Events.{Event, Asks, comings, frames_after, is_by}
 use Rattle.rm_requests.specs.Lines.{TimedDatagram}
-use Rattle.rm_probe.specs.Notes.{Note, trap_line}
-use Rattle.rm_probe.specs.Said.{Response, Said, Notified, Responded, Last, last_line, line_of, lines, messages, messages_of, stop_by, stop_before, to_each}
+use Rattle.rm_probe.specs.Notes.{Note}
+use Rattle.rm_probe.specs.Said.{Response, Said, Notified, Responded, Last, line_of, lines, messages, messages_of, stop_by, stop_before}
 use Rattle.rm_probe.specs.Probe.{settings_of, Stands}
 use Rattle.rm_probe.specs.Steps.{HasBegun, Advanced, Advances, Answers, FailsBy, IsLastLine, IsLastSaid, IsNextSaid, IsOfRecord, IsResponse, Leaves, SaysNext, told_by}
 use Rattle.rm_probe.specs.declared.status.Status.{Status}
 use Rattle.rm_probe.specs.declared.status.Status.TheVariants.{Done, Usage, BadCapture, BadRequests, ReadFault, WriteFault, NoMemory, LinkFault, TooLong}
 use Rattle.rm_probe.specs.Text.{IsAnswered, AreSaid}
-use Rattle.rm_probe.specs.Output.{Shown, HasAdded, Says, failed_by, nothing_added, shown}
+use Rattle.rm_probe.specs.Output.{Shown, HasAdded, IsFront, Says, TellsInOrder, adds_none, failed_by, front_none, nothing_added, shown}
 use Rattle.rm_probe.specs.declared.output.OutputFault.{OutputFault}
 use Rattle.rm_probe.specs.declared.output.OutputFault.TheVariants.{Put, Send}
 use Rattle.rm_probe.specs.declared.post.Addressee.{Addressee}
 use Rattle.rm_probe.specs.declared.post.Addressee.TheVariants.{Manager, Asking}
 use Rattle.rm_probe.specs.declared.probe.Probe.{Probe}
-use Rattle.rm_probe.proofs.OutputLemmas.{added_then}
+use Rattle.rm_probe.proofs.OutputLemmas.{added_then, adds_then, front_then, take_longer}
 use Rattle.rm_probe.proofs.PassingLemmas.{all_frames, nothing_said, said_after}
 use Rattle.rm_probe.proofs.FrameLemmas.{broken}
 use Rattle.rm_probe.proofs.RecordLemmas.{leaves_first, leaves_none}
@@ -49,20 +49,80 @@ pub added_more : (managers : List Peer) (asking : ℕ → List Peer) (a b c : Sh
 added_more managers asking a b c said more first then =
     rw (more_lines said more, more_messages managers asking said more) (added_then a b c (lines said) (lines more) (messages managers asking said) (messages managers asking more) first then)
 
--- a notification, by its line and its messages
-pub one_note : (managers : List Peer) (asking : ℕ → List Peer) (old new : Shown) (note : Note) → HasAdded old new (trap_line note) (to_each managers note.message)
-    → HasAdded old new (lines (Notified note ∷ [])) (messages managers asking (Notified note ∷ []))
-one_note managers asking old new note added = rw (append-nil (trap_line note), append-nil (to_each managers note.message)) added
+-- one thing, by its line and its messages
+pub one_said : (managers : List Peer) (asking : ℕ → List Peer) (old new : Shown) (one : Said) → HasAdded old new (line_of one) (messages_of managers asking one)
+    → HasAdded old new (lines (one ∷ [])) (messages managers asking (one ∷ []))
+one_said managers asking old new one added = rw (append-nil (line_of one), append-nil (messages_of managers asking one)) added
 
--- the last line, which no message tells
-pub one_last : (managers : List Peer) (asking : ℕ → List Peer) (old new : Shown) (stop : Stop) (frames requests : ℕ) → HasAdded old new (last_line stop frames requests) []
-    → HasAdded old new (lines (Last stop frames requests ∷ [])) (messages managers asking (Last stop frames requests ∷ []))
-one_last managers asking old new stop frames requests added = rw (append-nil (last_line stop frames requests)) added
+-- one thing told in order is a front of it
+pub one_front : (managers : List Peer) (asking : ℕ → List Peer) (old new : Shown) (one : Said) → TellsInOrder old new (line_of one) (messages_of managers asking one)
+    → IsFront managers asking old.content new.content old.sent new.sent (one ∷ [])
+one_front managers asking old new one (inl ((n, front), same)) = record {
+  written = [];
+  rest = one ∷ [];
+  split = refl;
+  puts = (n, subst (λ (line : List ℕ). Adds old.content new.content (take n line)) (sym (append-nil (line_of one))) front);
+  sends = (0, subst (λ (sent : Option (List Datagram)). Adds old.sent sent []) (sym same) (adds_none old.sent));
+}
+one_front managers asking old new one (inr (whole, front)) = record {
+  written = one ∷ [];
+  rest = [];
+  split = refl;
+  puts = (0, subst (λ (line : List ℕ). Adds old.content new.content line) (sym (append-nil (line_of one ++ []) ∙ append-nil (line_of one))) whole);
+  sends = subst (λ (all : List Datagram). AddsFront old.sent new.sent all) (sym (append-nil (messages_of managers asking one))) front;
+}
+
+-- a front is one of more that is said
+pub front_longer : (managers : List Peer) (asking : ℕ → List Peer) (a b : Option (List ℕ)) (s t : Option (List Datagram)) (said more : List Said) → IsFront managers asking a b s t said → IsFront managers asking a b s t (said ++ more)
+front_longer managers asking a b s t said more front =
+    let (n, put) = front.puts in
+    let (k, same) = take_longer n (lines front.rest) (lines more) in
+    let longer : take n (lines front.rest) ≡ take k (lines (front.rest ++ more)) = sym same ∙ ap (take k) (sym (more_lines front.rest more)) in
+    record {
+      written = front.written;
+      rest = front.rest ++ more;
+      split = ap (λ (l : List Said). l ++ more) front.split ∙ append_assoc front.written front.rest more;
+      puts = (k, subst (λ (l : List ℕ). Adds a b (lines front.written ++ l)) longer put);
+      sends = front.sends;
+    }
+
+-- what was said whole, and then a front
+pub said_then_front : (managers : List Peer) (asking : ℕ → List Peer) (a b c : Option (List ℕ)) (s t u : Option (List Datagram)) (said more : List Said) → Adds a b (lines said) → Adds s t (messages managers asking said)
+    → IsFront managers asking b c t u more → IsFront managers asking a c s u (said ++ more)
+said_then_front managers asking a b c s t u said more put sent front =
+    let (n, puts) = front.puts in
+    record {
+      written = said ++ front.written;
+      rest = front.rest;
+      split = ap (λ (l : List Said). said ++ l) front.split ∙ sym (append_assoc said front.written front.rest);
+      puts = (
+        n,
+        subst (λ (l : List ℕ). Adds a c l) (sym (append_assoc (lines said) (lines front.written) (take n (lines front.rest))) ∙ ap (λ (l : List ℕ). l ++ take n (lines front.rest)) (sym (more_lines said front.written)))
+            (adds_then a b c (lines said) (lines front.written ++ take n (lines front.rest)) put puts),
+      );
+      sends = subst (λ (l : List Datagram). AddsFront s u l) (sym (more_messages managers asking said front.written))
+          (front_then s t u (messages managers asking said) (messages managers asking front.written) sent front.sends);
+    }
+
+-- a front, and then more, of which nothing was put or sent where a call had failed
+fronts_more : (managers : List Peer) (asking : ℕ → List Peer) (a b c : Shown) (said more : List Said) → HasAdded a b (lines said) (messages managers asking said) → HasAdded b c (lines more) (messages managers asking more)
+    → IsFront managers asking a.content b.content a.sent b.sent said → (b.failed ≡ None → IsFront managers asking b.content c.content b.sent c.sent more) → IsFront managers asking a.content c.content a.sent c.sent (said ++ more)
+fronts_more managers asking a b c said more one two first then = by_failed b.failed refl
+  where
+    by_failed : (failed : Option OutputFault) → b.failed ≡ failed → IsFront managers asking a.content c.content a.sent c.sent (said ++ more)
+    by_failed None well = said_then_front managers asking a.content b.content c.content a.sent b.sent c.sent said more (one.puts.whole well) (one.sends.whole well) (then well)
+    by_failed (Some fault) is =
+        subst (λ (content : Option (List ℕ)). IsFront managers asking a.content content a.sent c.sent (said ++ more)) (sym (two.puts.stays fault is))
+        (subst (λ (sent : Option (List Datagram)). IsFront managers asking a.content b.content a.sent sent (said ++ more)) (sym (two.sends.stays fault is)) (front_longer managers asking a.content b.content a.sent b.sent said more first))
 
 -- an output has said nothing
 pub says_none : {K P : Type 0} (content : K → Option (List ℕ)) (puts : K → ℕ) (sent : P → Option (List Datagram)) (sends : P → ℕ) (peers : P → Addressee → List Peer) (same : P → P → Type 0)
     → ((post : P) → same post post) → (k : K) (p : P) (f : Option OutputFault) → Says content puts sent sends peers same k p f k p f []
-says_none content puts sent sends peers same still k p f = record { still = still p; adds = nothing_added (shown content puts sent sends k p f) }
+says_none content puts sent sends peers same still k p f = record {
+  still = still p;
+  adds = nothing_added (shown content puts sent sends k p f);
+  order = λ none. front_none (peers p Manager) (λ (number : ℕ). peers p Asking) (content k) (sent p);
+}
 
 -- an output has said some things, and then others
 pub says_then : {K P : Type 0} (content : K → Option (List ℕ)) (puts : K → ℕ) (sent : P → Option (List Datagram)) (sends : P → ℕ) (peers : P → Addressee → List Peer) (same : P → P → Type 0)
@@ -71,9 +131,13 @@ pub says_then : {K P : Type 0} (content : K → Option (List ℕ)) (puts : K →
     → Says content puts sent sends peers same k p f l q g said → Says content puts sent sends peers same l q g m r h more → Says content puts sent sends peers same k p f m r h (said ++ more)
 says_then content puts sent sends peers same onward kept k l m p q r f g h said more one two = record {
   still = onward p q r one.still two.still;
-  adds = added_more (peers p Manager) (λ (number : ℕ). peers p Asking) (shown content puts sent sends k p f) (shown content puts sent sends l q g) (shown content puts sent sends m r h) said more one.adds
-      (subst (λ (who : Addressee → List Peer). HasAdded (shown content puts sent sends l q g) (shown content puts sent sends m r h) (lines more) (messages (who Manager) (λ (number : ℕ). who Asking) more)) (kept p q one.still) two.adds);
+  adds = added_more (peers p Manager) (λ (number : ℕ). peers p Asking) (shown content puts sent sends k p f) (shown content puts sent sends l q g) (shown content puts sent sends m r h) said more one.adds later_adds;
+  order = λ none. fronts_more (peers p Manager) (λ (number : ℕ). peers p Asking) (shown content puts sent sends k p f) (shown content puts sent sends l q g) (shown content puts sent sends m r h) said more one.adds later_adds (one.order none)
+      (λ well. subst (λ (who : Addressee → List Peer). IsFront (who Manager) (λ (number : ℕ). who Asking) (content l) (content m) (sent q) (sent r) more) (kept p q one.still) (two.order well));
 }
+  where
+    later_adds : HasAdded (shown content puts sent sends l q g) (shown content puts sent sends m r h) (lines more) (messages (peers p Manager) (λ (number : ℕ). peers p Asking) more)
+    later_adds = subst (λ (who : Addressee → List Peer). HasAdded (shown content puts sent sends l q g) (shown content puts sent sends m r h) (lines more) (messages (who Manager) (λ (number : ℕ). who Asking) more)) (kept p q one.still) two.adds
 
 -- what is said next, after the frames up to the moment of its datagram
 pub next_is : (bytes : List ℕ) (old new : Progress) (settings : Settings) (probe probe' : Probe) (number : ℕ) (request : TimedDatagram) (frames : List Frame) (stop : Stop) (journal : Journal) (passed told : List Note) (response : Response)

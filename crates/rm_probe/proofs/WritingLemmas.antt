@@ -19,7 +19,7 @@ use Rattle.rm_probe.proofs.StepLemmas.{more_lines}
 
 module _ (a b : Shown) (said : List Said) (messages : List Datagram) (added : HasAdded a b (lines said) messages) (none : a.failed ≡ None) where
   -- a put failed
-  put_rose : b.failed ≡ Some Put → Rose a.puts b.puts
+  pub put_rose : b.failed ≡ Some Put → Rose a.puts b.puts
   put_rose is = elim (added.puts.cause is) [ inl e ↦ absurd (let f = sym e ∙ none in cc) | inr rose ↦ rose ]
 
   -- a send failed

@@ -11,3 +11,6 @@ pub mod Probe
 pub mod Steps
 pub mod Status
 pub mod Ends
+pub mod Serving
+pub mod Turns
+pub mod Ready

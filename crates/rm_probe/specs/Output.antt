@@ -1,5 +1,5 @@
 -- What an output has put and sent.
-use Rattle.std.specs.Prelude.{◌≡◌, ◌⊎◌, ◌≤◌, ℕ, List, [], Option, Some, None, Result, Ok, Err}
+use Rattle.std.specs.Prelude.{◌≡◌, ◌⊎◌, ◌≤◌, ℕ, List, [], ◌++◌, take, Option, Some, None, Result, Ok, Err}
 use Rattle.std.proofs.Common.{inl, refl, sym, ap, arith}
 use Rattle.std.proofs.lemmas.List.{append-nil}
 use Rattle.rm_edge.specs.Outside.{Adds, AddsFront, Rose}
@@ -58,9 +58,27 @@ abbrev pub failed_by : {T : Type 0} → Result T OutputFault → Option OutputFa
 failed_by (Ok done) = None
 failed_by (Err fault) = Some fault
 
+-- Of what was said some lines were put whole, and then a front of the lines behind them; and of the messages that the whole lines tell, the
+-- first were sent.
+pub record IsFront (managers : List Peer) (asking : ℕ → List Peer) (content content_after : Option (List ℕ)) (sent sent_after : Option (List Datagram)) (said : List Said) : Type 0 where
+  pub written : List Said
+  pub rest : List Said
+  pub split : said ≡ written ++ rest
+  pub puts : (n : ℕ) × Adds content content_after (lines written ++ take n (lines rest))
+  pub sends : AddsFront sent sent_after (messages managers asking written)
+
+-- nothing is a front
+pub front_none : (managers : List Peer) (asking : ℕ → List Peer) (content : Option (List ℕ)) (sent : Option (List Datagram)) → IsFront managers asking content content sent sent []
+front_none managers asking content sent = record { written = []; rest = []; split = refl; puts = (0, adds_none content); sends = (0, adds_none sent) }
+
 -- An output has said this: its post is the same, the lines were put, and the messages sent, those to who asks to the one peer that the post has.
 pub record Says {K P : Type 0} (content : K → Option (List ℕ)) (puts : K → ℕ) (sent : P → Option (List Datagram)) (sends : P → ℕ) (peers : P → Addressee → List Peer) (same : P → P → Type 0)
     (sink : K) (post : P) (failed : Option OutputFault) (sink' : K) (post' : P) (failed' : Option OutputFault) (said : List Said) : Type 0 where
   pub still : same post post'
   pub adds : HasAdded (shown content puts sent sends sink post failed) (shown content puts sent sends sink' post' failed')
       (lines said) (messages (peers post Manager) (λ (number : ℕ). peers post Asking) said)
+  pub order : failed ≡ None → IsFront (peers post Manager) (λ (number : ℕ). peers post Asking) (content sink) (content sink') (sent post) (sent post') said
+
+-- A line was put, or a front of it; and where it was put whole, a front of the messages that it tells was sent.
+abbrev pub TellsInOrder : Shown → Shown → List ℕ → List Datagram → Type 0
+TellsInOrder old new line messages = (AddsFront old.content new.content line × (new.sent ≡ old.sent)) ⊎ (Adds old.content new.content line × AddsFront old.sent new.sent messages)

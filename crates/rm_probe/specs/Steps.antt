@@ -1,6 +1,7 @@
 -- What the steps of a run do.
 use Rattle.std.specs.Prelude.{◌≡◌, ◌⊎◌, ℕ, ◌+◌, ◌≤◌, List, [], ◌∷◌, ◌++◌, length, map, take_while, Option, Some, None, Result, Ok, Err, ⊤}
 use Rattle.rm_edge.specs.Outside.{Adds, AddsFront, File, Held, OfFile, Rose}
+use Rattle.rm_edge.specs.declared.outside.link.Peer.{Peer}
 use Rattle.rm_model.specs.Journal.{Frame, Journal, passes}
 use Rattle.rm_pcap.specs.Records.{Stop, Broken, Found, Whole, Stops, AreRecords}
 use Rattle.rm_pcap.specs.Progress.{Progress, Agrees}
@@ -10,7 +11,7 @@ use Rattle.rm_pcap.specs.declared.fault.PcapFault.TheVariants.{Included, Origina
 use Rattle.rm_probe.specs.Advance.{IsAdvanced}
 use Rattle.rm_agent.specs.Orderly.{IsOrderly}
 use Rattle.rm_probe.specs.Notes.{Note}
-use Rattle.rm_probe.specs.Said.{Response, Said, Notified, Responded, Last, stop_before, Sent}
+use Rattle.rm_probe.specs.Said.{Response, Said, Notified, Responded, Last, messages, stop_before, Sent}
 use Rattle.rm_probe.specs.Capture.{IsCaptureFile, IsFaultless, CallsFor, status_of}
 use Rattle.rm_requests.specs.Lines.{TimedDatagram, IsRequestFile}
 use Rattle.rm_probe.specs.declared.replaying.NumberedDatagram.{NumberedDatagram}
@@ -138,6 +139,10 @@ IsLastSaid settings passed requests frames stop journal said =
 abbrev pub IsLastLine : ℕ → ℕ → List Frame → Stop → List Said → Type 0
 IsLastLine passed requests left stop said = said ≡ Last (stop_before left stop) passed requests ∷ []
 
+-- no message tells it
+abbrev pub TellsNoMessage : List Said → Type 0
+TellsNoMessage said = (managers : List Peer) (asking : ℕ → List Peer) → messages managers asking said ≡ []
+
 -- what the result of an output is for the run: one that takes nothing more ends it
 abbrev pub told_by : Result (Unit {0}) OutputFault → Result (Unit {0}) Status
 told_by (Ok done) = Ok done
@@ -164,13 +169,17 @@ FailsBy failed (Err WriteFault) = failed ≡ Some Put
 FailsBy failed (Err LinkFault) = failed ≡ Some Send
 FailsBy failed (Err status) = ⊤
 
--- what was said by a run: all of it, or the first of it where a read, a put or a send failed
+-- what was said: all of it, or the first of it where a read, a put or a call on the link failed
+abbrev pub SaysFirst : {T : Type 0} → (List Said → Type 0) → List Said → Result T Status → Type 0
+SaysFirst IsAll said (Ok done) = IsAll said
+SaysFirst IsAll said (Err WriteFault) = (rest : List Said) × IsAll (said ++ rest)
+SaysFirst IsAll said (Err LinkFault) = (rest : List Said) × IsAll (said ++ rest)
+SaysFirst IsAll said (Err ReadFault) = (rest : List Said) × IsAll (said ++ rest)
+SaysFirst IsAll said (Err other) = ⊥
+
+-- what was said by a run
 abbrev pub SaysRun : {T : Type 0} → Settings → List Frame → Stop → List TimedDatagram → List Said → Result T Status → Type 0
-SaysRun settings frames stop requests said (Ok done) = IsRun settings frames stop requests said
-SaysRun settings frames stop requests said (Err WriteFault) = (rest : List Said) × IsRun settings frames stop requests (said ++ rest)
-SaysRun settings frames stop requests said (Err LinkFault) = (rest : List Said) × IsRun settings frames stop requests (said ++ rest)
-SaysRun settings frames stop requests said (Err ReadFault) = (rest : List Said) × IsRun settings frames stop requests (said ++ rest)
-SaysRun settings frames stop requests said (Err other) = ⊥
+SaysRun settings frames stop requests said result = SaysFirst (IsRun settings frames stop requests) said result
 
 -- what a run writes: its text, or a front of it where a read or a put failed, or nothing for want of memory
 abbrev pub Writes : Settings → List Frame → Stop → List TimedDatagram → Option (List ℕ) → Option (List ℕ) → Status → Type 0
@@ -182,6 +191,7 @@ Writes settings frames stop requests old new other = ⊥
 
 -- what isn't of a call on the capture, nor of a put or a send
 abbrev pub IsForeign : Status → Type 0
+IsForeign Done = ⊤
 IsForeign Usage = ⊤
 IsForeign (BadRequests line) = ⊤
 IsForeign NoMemory = ⊤

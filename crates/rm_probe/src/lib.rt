@@ -1,5 +1,5 @@
-//! A probe, to which frames and datagrams come one by one, and the run that replays a capture and answers the datagrams
-//! of a request file.
+//! A probe, to which frames and datagrams come one by one, and the runs that replay a capture: one answers the datagrams of a request
+//! file, the other those that come over a link.
 #![tactic(auto)]
 
 mod capture;
@@ -13,14 +13,19 @@ mod post;
 mod probe;
 mod replaying;
 mod requests;
+mod serving;
 mod status;
 #[cfg(test)]
 mod tests;
 
 pub use entry::replay;
-pub use laws::{every_text_has_answers, one_text, one_text_by_answers};
+pub use laws::{
+    every_served_has_answers, every_text_has_answers, one_served, one_served_by_answers, one_text,
+    one_text_by_answers,
+};
 pub use notes::Notes;
 pub use output::{Output, OutputFault};
 pub use post::{Addressee, Post, Posted, Unsent};
 pub use probe::Probe;
+pub use serving::serve;
 pub use status::Status;

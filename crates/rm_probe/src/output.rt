@@ -2,7 +2,8 @@
 ghost use Rattle.std.specs.Prelude.{◌≡◌, ◌∷◌, [], None, refl};
 ghost use Rattle.rm_agent.specs.Answers.{IsShort};
 ghost use Rattle.rm_probe.specs.Said.{Responded, response_of, to_each};
-ghost use Rattle.rm_probe.specs.Output.{HasAdded, Says, failed_by, nothing_added, shown};
+ghost use Rattle.rm_probe.specs.declared.post.Addressee.TheVariants.{Asking, Manager};
+ghost use Rattle.rm_probe.specs.Output.{HasAdded, Says, TellsInOrder, failed_by, front_none, nothing_added, shown};
 
 use crate::line::{self, Line};
 use crate::notes::Notes;
@@ -81,6 +82,8 @@ impl<'a, K: Sink, P: Post> Output<'a, K, P> {
         ensures adds { HasAdded (shown K.content K.faults P.sent P.faults self.old.sink.now self.old.post self.old.failed)
             (shown K.content K.faults P.sent P.faults self.new.sink.now self.new.post self.new.failed) line.now.items
             (to_each (P.peers self.old.post to) message.now) }
+        ensures order { self.old.failed ≡ None → TellsInOrder (shown K.content K.faults P.sent P.faults self.old.sink.now self.old.post self.old.failed)
+            (shown K.content K.faults P.sent P.faults self.new.sink.now self.new.post self.new.failed) line.now.items (to_each (P.peers self.old.post to) message.now) }
         ensures failed { self.new.failed ≡ failed_by result }
     {
         self.put(line)?;
@@ -121,7 +124,14 @@ impl<K: Sink, P: Post> Notes for Output<'_, K, P> {
     ghost since = { λ start now said. (now.sink.ghost_name ≡ start.sink.ghost_name) × Says K.content K.faults P.sent P.faults P.peers P.same
         start.sink.now start.post start.failed now.sink.now now.post now.failed said };
 
-    ghost none = { λ state. (refl, record { still = P.still state.post; adds = nothing_added (shown K.content K.faults P.sent P.faults state.sink.now state.post state.failed) }) };
+    ghost none = { λ state. (
+      refl,
+      record {
+        still = P.still state.post;
+        adds = nothing_added (shown K.content K.faults P.sent P.faults state.sink.now state.post state.failed);
+        order = λ none. front_none (P.peers state.post Manager) (λ number. P.peers state.post Asking) (K.content state.sink.now) (P.sent state.post);
+      },
+    ) };
 
     fn note(&mut self, moment: u32, message: &[u8]) {
         let mut line = Line::new();

@@ -1,7 +1,6 @@
 // The text of a run: a capture and a request file are read again, which were judged before, and the datagrams are answered.
 ghost use Rattle.std.specs.Prelude.{◌≡◌, ◌⊎◌, ◌≤◌, ◌<◌, ◌^◌, ◌++◌, ℕ, List, Some, None, Ok, Err, OnOk, IfErr, [], ◌∷◌, map};
 ghost use Rattle.rm_edge.specs.Outside.{Rose, File};
-ghost use Rattle.rm_edge.specs.Link.{Datagram};
 ghost use Rattle.rm_edge.specs.Shelves.{KeepsShelf};
 ghost use Rattle.rm_model.specs.Journal.{Frame, Journal};
 ghost use Rattle.rm_pcap.specs.View.{progress_of};
@@ -11,10 +10,10 @@ ghost use Rattle.rm_probe.specs.Capture.{IsCapture, IsFaultless};
 ghost use Rattle.rm_requests.specs.Lines.{TimedDatagram, AreRequests};
 ghost use Rattle.rm_requests.specs.Reading.{beginning, reached_of};
 ghost use Rattle.rm_probe.specs.Notes.{Note};
-ghost use Rattle.rm_probe.specs.Said.{Notified, Responded, Response, Said, Sent};
+ghost use Rattle.rm_probe.specs.Said.{Notified, Responded, Response, Said};
 ghost use Rattle.rm_probe.specs.Output.{Says, failed_by};
 ghost use Rattle.rm_probe.specs.Probe.{settings_of, last_given, frames_given, IsFresh, Stands};
-ghost use Rattle.rm_probe.specs.Steps.{Advances, Answers, FailsBy, FindsAnother, HasBegun, IsForeign, IsLastLine, IsLastSaid, IsNextSaid, IsNotCapture, IsNotLeft, IsNotRequests, IsOfRecord, IsQuiet, IsResponse, Keeps, Leaves, Notifies, SaysNext, SaysRun, Writes, ends_by, timed, told_by};
+ghost use Rattle.rm_probe.specs.Steps.{Advances, Answers, FailsBy, FindsAnother, HasBegun, IsForeign, IsLastLine, IsLastSaid, IsNextSaid, IsNotCapture, IsNotLeft, IsNotRequests, IsOfRecord, IsQuiet, IsResponse, Keeps, Leaves, Notifies, SaysNext, SaysRun, TellsNoMessage, Writes, ends_by, timed, told_by};
 ghost use Rattle.rm_probe.specs.Ends.{IsSilent};
 ghost use Rattle.rm_probe.specs.declared.status.Status.TheVariants.{ReadFault, WriteFault, NoMemory};
 
@@ -22,7 +21,7 @@ use crate::laws::something_said;
 use crate::line::{self, Line};
 use crate::notes::Notes;
 use crate::output::{Output, OutputFault};
-use crate::post::{Post, Unsent};
+use crate::post::Post;
 use crate::probe::Probe;
 use crate::status::Status;
 use rm_agent::MOST_REPLY;
@@ -41,9 +40,9 @@ pub struct NumberedDatagram<'a> {
 
 /// A capture whose frames pass by a probe.
 #[derive(Drop)]
-struct Replaying {
-    capture: Capture,
-    probe: Probe,
+pub(crate) struct Replaying {
+    pub(crate) capture: Capture,
+    pub(crate) probe: Probe,
 }
 
 impl Replaying {
@@ -127,7 +126,8 @@ impl Replaying {
             out.new.sink.now out.new.post out.new.failed said
             × ((bytes : List ℕ) (frames : List Frame) (stop : Stop) → F.held shelf.old name.now ≡ File bytes
             → Leaves (progress_of self.old.capture) bytes frames stop
-            → SaysNext (IsLastLine (progress_of self.old.capture).reach.count requests frames stop) (λ notes. notes ≡ []) stop said result) }
+            → SaysNext (IsLastLine (progress_of self.old.capture).reach.count requests frames stop) (λ notes. notes ≡ []) stop said result)
+            × TellsNoMessage said }
         ensures failed { FailsBy out.new.failed result }
         ensures reads { result ≡ Err ReadFault → Rose (F.faults shelf.old name.now) (F.faults shelf.new name.now) }
         ensures loud { IfErr result (λ status. IsForeign status → ⊥) }
@@ -286,7 +286,7 @@ fn told(output: Result<(), OutputFault>) -> Result<(), Status>
 }
 
 // How a run ends by its result.
-fn ended(run: Result<(), Status>) -> Status
+pub(crate) fn ended(run: Result<(), Status>) -> Status
     ensures { result ≡ ends_by run }
 {
     match run {

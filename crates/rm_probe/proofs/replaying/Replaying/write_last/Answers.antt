@@ -50,7 +50,7 @@ returns-clause-says g c =
       refl,
       says_none g.K.Sink.content g.K.Sink.faults g.P.Post.sent g.P.Post.faults g.P.Post.peers g.P.Post.same g.met.P.Post.still c.args.out.now.sink.now c.args.out.now.post c.args.out.now.failed,
     ) in
-    let (last, says, next) = c.put_last.ensures.says in
+    let (last, says, next, untold) = c.put_last.ensures.says in
     let (stop_at, ahead) = c.in_ok-advance.ensures.all refl in (
       map Notified passed ++ last,
       says_then g.K.Sink.content g.K.Sink.faults g.P.Post.sent g.P.Post.faults g.P.Post.peers g.P.Post.same g.met.P.Post.onward g.met.P.Post.kept c.args.out.now.sink.now c.advance.new.notes.sink.now c.put_last.new.out.sink.now

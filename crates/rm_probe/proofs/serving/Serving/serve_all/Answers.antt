@@ -1,0 +1,95 @@
+use Rattle.std.proofs.Common.{◌≡◌, ◌∙◌, ◌∷◌, ◌++◌, [], ◌+◌, arith, length-append, refl, rules, subst}
+use Rattle.rm_edge.specs.Uses.{clock_use, link_use, sink_use}
+use Rattle.rm_pcap.specs.View.{progress_of}
+use Rattle.rm_probe.specs.Probe.{settings_of}
+use Rattle.rm_probe.specs.Serving.{asking_of}
+use Rattle.rm_probe.specs.Turns.{HasServed}
+use Rattle.rm_probe.proofs.FrameLemmas.{keeps_begun}
+use Rattle.rm_probe.proofs.RunLemmas.{capture_finds}
+use Rattle.rm_probe.proofs.ServingLemmas.{end_served, front_beside, put_beside, run_begins, run_more, served_last, stop_served, turn_finds, turn_stops}
+use Rattle.rm_probe.proofs.TurnLemmas.{on_done}
+use Rattle.rm_probe.proofs.serving.Serving.serve_all.Goals as goal
+
+pub loop-number-init : goal.loop-number-init
+loop-number-init g c = (
+  [],
+  [],
+  run_begins g.F.Shelf.held g.F.Shelf.faults g.K.Sink.content g.K.Sink.faults g.L.Link.bound g.L.Link.received g.L.Link.sent g.L.Link.faults g.T.Clock.told
+      (settings_of c.args.self.now.replaying.probe) c.args.self.now.manager c.args.name.now (progress_of c.args.self.now.replaying.capture) c.args.shelf.now c.args.out.now c.args.link.now c.args.clock.now
+      c.args.self.now.replaying.probe c.args.self.now.last refl c.requires.none c.requires.first.last
+      (keeps_begun c.args.self.now.replaying.probe (progress_of c.args.self.now.replaying.capture) c.requires.first.last c.requires.begun) c.requires.first.stands,
+  c.requires.room,
+  refl,
+  omega arith,
+)
+
+pub loop-number-preserved : goal.loop-number-preserved
+loop-number-preserved g c =
+    let (arrivals, said, i, whole, manager, within) = c.loop-number.invariant in
+    let (came, next, turn, one, (arrival, alone, moment), few, says) = c.in-Ok.ensures.served in (
+      arrivals ++ arrival ∷ [],
+      said ++ next,
+      run_more g.F.Shelf.held g.F.Shelf.faults g.K.Sink.content g.K.Sink.faults g.L.Link.bound g.L.Link.received g.L.Link.sent g.L.Link.faults g.T.Clock.told
+          (settings_of c.args.self.now.replaying.probe) c.args.self.now.manager c.args.name.now (progress_of c.args.self.now.replaying.capture) c.args.shelf.now c.loop-number.shelf c.serve_one.new.shelf
+          c.args.out.now c.loop-number.out c.serve_one.new.out c.args.link.now c.loop-number.link c.serve_one.new.link c.args.clock.now c.loop-number.clock c.serve_one.new.clock
+          (progress_of c.loop-number.self.replaying.capture) (progress_of c.serve_one.new.self.replaying.capture) c.loop-number.self.replaying.probe c.serve_one.new.self.replaying.probe c.loop-number.number c.loop-number.self.last arrivals said i
+          came arrival next c.serve_one.new.self.last alone moment (rw c.from.ensures at one) (rw manager at turn) c.in-Ok.ensures.shelf.constant (c.in-Ok.ensures.shelf.quiet (λ e. cc)) c.in-Ok.ensures.settings c.in-Ok.ensures.given c.in-Ok.ensures.keeps
+          (λ bytes frames stop journal is left stands. rw c.from.ensures at (says bytes frames stop journal is left stands)),
+      c.in-Ok.ensures.room,
+      c.in-Ok.ensures.manager ∙ manager,
+      omega (arith, c.loop-number-test.true),
+    )
+
+pub returns-in-Err-clause-served : goal.returns-in-Err-clause-served
+returns-in-Err-clause-served g c =
+    let (arrivals, said, i, whole, manager, within) = c.loop-number.invariant in
+    let (came, next, turn, one, done, few, says) = c.in-Err.ensures.served in (
+      arrivals ++ came,
+      said ++ next,
+      stop_served g.F.Shelf.held g.F.Shelf.faults g.K.Sink.content g.K.Sink.faults g.L.Link.bound g.L.Link.received g.L.Link.sent g.L.Link.faults g.T.Clock.told
+          (settings_of c.args.self.now.replaying.probe) c.args.self.now.manager c.args.name.now (progress_of c.args.self.now.replaying.capture) c.args.shelf.now c.loop-number.shelf c.serve_one.new.shelf
+          c.args.out.now c.loop-number.out c.serve_one.new.out c.args.link.now c.loop-number.link c.serve_one.new.link c.args.clock.now c.loop-number.clock c.serve_one.new.clock
+          (progress_of c.loop-number.self.replaying.capture) (progress_of c.serve_one.new.self.replaying.capture) c.loop-number.self.replaying.probe c.serve_one.new.self.replaying.probe c.loop-number.number c.loop-number.self.last arrivals said i
+          came next _ few (rw c.from.ensures at one) (rw manager at turn),
+      omega (arith, c.loop-number-test.true, i.number_is, few, length-append arrivals came),
+      tt,
+      λ bytes frames stop is left none faultless.
+          let r = i.run bytes frames stop is left none in
+          let turned = says bytes r.left stop r.journal (i.same c.args.name.now ∙ is) r.records_left r.stands in
+          turn_stops (settings_of c.args.self.now.replaying.probe) c.something_said.ensures bytes frames stop arrivals came (progress_of c.loop-number.self.replaying.capture) (progress_of c.serve_one.new.self.replaying.capture)
+          c.loop-number.self.replaying.probe c.serve_one.new.self.replaying.probe said next (c.loop-number.number + 1) r (omega (arith, i.number_is)) faultless c.in-Err.status (rw (c.from.ensures, i.settings_same) at turned),
+    )
+
+pub returns-in-Err-clause-finds : goal.returns-in-Err-clause-finds
+returns-in-Err-clause-finds g c =
+    let (arrivals, said, i, whole, manager, within) = c.loop-number.invariant in
+    let (came, next, turn, one, done, few, says) = c.in-Err.ensures.served in
+    capture_finds (g.F.Shelf.held c.args.shelf.now c.args.name.now) (progress_of c.args.self.now.replaying.capture) ⊥ c.in-Err.status c.in-Err.ensures.loud
+    (λ bytes frames stop is left none faultless.
+    let r = i.run bytes frames stop is left none in
+    turn_finds bytes (progress_of c.loop-number.self.replaying.capture) (progress_of c.serve_one.new.self.replaying.capture) (settings_of c.loop-number.self.replaying.probe) c.serve_one.new.self.replaying.probe c.from.result
+    r.left stop r.journal came next c.in-Err.status faultless (says bytes r.left stop r.journal (i.same c.args.name.now ∙ is) r.records_left r.stands))
+
+pub returns-clause-served : goal.returns-clause-served
+returns-clause-served g c =
+    let (arrivals, said, i, whole, manager, within) = c.loop-number.invariant in
+    let (last, says, line, silent) = c.put_last.ensures.says in
+    let all : c.loop-number.number ≡ c.args.count = omega (arith, c.loop-number-test.false, within) in (
+      arrivals,
+      said ++ last,
+      subst (λ (k : g.row.K.Denot). HasServed c.args.self.now.manager (asking_of arrivals) 0 (sink_use g.K.Sink.content g.K.Sink.faults c.args.out.now k)
+          (link_use g.L.Link.bound g.L.Link.received g.L.Link.sent g.L.Link.faults c.args.link.now c.loop-number.link) (clock_use g.T.Clock.told c.args.clock.now c.loop-number.clock) arrivals (said ++ last) c.put_last.result) (search rules)
+          (end_served g.F.Shelf.held g.F.Shelf.faults g.K.Sink.content g.K.Sink.faults g.L.Link.bound g.L.Link.received g.L.Link.sent g.L.Link.faults g.T.Clock.told
+          (settings_of c.args.self.now.replaying.probe) c.args.self.now.manager c.args.name.now (progress_of c.args.self.now.replaying.capture) c.args.shelf.now c.loop-number.shelf c.loop-number.shelf
+          c.args.out.now c.loop-number.out c.put_last.new.out.sink.now c.args.link.now c.loop-number.link c.loop-number.link c.args.clock.now c.loop-number.clock c.loop-number.clock
+          (progress_of c.loop-number.self.replaying.capture) (progress_of c.loop-number.self.replaying.capture) c.loop-number.self.replaying.probe c.loop-number.self.replaying.probe c.loop-number.number c.loop-number.self.last arrivals said i
+          last c.put_last.new.out.failed c.put_last.result silent
+          (rw c.new-output.ensures.sink at (put_beside _ _ (g.L.Link.sent c.loop-number.link) (g.L.Link.faults c.loop-number.link) last _ says.adds c.new-output.ensures.failed refl refl))
+          (rw c.new-output.ensures.sink at (front_beside (c.args.self.now.manager ∷ []) _ (asking_of arrivals) _ _ _ _ _ (g.L.Link.sent c.loop-number.link) last (says.order c.new-output.ensures.failed))) c.put_last.ensures.failed),
+      omega (arith, all, i.number_is),
+      on_done _ c.put_last.result (omega (arith, all, i.number_is)),
+      λ bytes frames stop is left none faultless.
+          let r = i.run bytes frames stop is left none in
+          served_last (settings_of c.args.self.now.replaying.probe) bytes frames stop arrivals (progress_of c.loop-number.self.replaying.capture) c.loop-number.self.replaying.probe said last _ r (omega (arith, c.from-2.ensures, all, i.number_is)) faultless c.put_last.result
+          (line bytes r.left stop (i.same c.args.name.now ∙ is) r.records_left),
+    )

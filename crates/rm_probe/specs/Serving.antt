@@ -1,0 +1,139 @@
+-- What a run that serves says: to the datagrams that it receives, at the moments that the clock tells then.
+use Rattle.std.specs.Prelude.{◌≡◌, ◌⊎◌, ℕ, ◌-◌, ◌≤◌, max, List, [], ◌∷◌, ◌++◌, length, map, take, drop, Option, Some, None, ⊤}
+use Rattle.rm_edge.specs.Outside.{File, OfFile, Adds}
+use Rattle.rm_edge.specs.Link.{Datagram}
+use Rattle.rm_edge.specs.Uses.{FileUse, SinkUse, LinkUse, ClockUse, HasReadFault, HasPutFault, HasLinkFault, IsUntouched}
+use Rattle.rm_edge.specs.declared.outside.link.Peer.{Peer}
+use Rattle.rm_model.specs.Journal.{Frame}
+use Rattle.rm_pcap.specs.Records.{Stop}
+use Rattle.rm_pcap.specs.declared.fault.PcapFault.{PcapFault}
+use Rattle.rm_agent.specs.declared.settings.Settings.{Settings}
+use Rattle.rm_requests.specs.Lines.{TimedDatagram}
+use Rattle.rm_probe.specs.Capture.{IsCapture, IsCaptureFile, IsBroken, CallsFor, status_of}
+use Rattle.rm_probe.specs.Ends.{Comes}
+use Rattle.rm_probe.specs.Events.{events_by, frames_left}
+use Rattle.rm_probe.specs.Output.{IsFront}
+use Rattle.rm_probe.specs.Said.{Said, Last, lines, messages, stop_before}
+use Rattle.rm_probe.specs.Text.{AreSaid, AreSaidBy, Choice}
+use Rattle.rm_probe.specs.declared.status.Status.{Status}
+use Rattle.rm_probe.specs.declared.status.Status.TheVariants.{Done, BadCapture, ReadFault, WriteFault, NoMemory, LinkFault, TooLong}
+
+-- a datagram that came: from whom, at which moment, and its octets
+pub record Arrival : Type 0 where
+  pub peer : Peer
+  pub moment : ℕ
+  pub bytes : List ℕ
+
+abbrev pub received_of : Arrival → Datagram
+received_of arrival = record { peer = arrival.peer; bytes = arrival.bytes }
+
+abbrev pub request_of : Arrival → TimedDatagram
+request_of arrival = record { moment = arrival.moment; datagram = arrival.bytes }
+
+abbrev pub requests_of : List Arrival → List TimedDatagram
+requests_of arrivals = map request_of arrivals
+
+abbrev pub peers_of : List Arrival → List Peer
+peers_of arrivals = map (λ (arrival : Arrival). arrival.peer) arrivals
+
+-- from whom the datagram of a number came
+abbrev pub asking_of : List Arrival → ℕ → List Peer
+asking_of arrivals number = peers_of (take 1 (drop (number - 1) arrivals))
+
+-- a port of the machine itself
+abbrev pub local_port : ℕ → Peer
+local_port port = record { ip = 127 ∷ 0 ∷ 0 ∷ 1 ∷ []; port = port }
+
+-- All that is said in a run that serves: of the frames up to the last datagram, and of the datagrams. The last line says `cut` where no frame
+-- is left and the capture is cut short, and how many frames were taken.
+pub record IsServed (settings : Settings) (frames : List Frame) (stop : Stop) (arrivals : List Arrival) (said : List Said) : Type 0 where
+  pub before : List Said
+  pub are_said : AreSaid settings [] (events_by 1 frames (requests_of arrivals)) before
+  pub whole : said ≡ before ++ Last (stop_before (frames_left (requests_of arrivals) frames) stop)
+      (length frames - length (frames_left (requests_of arrivals) frames)) (length arrivals) ∷ []
+
+-- the same, said with these answers
+pub record IsServedBy (settings : Settings) (frames : List Frame) (stop : Stop) (arrivals : List Arrival) (choices : List Choice) (said : List Said) : Type 0 where
+  pub before : List Said
+  pub are_said : AreSaidBy settings [] (events_by 1 frames (requests_of arrivals)) choices before
+  pub whole : said ≡ before ++ Last (stop_before (frames_left (requests_of arrivals) frames) stop)
+      (length frames - length (frames_left (requests_of arrivals) frames)) (length arrivals) ∷ []
+
+-- of the moments that a clock told, one earlier than the last is taken as the last
+unfoldable pub rising : ℕ → List ℕ → List ℕ
+rising last [] = []
+rising last (told ∷ more) = max last told ∷ rising (max last told) more
+
+-- What the calls of a clock did to the list of its moments: these were told. A clock may cease to show its moments.
+abbrev pub TellsAll : Option (List ℕ) → Option (List ℕ) → List ℕ → Type 0
+TellsAll old None told = ⊤
+TellsAll None (Some new) told = ⊥
+TellsAll (Some old) (Some new) told = new ≡ old ++ told
+
+-- these datagrams came, by what a link has received and a clock has told, one moment for each
+pub record HaveCome (received received_after : Option (List Datagram)) (told told_after : Option (List ℕ)) (last : ℕ) (arrivals : List Arrival) : Type 0 where
+  pub came : Adds received received_after (map received_of arrivals)
+  pub moments : List ℕ
+  pub tells : TellsAll told told_after moments
+  pub rises : map (λ (arrival : Arrival). arrival.moment) arrivals ≡ rising last moments
+
+-- the octets of the capture are these, and P holds of what is said of them
+abbrev pub OfServed : Settings → ℕ → List Arrival → FileUse → (List Said → Type 0) → Type 0
+OfServed settings lead arrivals capture P = OfFile capture.held (IsCaptureFile lead)
+    × OfFile capture.held (λ bytes. (frames : List Frame) (stop : Stop) → IsCapture lead bytes frames stop → (said : List Said) × IsServed settings frames stop arrivals said × P said)
+
+-- the messages of what is said: notifications go to the manager, replies to who asked
+abbrev pub served_messages : Peer → List Arrival → List Said → List Datagram
+served_messages manager arrivals said = messages (manager ∷ []) (asking_of arrivals) said
+
+-- the text of what is said was written, and its messages were sent
+abbrev pub WritesServed : Settings → ℕ → Peer → List Arrival → FileUse → SinkUse → LinkUse → Type 0
+WritesServed settings lead manager arrivals capture out link = OfServed settings lead arrivals capture
+    (λ said. Adds out.content out.content_after (lines said) × Adds link.sent link.sent_after (served_messages manager arrivals said))
+
+-- a front of the text was written, and of the messages that its whole lines tell the first were sent
+abbrev pub WritesServedFront : Settings → ℕ → Peer → List Arrival → FileUse → SinkUse → LinkUse → Type 0
+WritesServedFront settings lead manager arrivals capture out link = OfServed settings lead arrivals capture
+    (λ said. IsFront (manager ∷ []) (asking_of arrivals) out.content out.content_after link.sent link.sent_after said)
+
+-- nothing was written or sent
+pub record IsIdle (out : SinkUse) (link : LinkUse) : Type 0 where
+  pub unwritten : IsUntouched out
+  pub unsent : link.sent_after ≡ link.sent
+
+-- How a run that serves ends, status by status.
+abbrev pub EndsServing : Settings → ℕ → Peer → List Arrival → FileUse → SinkUse → LinkUse → Status → Type 0
+EndsServing settings lead manager arrivals capture out link Done = WritesServed settings lead manager arrivals capture out link
+EndsServing settings lead manager arrivals capture out link (BadCapture at) = OfFile capture.held (λ bytes. CallsFor lead (BadCapture at) bytes × IsIdle out link)
+EndsServing settings lead manager arrivals capture out link TooLong = OfFile capture.held (λ bytes. CallsFor lead TooLong bytes × IsIdle out link)
+EndsServing settings lead manager arrivals capture out link ReadFault = HasReadFault capture × (IsIdle out link ⊎ WritesServedFront settings lead manager arrivals capture out link)
+EndsServing settings lead manager arrivals capture out link WriteFault = HasPutFault out × WritesServedFront settings lead manager arrivals capture out link
+EndsServing settings lead manager arrivals capture out link LinkFault = HasLinkFault link × WritesServedFront settings lead manager arrivals capture out link
+EndsServing settings lead manager arrivals capture out link NoMemory = IsIdle out link
+EndsServing settings lead manager arrivals capture out link other = ⊥
+
+-- no port was bound, and nothing was received or sent
+pub record BindsNone (arrivals : List Arrival) (link : LinkUse) : Type 0 where
+  pub unbound : Adds link.bound link.bound_after []
+  pub unasked : arrivals ≡ []
+  pub unsent : link.sent_after ≡ link.sent
+
+-- The port alone was bound, or none where the run isn't done.
+abbrev pub BindsPort : ℕ → List Arrival → LinkUse → Status → Type 0
+BindsPort port arrivals link Done = Adds link.bound link.bound_after (port ∷ [])
+BindsPort port arrivals link status = Adds link.bound link.bound_after (port ∷ []) ⊎ BindsNone arrivals link
+
+-- How `serve` ends, and what came: at most so many datagrams, and with Done just as many.
+pub record Serves (settings : Settings) (lead : ℕ) (port count : ℕ) (manager : Peer) (capture : FileUse) (out : SinkUse) (link : LinkUse) (clock : ClockUse) (result : Status) : Type 0 where
+  pub arrivals : List Arrival
+  pub come : HaveCome link.received link.received_after clock.told clock.told_after 0 arrivals
+  pub few : length arrivals ≤ count
+  pub all : result ≡ Done → length arrivals ≡ count
+  pub bound : BindsPort port arrivals link result
+  pub ends : EndsServing settings lead manager arrivals capture out link result
+
+-- The status of a bad capture comes wherever it is one; and where the capture is good and no call failed, the run is done, or found no memory.
+pub record ServesExactly (lead : ℕ) (capture : FileUse) (out : SinkUse) (link : LinkUse) (result : Status) : Type 0 where
+  pub bad_capture : (bytes : List ℕ) (fault : PcapFault) → capture.held ≡ File bytes → IsBroken lead fault bytes → Comes (status_of fault) result
+  pub complete : (bytes : List ℕ) → capture.held ≡ File bytes → IsCaptureFile lead bytes
+      → (HasReadFault capture → ⊥) → (HasPutFault out → ⊥) → (HasLinkFault link → ⊥) → (result ≡ Done) ⊎ (result ≡ NoMemory)
