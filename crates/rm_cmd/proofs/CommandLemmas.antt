@@ -1,4 +1,4 @@
--- A fact of the command that words stand for, and of its operands.
+-- Facts of the command that words stand for, and of its operands.
 use Rattle.std.proofs.Common.{◌≡◌, ◌⊎◌, inl, inr, ℕ, ◌-◌, ◌%◌, List, [], ◌∷◌, length, Bool, true, false, Ok, Option, Some, None, refl, subst, eqb-true}
 use Rattle.std.specs.Prelude.{◌&&◌, ◌||◌, ◌==◌, nat_le, if◌then◌else◌, is_some}
 use Rattle.std.specs.List.{list_all}
@@ -6,55 +6,19 @@ use Rattle.std.specs.Char.{is_ascii_hexdigit}
 use Rattle.std.proofs.lemmas.List.Sums.{AllPass-from_list_all}
 use Rattle.hex.specs.Hex.{decode_of, is_hex_digit}
 use Rattle.hex.proofs.HexLemmas.{decode_of-digits}
-use Rattle.rm_words.specs.Grammar.{Options, Command, replay, summary, decode, StandFor, for_decode, is_hex}
+use Rattle.rm_words.specs.Grammar.{Command, decode, StandFor, for_decode, is_hex}
 use Rattle.rm_edge.specs.Outside.{Rose}
 use Rattle.rm_pcap.specs.declared.fault.PcapFault.{PcapFault}
 use Rattle.rm_pcap.specs.declared.fault.PcapFault.TheVariants.{Magic, Version, LinkType, Included, Original, Late, TooMany, Read, NoMemory as OutOfMemory}
 use Rattle.rm_probe.specs.Capture.{status_of}
 use Rattle.rm_probe.specs.declared.status.Status.{Status}
 use Rattle.rm_probe.specs.declared.status.Status.TheVariants.{Done, Usage, BadCapture, BadRequests, ReadFault, WriteFault, NoMemory, LinkFault, TooLong}
-use Rattle.rm_cmd.specs.Commands.{OfReplay, OfSummary, OfDecode, Decodes}
-
--- a fact of the operands and options of `replay`, one of those of `summary`, and one of the operand of `decode`
-abbrev pub of_command : (List ℕ → List ℕ → Options → Type 0) → (List ℕ → ℕ → Bool → Type 0) → (List ℕ → Type 0) → Command → Type 0
-of_command P S Q (replay capture requests options) = P capture requests options
-of_command P S Q (summary capture lead keep_short) = S capture lead keep_short
-of_command P S Q (decode hex) = Q hex
+use Rattle.rm_cmd.specs.Commands.{Decodes}
 
 -- what holds of one command that the words stand for holds of each
-pub carries : ((words : List (List ℕ)) (one other : Command) → StandFor words one → StandFor words other → one ≡ other)
-    → (words : List (List ℕ)) (command : Command) (P : List ℕ → List ℕ → Options → Type 0) (S : List ℕ → ℕ → Bool → Type 0) (Q : List ℕ → Type 0)
-    → StandFor words command → of_command P S Q command → (other : Command) → StandFor words other → of_command P S Q other
-carries one words command P S Q stands here other is = subst (of_command P S Q) (one words command other stands is) here
-
--- of words that stand for `replay`, for `summary`, and for `decode`
-module _ (one : (words : List (List ℕ)) (one other : Command) → StandFor words one → StandFor words other → one ≡ other) (words : List (List ℕ)) where
-  pub of_replay : (capture requests : List ℕ) (options : Options) (P : List ℕ → List ℕ → Options → Type 0)
-      → StandFor words (replay capture requests options) → P capture requests options → OfReplay words P
-  of_replay capture requests options P stands here capture' requests' options' is =
-      carries one words (replay capture requests options) P (λ c l k. Unit {0}) (λ hex. Unit {0}) stands here (replay capture' requests' options') is
-
-  pub of_summary : (capture : List ℕ) (lead : ℕ) (keep_short : Bool) (S : List ℕ → ℕ → Bool → Type 0)
-      → StandFor words (summary capture lead keep_short) → S capture lead keep_short → OfSummary words S
-  of_summary capture lead keep_short S stands here capture' lead' keep_short' is =
-      carries one words (summary capture lead keep_short) (λ c r o. Unit {0}) S (λ hex. Unit {0}) stands here (summary capture' lead' keep_short') is
-
-  pub of_decode : (hex : List ℕ) (P : List ℕ → Type 0) → StandFor words (decode hex) → (octets : List ℕ) × (decode_of hex ≡ Ok octets) × P octets → OfDecode words P
-  of_decode hex P stands here hex' is =
-      carries one words (decode hex) (λ c r o. Unit {0}) (λ c l k. Unit {0}) (λ digits. (octets : List ℕ) × (decode_of digits ≡ Ok octets) × P octets) stands here (decode hex') is
-
-  -- and of those that stand for another command
-  pub no_replay : (known : Command) (P : List ℕ → List ℕ → Options → Type 0) → StandFor words known → of_command (λ c r o. ⊥) (λ c l k. Unit {0}) (λ digits. Unit {0}) known → OfReplay words P
-  no_replay known P stands other capture requests options is =
-      absurd (carries one words known (λ c r o. ⊥) (λ c l k. Unit {0}) (λ digits. Unit {0}) stands other (replay capture requests options) is)
-
-  pub no_summary : (known : Command) (S : List ℕ → ℕ → Bool → Type 0) → StandFor words known → of_command (λ c r o. Unit {0}) (λ c l k. ⊥) (λ digits. Unit {0}) known → OfSummary words S
-  no_summary known S stands other capture lead keep_short is =
-      absurd (carries one words known (λ c r o. Unit {0}) (λ c l k. ⊥) (λ digits. Unit {0}) stands other (summary capture lead keep_short) is)
-
-  pub no_decode : (known : Command) (P : List ℕ → Type 0) → StandFor words known → of_command (λ c r o. Unit {0}) (λ c l k. Unit {0}) (λ digits. ⊥) known → OfDecode words P
-  no_decode known P stands other hex is =
-      absurd (carries one words known (λ c r o. Unit {0}) (λ c l k. Unit {0}) (λ digits. ⊥) stands other (decode hex) is)
+pub of_each : ((words : List (List ℕ)) (one other : Command) → StandFor words one → StandFor words other → one ≡ other)
+    → (words : List (List ℕ)) (known : Command) (P : Command → Type 0) → StandFor words known → P known → (command : Command) → StandFor words command → P command
+of_each one words known P stands here command is = subst P (one words known command stands is) here
 
 -- `decode` without a failed put is done, or found no memory
 pub done_or_none : (octets : List ℕ) (writes writes' : ℕ) (old new : Option (List ℕ)) (result : Status) → Decodes octets writes writes' old new result

@@ -1,23 +1,29 @@
 -- What commands ask for.
-use Rattle.std.specs.Prelude.{◌≡◌, ◌⊎◌, ℕ, Bool, List, Option, Result, Ok, Err, false}
+use Rattle.std.specs.Prelude.{◌≡◌, ◌⊎◌, ℕ, Bool, List, Option, Result, Ok, Err, false, ⊤}
 use Rattle.hex.specs.Hex.{decode_of}
 use Rattle.rm_edge.specs.Outside.{Adds, AddsFront, Rose}
 use Rattle.rm_pdu.specs.Parse.{Parse, IsParse}
 use Rattle.rm_decode.specs.Text.{text_of}
 use Rattle.rm_agent.specs.declared.settings.Settings.{Settings}
 use Rattle.rm_probe.specs.Capture.{status_of}
-use Rattle.rm_probe.specs.Ends.{Ends}
-use Rattle.rm_edge.specs.Uses.{FileUse, SinkUse}
+use Rattle.rm_probe.specs.Ends.{Ends, IsComplete, IsExact}
+use Rattle.rm_probe.specs.Serving.{Serves, ServesExactly, local_port}
+use Rattle.rm_edge.specs.Uses.{FileUse, SinkUse, LinkUse, ClockUse}
 use Rattle.rm_probe.specs.declared.status.Status.{Status}
 use Rattle.rm_probe.specs.declared.status.Status.TheVariants.{Done, WriteFault, NoMemory}
 use Rattle.rm_summary.specs.Ends.{Ends as Sums, IsExact as SumsExactly}
 use Rattle.rm_summary.specs.declared.entry.SummaryFault.{SummaryFault}
 use Rattle.rm_summary.specs.declared.entry.SummaryFault.TheVariants.{Capture, Put}
-use Rattle.rm_words.specs.Grammar.{Options, Command, replay, summary, decode, StandFor}
+use Rattle.rm_words.specs.Grammar.{Options, Command, replay, serve, summary, decode, StandFor}
 
 -- the words stand for `replay`, and this is a fact of its operands and options
 abbrev pub OfReplay : List (List ℕ) → (List ℕ → List ℕ → Options → Type 0) → Type 0
 OfReplay words P = (capture requests : List ℕ) (options : Options) → StandFor words (replay capture requests options) → P capture requests options
+
+-- the words stand for `serve`, and this is a fact of its operands and options
+abbrev pub OfServe : List (List ℕ) → (List ℕ → ℕ → ℕ → ℕ → Options → Type 0) → Type 0
+OfServe words P = (capture : List ℕ) (port count trap_port : ℕ) (options : Options) → StandFor words (serve capture port count trap_port options)
+    → P capture port count trap_port options
 
 -- the words stand for `summary`, and this is a fact of its operand, and of the moment of the first frame and whether short frames are kept
 abbrev pub OfSummary : List (List ℕ) → (List ℕ → ℕ → Bool → Type 0) → Type 0
@@ -30,12 +36,30 @@ OfDecode words P = (hex : List ℕ) → StandFor words (decode hex) → (octets 
 -- the command reads the file of that name
 abbrev pub Reads : Command → List ℕ → Type 0
 Reads (replay capture requests options) name = (name ≡ capture) ⊎ (name ≡ requests)
+Reads (serve capture port count trap_port options) name = name ≡ capture
 Reads (summary capture lead keep_short) name = name ≡ capture
 Reads (decode hex) name = ⊥
 
 -- the words stand for a command that reads it
 abbrev pub IsFileOf : List (List ℕ) → List ℕ → Type 0
 IsFileOf words name = (command : Command) × StandFor words command × Reads command name
+
+-- the command binds a port
+abbrev pub HasPort : Command → Type 0
+HasPort (serve capture port count trap_port options) = ⊤
+HasPort command = ⊥
+
+-- the words stand for a command that binds one
+abbrev pub HavePort : List (List ℕ) → Type 0
+HavePort words = (command : Command) × StandFor words command × HasPort command
+
+-- the link and the clock tell what they told before, and no call on the link failed
+pub record AreUnused (link : LinkUse) (clock : ClockUse) : Type 0 where
+  pub bound : link.bound_after ≡ link.bound
+  pub received : link.received_after ≡ link.received
+  pub sent : link.sent_after ≡ link.sent
+  pub faults : link.faults_after ≡ link.faults
+  pub told : clock.told_after ≡ clock.told
 
 -- the probe is set to what the options say
 pub record AreSet (settings : Settings) (options : Options) : Type 0 where
@@ -51,6 +75,12 @@ pub record EndsWith (options : Options) (capture requests : FileUse) (out : Sink
   pub settings : Settings
   pub set : AreSet settings options
   pub ends : Ends settings options.lead capture requests out result
+
+-- how `serve` ends with these options: as a run of a probe that is set to them, whose notifications go to the trap port of this machine
+pub record ServesWith (options : Options) (port count trap_port : ℕ) (capture : FileUse) (out : SinkUse) (link : LinkUse) (clock : ClockUse) (result : Status) : Type 0 where
+  pub settings : Settings
+  pub set : AreSet settings options
+  pub serves : Serves settings options.lead port count (local_port trap_port) capture out link clock result
 
 -- how a run ends by the answer of a summary
 abbrev pub status_by : {T : Type 0} → Result T SummaryFault → Status
@@ -72,3 +102,13 @@ Decodes octets writes writes' old new Done = (v : Parse) × IsParse false octets
 Decodes octets writes writes' old new WriteFault = Rose writes writes' × ((v : Parse) × IsParse false octets v × AddsFront old new (text_of v))
 Decodes octets writes writes' old new NoMemory = new ≡ old
 Decodes octets writes writes' old new other = ⊥
+
+-- What a command does, by what is found and left of each file, of the output, of a link and of a clock.
+abbrev pub Does : (List ℕ → FileUse) → SinkUse → LinkUse → ClockUse → Status → Command → Type 0
+Does file out link clock result (replay capture requests options) = EndsWith options (file capture) (file requests) out result
+    × IsExact options.lead (file capture).held (file requests).held result × IsComplete options.lead (file capture) (file requests) out result
+Does file out link clock result (serve capture port count trap_port options) = ServesWith options port count trap_port (file capture) out link clock result
+    × ServesExactly options.lead (file capture) out link result
+Does file out link clock result (summary capture lead keep_short) = Summarizes lead keep_short (file capture) out result
+Does file out link clock result (decode hex) = (octets : List ℕ) × (decode_of hex ≡ Ok octets)
+    × Decodes octets out.faults out.faults_after out.content out.content_after result

@@ -3,12 +3,13 @@ ghost use Rattle.std.specs.Prelude.{◌≡◌, ◌≢◌, ◌↔◌, ◌⊎◌, 
 ghost use Rattle.hex.specs.Hex.{decode_of};
 ghost use Rattle.rm_edge.specs.Outside.{Rose};
 ghost use Rattle.rm_edge.specs.Shelves.{KeepsShelf};
+ghost use Rattle.rm_edge.specs.Uses.{clock_use, file_use, link_use, sink_use};
 ghost use Rattle.rm_words.specs.Grammar.{Command as Meant, StandFor, is_hex};
-ghost use Rattle.rm_words.specs.Told.{options_of};
-ghost use Rattle.rm_edge.specs.Uses.{file_use, sink_use};
-ghost use Rattle.rm_probe.specs.Ends.{IsComplete, IsExact, IsSilent};
-ghost use Rattle.rm_probe.specs.declared.status.Status.TheVariants.{Done, NoMemory, ReadFault, Usage};
-ghost use Rattle.rm_cmd.specs.Commands.{AreSet, Decodes, EndsWith, IsFileOf, OfDecode, OfReplay, OfSummary, Summarizes};
+ghost use Rattle.rm_words.specs.Told.{command_of, options_of};
+ghost use Rattle.rm_probe.specs.Ends.{IsComplete, IsExact};
+ghost use Rattle.rm_probe.specs.Serving.{IsIdle, ServesExactly};
+ghost use Rattle.rm_probe.specs.declared.status.Status.TheVariants.{Done, LinkFault, NoMemory, ReadFault, Usage};
+ghost use Rattle.rm_cmd.specs.Commands.{AreSet, AreUnused, Decodes, Does, EndsWith, HasPort, HavePort, IsFileOf, OfDecode, OfReplay, OfServe, OfSummary, Reads, ServesWith, Summarizes};
 
 use rm_agent::Settings;
 use rm_decode::Unwritten;
@@ -21,14 +22,20 @@ use std::alloc::Global;
 /// Runs the words of a command line.
 ///
 /// `replay CAPTURE REQUESTS` with its options writes one line for each datagram of the request file and one for each notification,
-/// and a last line. `summary CAPTURE` with its options writes how many frames of each kind a capture has. `decode HEX` writes what the
-/// octets are that the digits stand for, read as a message. Words that stand for no command are `Usage`.
+/// and a last line. `serve CAPTURE PORT COUNT` with its options writes such lines for so many datagrams that come to a port, replies to
+/// each, and sends the notifications to a port of this machine. `summary CAPTURE` with its options writes how many frames of each kind a
+/// capture has. `decode HEX` writes what the octets are that the digits stand for, read as a message. Words that stand for no command are
+/// `Usage`.
 ///
 /// `replay` judges the capture first, a record at a time, and then the request file, a line at a time. Only then is anything
 /// written, and both are read again meanwhile. After its `WriteFault` and `ReadFault` a front of the text may have been
 /// written. Over a shelf that tells what it holds, nothing was written after the others but `Done`. Over one that
 /// doesn't, the files may be other ones when they are read again, and `BadCapture`, `BadRequests` and `TooLong` may come
 /// after lines were written.
+///
+/// `serve` judges the capture so too, and only then is the port bound. After its `WriteFault`, `ReadFault` and `LinkFault` a front of the
+/// text may have been written, and of the messages of its whole lines the first ones sent. Nothing was written or sent after the others
+/// but `Done`, with the same exception. No other command calls the link, and only with `serve` comes `LinkFault`.
 ///
 /// `summary` and `decode` write only once all is known. After their `WriteFault` a front of the text may have been written, and
 /// nothing after the others but `Done`.
@@ -51,6 +58,15 @@ pub fn run<F: Shelf, K: Sink, L: Link, T: Clock>(
         IsComplete options.lead (file_use F.held F.faults shelf.old shelf.new capture) (file_use F.held F.faults shelf.old shelf.new requests)
         (sink_use K.content K.faults out.old out.new) result) }
 
+    // `serve` too: with `Done` so many datagrams were received, the octets added are exactly the text of the capture and of them, and
+    // the datagrams sent are exactly its messages.
+    ensures serves { OfServe words.now (λ capture port count trap_port options.
+        ServesWith options port count trap_port (file_use F.held F.faults shelf.old shelf.new capture) (sink_use K.content K.faults out.old out.new)
+        (link_use L.bound L.received L.sent L.faults link.old link.new) (clock_use T.told clock.old clock.new) result) }
+    ensures serves_exactly { OfServe words.now (λ capture port count trap_port options.
+        ServesExactly options.lead (file_use F.held F.faults shelf.old shelf.new capture) (sink_use K.content K.faults out.old out.new)
+        (link_use L.bound L.received L.sent L.faults link.old link.new) result) }
+
     // `summary` too: those added are exactly the summary of the capture.
     ensures sums_up { OfSummary words.now (λ capture lead keep_short.
         Summarizes lead keep_short (file_use F.held F.faults shelf.old shelf.new capture) (sink_use K.content K.faults out.old out.new) result) }
@@ -59,36 +75,68 @@ pub fn run<F: Shelf, K: Sink, L: Link, T: Clock>(
     ensures decodes { OfDecode words.now (λ octets. Decodes octets (K.faults out.old) (K.faults out.new) (K.content out.old) (K.content out.new) result) }
     ensures decodes_whole { OfDecode words.now (λ octets. (Rose (K.faults out.old) (K.faults out.new) → ⊥) → (result ≡ Done) ⊎ (result ≡ NoMemory)) }
 
-    ensures silent { IsSilent result → K.content out.new ≡ K.content out.old }
+    // Without a command or without memory nothing is written or sent.
+    ensures silent { (result ≡ Usage) ⊎ (result ≡ NoMemory)
+        → IsIdle (sink_use K.content K.faults out.old out.new) (link_use L.bound L.received L.sent L.faults link.old link.new) }
 
-    // The shelf keeps what it holds, and where a file is told, its counts but for failed reads of the command's files.
+    // The shelf keeps what it holds, and where a file is told, its counts but for failed reads of the command's files. No count falls.
     ensures shelf { KeepsShelf F.held F.faults shelf.old shelf.new (IsFileOf words.now) (result ≡ ReadFault) }
-    ensures later { K.faults out.old ≤ K.faults out.new }
+    ensures later { (K.faults out.old ≤ K.faults out.new) × (L.faults link.old ≤ L.faults link.new) }
 
-    // The link and the clock keep what they hold.
-    ensures bound { L.bound link.new ≡ L.bound link.old }
-    ensures received { L.received link.new ≡ L.received link.old }
-    ensures sent { L.sent link.new ≡ L.sent link.old }
-    ensures told { T.told clock.new ≡ T.told clock.old }
+    // A command without a port leaves the link and the clock as they were, and only a failed call on the link is a `LinkFault`.
+    ensures without_port { (HavePort words.now → ⊥)
+        → AreUnused (link_use L.bound L.received L.sent L.faults link.old link.new) (clock_use T.told clock.old clock.new) }
+    ensures link_fault { result ≡ LinkFault → HavePort words.now × Rose (L.faults link.old) (L.faults link.new) }
 {
     one_command();
     match read_command(words) {
         None => Status::Usage,
-        Some(
-            Command::Replay {
-                capture,
-                requests,
-                options,
-            },
-        ) => run_replay(alloc, capture, requests, options, shelf, out),
-        Some(
-            Command::Summary {
-                capture,
-                lead,
-                keep_short,
-            },
-        ) => run_summary(alloc, lead, keep_short, capture, shelf, out),
-        Some(Command::Decode { hex: digits }) => run_decode(alloc, digits, out),
+        Some(command) => run_command(alloc, command, shelf, out, link, clock),
+    }
+}
+
+// Runs a command with its operands and options.
+fn run_command<F: Shelf, K: Sink, L: Link, T: Clock>(
+    alloc: Global,
+    command: Command<'_>,
+    shelf: &mut F,
+    out: &mut K,
+    link: &mut L,
+    clock: &mut T,
+) -> Status
+    requires stands { (words : List (List ℕ)) × StandFor words (command_of command) }
+    ensures does { Does (file_use F.held F.faults shelf.old shelf.new) (sink_use K.content K.faults out.old out.new)
+        (link_use L.bound L.received L.sent L.faults link.old link.new) (clock_use T.told clock.old clock.new) result (command_of command.entry) }
+    ensures silent { (result ≡ Usage) ⊎ (result ≡ NoMemory)
+        → IsIdle (sink_use K.content K.faults out.old out.new) (link_use L.bound L.received L.sent L.faults link.old link.new) }
+    ensures shelf { KeepsShelf F.held F.faults shelf.old shelf.new (Reads (command_of command.entry)) (result ≡ ReadFault) }
+    ensures later { (K.faults out.old ≤ K.faults out.new) × (L.faults link.old ≤ L.faults link.new) }
+    ensures without_port { (HasPort (command_of command.entry) → ⊥)
+        → AreUnused (link_use L.bound L.received L.sent L.faults link.old link.new) (clock_use T.told clock.old clock.new) }
+    ensures link_fault { result ≡ LinkFault → HasPort (command_of command.entry) × Rose (L.faults link.old) (L.faults link.new) }
+    ensures command { result ≢ Usage }
+{
+    match command {
+        Command::Replay {
+            capture,
+            requests,
+            options,
+        } => run_replay(alloc, capture, requests, options, shelf, out),
+        Command::Serve {
+            capture,
+            port,
+            count,
+            trap_port,
+            options,
+        } => run_serve(
+            alloc, capture, port, count, trap_port, options, shelf, out, link, clock,
+        ),
+        Command::Summary {
+            capture,
+            lead,
+            keep_short,
+        } => run_summary(alloc, lead, keep_short, capture, shelf, out),
+        Command::Decode { hex: digits } => run_decode(alloc, digits, out),
     }
 }
 
@@ -106,14 +154,45 @@ fn run_replay<F: Shelf, K: Sink>(
     ensures exact { IsExact options.lead (F.held shelf.old capture.now) (F.held shelf.old requests.now) result }
     ensures complete { IsComplete options.lead (file_use F.held F.faults shelf.old shelf.new capture.now)
         (file_use F.held F.faults shelf.old shelf.new requests.now) (sink_use K.content K.faults out.old out.new) result }
-    ensures silent { IsSilent result → K.content out.new ≡ K.content out.old }
+    ensures silent { (result ≡ Usage) ⊎ (result ≡ NoMemory) → K.content out.new ≡ K.content out.old }
     ensures shelf { KeepsShelf F.held F.faults shelf.old shelf.new (λ each. (each ≡ capture.now) ⊎ (each ≡ requests.now)) (result ≡ ReadFault) }
     ensures later { K.faults out.old ≤ K.faults out.new }
-    ensures command { result ≢ Usage }
+    ensures command { (result ≢ Usage) × (result ≢ LinkFault) }
 {
     let lead = options.lead;
     let settings = settings_of(options);
     rm_probe::replay(alloc, settings, lead, capture, requests, shelf, out)
+}
+
+// Runs `serve` with its operands and options.
+fn run_serve<F: Shelf, K: Sink, L: Link, T: Clock>(
+    alloc: Global,
+    capture: &str,
+    port: u16,
+    count: u32,
+    trap_port: u16,
+    options: RunOptions,
+    shelf: &mut F,
+    out: &mut K,
+    link: &mut L,
+    clock: &mut T,
+) -> Status
+    ensures serves { ServesWith (options_of options) port count trap_port (file_use F.held F.faults shelf.old shelf.new capture.now)
+        (sink_use K.content K.faults out.old out.new) (link_use L.bound L.received L.sent L.faults link.old link.new) (clock_use T.told clock.old clock.new) result }
+    ensures exact { ServesExactly options.lead (file_use F.held F.faults shelf.old shelf.new capture.now) (sink_use K.content K.faults out.old out.new)
+        (link_use L.bound L.received L.sent L.faults link.old link.new) result }
+    ensures silent { (result ≡ Usage) ⊎ (result ≡ NoMemory)
+        → IsIdle (sink_use K.content K.faults out.old out.new) (link_use L.bound L.received L.sent L.faults link.old link.new) }
+    ensures shelf { KeepsShelf F.held F.faults shelf.old shelf.new (λ each. each ≡ capture.now) (result ≡ ReadFault) }
+    ensures later { (K.faults out.old ≤ K.faults out.new) × (L.faults link.old ≤ L.faults link.new) }
+    ensures link_fault { result ≡ LinkFault → Rose (L.faults link.old) (L.faults link.new) }
+    ensures command { result ≢ Usage }
+{
+    let lead = options.lead;
+    let settings = settings_of(options);
+    rm_probe::serve(
+        alloc, settings, lead, capture, port, count, trap_port, shelf, out, link, clock,
+    )
 }
 
 // Runs `summary` with its operand and options.
@@ -126,10 +205,10 @@ fn run_summary<F: Shelf, K: Sink>(
     out: &mut K,
 ) -> Status
     ensures sums_up { Summarizes lead keep_short (file_use F.held F.faults shelf.old shelf.new capture.now) (sink_use K.content K.faults out.old out.new) result }
-    ensures silent { IsSilent result → K.content out.new ≡ K.content out.old }
+    ensures silent { (result ≡ Usage) ⊎ (result ≡ NoMemory) → K.content out.new ≡ K.content out.old }
     ensures shelf { KeepsShelf F.held F.faults shelf.old shelf.new (λ each. each ≡ capture.now) (result ≡ ReadFault) }
     ensures later { K.faults out.old ≤ K.faults out.new }
-    ensures command { result ≢ Usage }
+    ensures command { (result ≢ Usage) × (result ≢ LinkFault) }
 {
     match rm_summary::summary(alloc, lead, keep_short, capture, shelf, out) {
         Ok(()) => Status::Done,
@@ -144,8 +223,8 @@ fn run_decode<K: Sink>(alloc: Global, digits: &str, out: &mut K) -> Status
     ensures decodes { (octets : List ℕ) × (decode_of digits.now ≡ Ok octets)
         × Decodes octets (K.faults out.old) (K.faults out.new) (K.content out.old) (K.content out.new) result }
     ensures later { K.faults out.old ≤ K.faults out.new }
-    ensures silent { IsSilent result → K.content out.new ≡ K.content out.old }
-    ensures command { result ≢ Usage }
+    ensures silent { (result ≡ Usage) ⊎ (result ≡ NoMemory) → K.content out.new ≡ K.content out.old }
+    ensures command { (result ≢ Usage) × (result ≢ LinkFault) }
 {
     let Ok(octets) = hex::decode(alloc, digits) else {
         return Status::NoMemory;

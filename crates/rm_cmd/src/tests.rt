@@ -1,6 +1,6 @@
 // The top call. The crate `cases` tries it over many words and files.
 use crate::{Status, run};
-use rm_edge::{ListClock, MemLink, MemShelf, MemSink, Words};
+use rm_edge::{ListClock, MemLink, MemShelf, MemSink, Peer, Words};
 use std::test::Fail;
 
 // The header of a capture of Ethernet frames, the lowest octet of a number first.
@@ -14,6 +14,10 @@ fn words_are_run(rt: HostRuntime) -> Result<(), Fail> {
     let mut shelf = MemShelf::new(alloc);
     shelf.add("c", &HEADER)?;
     shelf.add("r", b"500 \n")?;
+    let peer = Peer {
+        ip: [127, 0, 0, 1],
+        port: 5000,
+    };
     for (text, status, written) in [
         (
             "replay --lead=5 c r",
@@ -21,6 +25,16 @@ fn words_are_run(rt: HostRuntime) -> Result<(), Fail> {
             "500 1 drop malformed 0\nend 0 1\n",
         ),
         ("replay c", Status::Usage, ""),
+        (
+            "serve c 1161 1 --lead=5",
+            Status::Done,
+            "700 1 drop malformed 0\nend 0 1\n",
+        ),
+        (
+            "serve c 1161 2",
+            Status::LinkFault,
+            "700 1 drop malformed 0\n",
+        ),
         (
             "summary c",
             Status::Done,
@@ -35,7 +49,9 @@ fn words_are_run(rt: HostRuntime) -> Result<(), Fail> {
         let mut out = MemSink::new(alloc);
         out.reserve(200)?;
         let mut link = MemLink::new(alloc);
+        link.add(peer, b"")?;
         let mut clock = ListClock::new(alloc);
+        clock.add(700)?;
         let ended = run(alloc, &words, &mut shelf, &mut out, &mut link, &mut clock);
         assert_eq!(rt; ended, status);
         assert_eq!(rt; str::from_utf8(out.bytes())?, written);

@@ -1,8 +1,8 @@
-//! The probe: replays a capture and answers the datagrams of a request file.
+//! The probe: replays a capture, and answers the datagrams of a request file or those that come to a port.
 #![tactic(auto)]
 
 use rm_cmd::{Status, run};
-use rm_edge::{FileShelf, ListClock, MemLink, StdSink, Words};
+use rm_edge::{FileShelf, HostClock, StdSink, UdpLink, Words};
 use std::env;
 use std::io::ErrorKind;
 use std::process::ExitCode;
@@ -38,8 +38,8 @@ fn status(rt: HostRuntime) -> Status {
     let alloc = rt.alloc();
     let mut shelf = FileShelf::new(rt);
     let mut out = StdSink::new(rt);
-    let mut link = MemLink::new(alloc);
-    let mut clock = ListClock::new(alloc);
+    let mut link = UdpLink::new(rt);
+    let mut clock = HostClock::new(rt);
     run(alloc, &words, &mut shelf, &mut out, &mut link, &mut clock)
 }
 
