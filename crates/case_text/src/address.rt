@@ -33,11 +33,25 @@ pub fn ip_pair(alloc: Global, text: &str) -> Result<Vec<u8>, Trouble> {
 pub fn ports(alloc: Global, text: &str) -> Result<Vec<u8>, Trouble> {
     let (source, destination) = sides(text)?;
     let mut all = Vec::new(alloc);
-    for port in [source, destination] {
-        let port = port.parse::<u16>().map_err(|_| Trouble::Form("no port"))?;
-        all.extend_from_slice(&port.to_be_bytes())?;
+    for number in [source, destination] {
+        all.extend_from_slice(&port(number)?.to_be_bytes())?;
     }
     Ok(all)
+}
+
+/// The address and the port of `ADDRESS:PORT`.
+pub fn peer(alloc: Global, text: &str) -> Result<([u8; 4], u16), Trouble> {
+    let (address, number) = text
+        .split_once(':')
+        .ok_or(Trouble::Form("no address and port with : between them"))?;
+    match ip(alloc, address)?.as_slice() {
+        [first, second, third, fourth] => Ok(([*first, *second, *third, *fourth], port(number)?)),
+        _ => Err(Trouble::Form("an address of IP that hasn't four numbers")),
+    }
+}
+
+fn port(text: &str) -> Result<u16, Trouble> {
+    text.parse::<u16>().map_err(|_| Trouble::Form("no port"))
 }
 
 /// The octets of an address of IP, four numbers with dots between them.

@@ -13,10 +13,11 @@ mod request;
 mod text;
 mod trouble;
 
+pub use address::peer;
 pub use capture::Capture;
 pub use frame::{Frame, read_frame};
 pub use names::{Names, Syntax};
-pub use pieces::{octets, word_octets};
+pub use pieces::{octets, with_digits, word_octets};
 pub use request::Datagram;
 pub use text::{Statement, first_number, first_word, number, statements};
 pub use trouble::Trouble;

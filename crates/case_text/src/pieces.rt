@@ -28,6 +28,15 @@ pub fn word_octets(alloc: Global, word: &str) -> Result<Vec<u8>, Trouble> {
     }
 }
 
+/// A text. Where a word `digits` stands before octets at its end, it ends with a word of the hexadecimal digits of these instead.
+pub fn with_digits(alloc: Global, text: &str) -> Result<String, Trouble> {
+    let Some((front, pieces)) = text.split_once(" digits ") else {
+        return Ok(String::from_str(alloc, text)?);
+    };
+    let digits = hex::encode(alloc, &octets(alloc, pieces)?)?;
+    Ok(format!(in alloc; "{front} {digits}")?)
+}
+
 // The count before the first piece, and the pieces from that one on.
 fn counted(text: &str) -> (usize, &str) {
     if let Some((count, body)) = text.split_once('*')

@@ -1,11 +1,13 @@
 // A case, as the statements of a file tell it.
 use crate::given::Given;
 use crate::status::status;
+use crate::traffic::Traffic;
 use case_text::{
     Capture, Datagram, Frame, Names, Statement, Trouble, first_number, first_word, number, octets,
-    read_frame,
+    peer, read_frame, with_digits,
 };
 use rm_cmd::Status;
+use rm_edge::Peer;
 use std::alloc::Global;
 use std::fmt::Write;
 
@@ -26,6 +28,10 @@ pub struct Case {
     pub requests: Vec<u8>,
     /// Those of a file of the name `other`.
     pub other: Option<Vec<u8>>,
+    /// What comes and goes over the link.
+    pub traffic: Traffic,
+    /// The numbers of the puts of the output that fail.
+    pub failing_puts: Vec<u64>,
     /// How the run ends.
     pub status: Status,
     /// The lines that it writes.
@@ -52,6 +58,8 @@ impl Case {
             fronts: None,
             requests: Vec::new(alloc),
             other: None,
+            traffic: Traffic::new(alloc),
+            failing_puts: Vec::new(alloc),
             status: Status::Done,
             expected: Vec::new(alloc),
             asked: 0,
@@ -65,11 +73,17 @@ impl Case {
         let (word, rest) = first_word(text);
         match word {
             "->" => return self.take_answer(names, statement.line, rest),
-            "line" => return self.expect(statement.line, rest),
+            "line" => {
+                let line = with_digits(self.alloc, rest)?;
+                return self.expect(statement.line, line.as_str());
+            }
             "end" | "cut" => return self.expect(statement.line, text),
+            "sent" => self.take_sent(statement.line, rest),
+            "link" => self.traffic.fail(failing_call(rest)?),
+            "output" => Ok(self.failing_puts.push(failing_call(rest)?)?),
             "setting" => self.given.take(self.alloc, rest),
             "words" => {
-                self.words = Some(String::from_str(self.alloc, rest)?);
+                self.words = Some(with_digits(self.alloc, rest)?);
                 Ok(())
             }
             "capture" => self.capture.push_octets(&octets(self.alloc, rest)?),
@@ -130,6 +144,25 @@ impl Case {
         Ok(())
     }
 
+    // `to ADDRESS:PORT`: where the message of the line before is sent.
+    fn take_sent(&mut self, line: usize, text: &str) -> Result<(), Trouble> {
+        self.end()?;
+        let (word, rest) = first_word(text);
+        if word != "to" {
+            return Err(Trouble::Form("no to behind sent"));
+        }
+        let to = self.peer(rest)?;
+        match self.expected.last() {
+            Some(last) => self.traffic.leave(line, to, last.text.as_str()),
+            None => Err(Trouble::Form("no line before what is sent")),
+        }
+    }
+
+    fn peer(&self, text: &str) -> Result<Peer, Trouble> {
+        let (ip, port) = peer(self.alloc, text)?;
+        Ok(Peer { ip, port })
+    }
+
     // What happens at a moment: frames, a datagram or a notification.
     fn take_at(
         &mut self,
@@ -156,8 +189,15 @@ impl Case {
                 let text = format!(in self.alloc; "{moment} trap {digits}")?;
                 self.expect(line, text.as_str())
             }
-            "octets" => self.ask(moment, Datagram::of_octets(self.alloc, rest)?),
-            _ => self.ask(moment, Datagram::read(self.alloc, names, kind, rest)?),
+            "from" => self.take_arriving(names, moment, rest),
+            _ => self.ask(moment, self.datagram(names, kind, rest)?),
+        }
+    }
+
+    fn datagram(&self, names: &Names, kind: &str, text: &str) -> Result<Datagram, Trouble> {
+        match kind {
+            "octets" => Datagram::of_octets(self.alloc, text),
+            _ => Datagram::read(self.alloc, names, kind, text),
         }
     }
 
@@ -179,14 +219,40 @@ impl Case {
         let digits = hex::encode(self.alloc, &datagram.octets)?;
         let text = format!(in self.alloc; "{moment} {digits}\n")?;
         self.requests.extend_from_slice(text.as_bytes())?;
-        self.asked = self.asked.saturating_add(1);
-        self.waiting = Some((moment, datagram));
+        self.await_answer(moment, datagram);
         Ok(())
     }
 
+    // `ADDRESS:PORT` and a datagram, which comes from there over the link. Its answer comes next.
+    fn take_arriving(&mut self, names: &Names, moment: u32, text: &str) -> Result<(), Trouble> {
+        self.end()?;
+        let (from, rest) = first_word(text);
+        let from = self.peer(from)?;
+        let (kind, rest) = first_word(rest);
+        let datagram = self.datagram(names, kind, rest)?;
+        self.traffic.arrive(moment, from, &datagram.octets)?;
+        self.await_answer(moment, datagram);
+        Ok(())
+    }
+
+    fn await_answer(&mut self, moment: u32, datagram: Datagram) {
+        self.asked = self.asked.saturating_add(1);
+        self.waiting = Some((moment, datagram));
+    }
+
+    // The answer to the datagram before. `at MOMENT` before it is the moment of its line where that isn't the datagram's own.
     fn take_answer(&mut self, names: &Names, line: usize, text: &str) -> Result<(), Trouble> {
-        let Some((moment, datagram)) = self.waiting.take() else {
+        let Some((own, datagram)) = self.waiting.take() else {
             return Err(Trouble::Form("an answer without a datagram"));
+        };
+        if text == "nothing" {
+            return Ok(());
+        }
+        let (word, rest) = first_word(text);
+        let (moment, text) = if word == "at" {
+            first_number(rest)?
+        } else {
+            (own, text)
         };
         let answer = datagram.answer(self.alloc, names, text)?;
         let number = self.asked;
@@ -202,4 +268,13 @@ impl Case {
         }
         Ok(text)
     }
+}
+
+// `fails N`: the number of a call that fails.
+fn failing_call(text: &str) -> Result<u64, Trouble> {
+    let (word, rest) = first_word(text);
+    if word != "fails" {
+        return Err(Trouble::Form("no fails before the number of a call"));
+    }
+    Ok(u64::from(number(rest)?))
 }

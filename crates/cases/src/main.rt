@@ -4,9 +4,11 @@
 #![tactic(auto)]
 
 mod case;
+mod difference;
 mod given;
 mod outcome;
 mod status;
+mod traffic;
 mod trial;
 
 use crate::outcome::{Outcome, judge};

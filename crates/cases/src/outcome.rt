@@ -1,6 +1,7 @@
 // The outcome of a file of cases.
 use crate::case::Case;
-use crate::trial::{Difference, try_case};
+use crate::difference::Difference;
+use crate::trial::try_case;
 use case_text::{Names, Statement, Trouble, first_word, statements};
 use std::alloc::{AllocError, Global};
 

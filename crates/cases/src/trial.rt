@@ -1,28 +1,21 @@
 // What a run does with a case.
 use crate::case::Case;
+use crate::difference::Difference;
 use case_text::Trouble;
 use rm_cmd::{Status, run};
-use rm_edge::{ListClock, MemLink, MemShelf, MemSink, Words};
+use rm_edge::{MemLink, MemShelf, MemSink, Words};
 use rm_probe::replay;
-use std::alloc::Global;
+use std::alloc::{AllocError, Global};
 
 /// The octets of room in the output beyond those that are expected.
 const SPARE_ROOM: usize = 4096;
 
-/// Where a run did otherwise than its case says.
-#[derive(Drop)]
-pub struct Difference {
-    /// The line of the file that says it.
-    pub line: usize,
-    pub expected: String,
-    pub written: String,
-}
-
-// How a run ended, and what it wrote.
+// How a run ended, what it wrote, and the link that it leaves.
 #[derive(Drop)]
 struct Ended {
     status: Status,
     text: String,
+    link: MemLink,
 }
 
 /// The first difference between a case and its runs, if there is one.
@@ -48,43 +41,41 @@ fn difference_over(
 ) -> Result<Option<Difference>, Trouble> {
     let text = case.text()?;
     let ended = run_case(alloc, case, capture, text.len())?;
-    if ended.status == case.status && ended.text.as_str() == text.as_str() {
+    if ended.text.as_str() != text.as_str() {
+        return Ok(Some(text_difference(alloc, case, ended.text.as_str())?));
+    }
+    if let Some(difference) = case.traffic.difference(case.line, &ended.link)? {
+        return Ok(Some(difference));
+    }
+    if ended.status == case.status {
         return Ok(None);
     }
-    Ok(Some(first_difference(alloc, case, &ended)?))
+    Ok(Some(Difference {
+        line: case.line,
+        expected: case.status.to_string(alloc)?,
+        written: ended.status.to_string(alloc)?,
+    }))
 }
 
-// The first line that differs, or else the status.
-fn first_difference(alloc: Global, case: &Case, ended: &Ended) -> Result<Difference, Trouble> {
-    let mut written = ended.text.as_str().lines();
+// The first line that differs, or else the end of the last one.
+fn text_difference(alloc: Global, case: &Case, text: &str) -> Result<Difference, AllocError> {
+    let mut written = text.lines();
     for line in &case.expected {
         let expected = line.text.as_str();
         let found = written.next().unwrap_or("no line");
         if found != expected {
-            return difference_of(alloc, line.line, expected, found);
+            return Difference::new(alloc, line.line, expected, found);
         }
     }
-    if let Some(found) = written.next() {
-        return difference_of(alloc, case.line, "no further line", found);
+    match written.next() {
+        Some(found) => Difference::new(alloc, case.line, "no further line", found),
+        None => Difference::new(
+            alloc,
+            case.line,
+            "LF after each line",
+            "another end of a line",
+        ),
     }
-    Ok(Difference {
-        line: case.line,
-        expected: case.status.to_string(alloc)?,
-        written: ended.status.to_string(alloc)?,
-    })
-}
-
-fn difference_of(
-    alloc: Global,
-    line: usize,
-    expected: &str,
-    written: &str,
-) -> Result<Difference, Trouble> {
-    Ok(Difference {
-        line,
-        expected: String::from_str(alloc, expected)?,
-        written: String::from_str(alloc, written)?,
-    })
 }
 
 // Runs a case over files in memory, by `replay` where it gives settings, and else by `run`.
@@ -97,6 +88,10 @@ fn run_case(alloc: Global, case: &Case, capture: &[u8], expected: usize) -> Resu
     }
     let mut out = MemSink::new(alloc);
     out.reserve(expected.saturating_add(SPARE_ROOM))?;
+    for put in &case.failing_puts {
+        out.fail(*put, 0)?;
+    }
+    let mut link = case.traffic.link()?;
     let status = if case.given.is_any {
         if case.words.is_some() {
             return Err(Trouble::Form("words beside settings before this line"));
@@ -108,15 +103,14 @@ fn run_case(alloc: Global, case: &Case, capture: &[u8], expected: usize) -> Resu
         )
     } else {
         let words = words_of(alloc, case)?;
-        let mut link = MemLink::new(alloc);
-        let mut clock = ListClock::new(alloc);
+        let mut clock = case.traffic.clock()?;
         run(alloc, &words, &mut shelf, &mut out, &mut link, &mut clock)
     };
     let text = match str::from_utf8(out.bytes()) {
         Ok(text) => String::from_str(alloc, text)?,
         Err(_) => return Err(Trouble::Form("the output isn't text")),
     };
-    Ok(Ended { status, text })
+    Ok(Ended { status, text, link })
 }
 
 // The words of the command. "" stands for an empty one.

@@ -1,0 +1,26 @@
+// Where a run does otherwise than its case says.
+use std::alloc::{AllocError, Global};
+
+/// Where a run did otherwise than its case says.
+#[derive(Drop)]
+pub struct Difference {
+    /// The line of the file that says it.
+    pub line: usize,
+    pub expected: String,
+    pub written: String,
+}
+
+impl Difference {
+    pub fn new(
+        alloc: Global,
+        line: usize,
+        expected: &str,
+        written: &str,
+    ) -> Result<Difference, AllocError> {
+        Ok(Difference {
+            line,
+            expected: String::from_str(alloc, expected)?,
+            written: String::from_str(alloc, written)?,
+        })
+    }
+}
