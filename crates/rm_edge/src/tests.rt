@@ -136,6 +136,21 @@ fn a_socket_receives_what_another_one_sends(rt: HostRuntime) -> Result<(), Fail>
 }
 
 #[test]
+fn a_socket_sends_nothing_to_port_0(rt: HostRuntime) -> Result<(), Fail> {
+    let nobody = Peer {
+        ip: [127, 0, 0, 1],
+        port: 0,
+    };
+    let mut link = UdpLink::new(rt);
+    assert_eq!(rt; link.send(nobody, b"reply"), Err(Failed));
+    if !(40_100..40_200).any(|port| link.bind(port).is_ok()) {
+        return Err(Fail::new("no port is free"));
+    }
+    assert_eq!(rt; link.send(nobody, b"reply"), Ok(()));
+    Ok(())
+}
+
+#[test]
 fn a_clock_in_memory_tells_its_moments(rt: HostRuntime) -> Result<(), Fail> {
     let mut clock = ListClock::new(rt.alloc());
     assert_eq!(rt; clock.now(), 0);

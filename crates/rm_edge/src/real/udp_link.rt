@@ -4,7 +4,8 @@ use super::faults::Faults;
 use crate::outside::{Failed, Link, Peer};
 use std::net::{Ipv4Addr, Net, SocketAddr, SocketAddrV4, UdpSocket};
 
-/// A socket of UDP on 127.0.0.1. A receive or a send before a port is bound is a fault, and so is each error.
+/// A socket of UDP on 127.0.0.1. A receive or a send before a port is bound is a fault, and so is each error. A datagram from
+/// port 0 wants no reply (RFC 768): a send to port 0 sends nothing, and that is no fault.
 #[derive(Drop)]
 pub struct UdpLink<R> {
     rt: R,
@@ -41,10 +42,14 @@ impl<R: Net> UdpLink<R> {
         }
     }
 
-    // Sends a datagram. None where no port is bound, and at an error.
+    // Sends a datagram, or nothing to port 0. None where no port is bound, and at an error.
     fn send_to(&self, to: Peer, bytes: &[u8]) -> Option<()> {
+        let socket = self.socket.as_ref()?;
+        if to.port == 0 {
+            return Some(());
+        }
         let to = SocketAddrV4::new(Ipv4Addr::from_octets(to.ip), to.port);
-        let count = self.socket.as_ref()?.send_to(bytes, to).ok()?;
+        let count = socket.send_to(bytes, to).ok()?;
         (count == bytes.len()).then_some(())
     }
 }
