@@ -4,7 +4,7 @@
 ghost use Rattle.std.specs.Prelude.{◌≡◌, [], ◌∷◌, codes, IfOk};
 
 use rm_cmd::{Status, run};
-use rm_edge::{FileShelf, ListClock, MemLink, StdSink, Words};
+use rm_edge::{Counted, FileShelf, ListClock, MemLink, StdSink, Words};
 use rm_val::NoMemory;
 use std::alloc::Global;
 use std::process::ExitCode;
@@ -32,8 +32,8 @@ fn replay_words(alloc: Global) -> Result<Words, NoMemory>
 // Files are read in the folder that the program runs in. No command of these words uses the link or the clock.
 fn run_words(rt: HostRuntime, words: &Words) -> Status {
     let alloc = rt.alloc();
-    let mut shelf = FileShelf::new(rt);
-    let mut out = StdSink::new(rt);
+    let mut shelf = Counted::new(FileShelf(rt));
+    let mut out = Counted::new(StdSink(rt));
     let mut link = MemLink::new(alloc);
     let mut clock = ListClock::new(alloc);
     run(alloc, words, &mut shelf, &mut out, &mut link, &mut clock)

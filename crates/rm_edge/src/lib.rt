@@ -13,5 +13,5 @@ mod words;
 pub use digits::read_number;
 pub use memory::{ListClock, MemLink, MemShelf, MemSink};
 pub use outside::{Clock, Failed, Link, Peer, Shelf, Sink};
-pub use real::{FileShelf, HostClock, StdSink, UdpLink};
+pub use real::{Counted, FileShelf, HostClock, StdSink, UdpLink};
 pub use words::Words;

@@ -1,6 +1,6 @@
 use crate::{
-    Clock, Failed, FileShelf, HostClock, Link, ListClock, MemLink, MemShelf, MemSink, Peer, Shelf,
-    Sink, StdSink, UdpLink, Words,
+    Clock, Counted, Failed, FileShelf, HostClock, Link, ListClock, MemLink, MemShelf, MemSink,
+    Peer, Shelf, Sink, StdSink, UdpLink, Words,
 };
 use std::fs;
 use std::test::Fail;
@@ -8,7 +8,7 @@ use std::test::Fail;
 #[test]
 fn a_real_file_is_read_from_a_place_on(rt: HostRuntime) -> Result<(), Fail> {
     fs::write(&rt, "digits", b"0123456789")?;
-    let mut shelf = FileShelf::new(rt);
+    let mut shelf = Counted::new(FileShelf(rt));
     let mut into = [0; 4];
     assert_eq!(rt; shelf.read("digits", 3, &mut into), Ok(4));
     assert_eq!(rt; into, *b"3456");
@@ -22,7 +22,7 @@ fn a_real_file_is_read_from_a_place_on(rt: HostRuntime) -> Result<(), Fail> {
 
 #[test]
 fn standard_output_takes_a_line(rt: HostRuntime) {
-    let mut sink = StdSink::new(rt);
+    let mut sink = Counted::new(StdSink(rt));
     assert_eq!(rt; sink.put(b"a line\n"), Ok(()));
 }
 
@@ -116,7 +116,10 @@ fn a_link_in_memory_gives_and_takes_datagrams(rt: HostRuntime) -> Result<(), Fai
 
 #[test]
 fn a_socket_receives_what_another_one_sends(rt: HostRuntime) -> Result<(), Fail> {
-    let (mut link, mut other) = (UdpLink::new(rt), UdpLink::new(rt));
+    let (mut link, mut other) = (
+        Counted::new(UdpLink::new(rt)),
+        Counted::new(UdpLink::new(rt)),
+    );
     let mut into = *b"......";
     assert_eq!(rt; link.receive(&mut into), Err(Failed));
     let mut ports = 40_000..40_100;
@@ -141,7 +144,7 @@ fn a_socket_sends_nothing_to_port_0(rt: HostRuntime) -> Result<(), Fail> {
         ip: [127, 0, 0, 1],
         port: 0,
     };
-    let mut link = UdpLink::new(rt);
+    let mut link = Counted::new(UdpLink::new(rt));
     assert_eq!(rt; link.send(nobody, b"reply"), Err(Failed));
     if !(40_100..40_200).any(|port| link.bind(port).is_ok()) {
         return Err(Fail::new("no port is free"));

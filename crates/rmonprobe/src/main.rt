@@ -2,7 +2,7 @@
 #![tactic(auto)]
 
 use rm_cmd::{Status, run};
-use rm_edge::{FileShelf, HostClock, StdSink, UdpLink, Words};
+use rm_edge::{Counted, FileShelf, HostClock, StdSink, UdpLink, Words};
 use std::env;
 use std::io::ErrorKind;
 use std::process::ExitCode;
@@ -36,9 +36,9 @@ fn status(rt: HostRuntime) -> Status {
         Err(status) => return status,
     };
     let alloc = rt.alloc();
-    let mut shelf = FileShelf::new(rt);
-    let mut out = StdSink::new(rt);
-    let mut link = UdpLink::new(rt);
+    let mut shelf = Counted::new(FileShelf(rt));
+    let mut out = Counted::new(StdSink(rt));
+    let mut link = Counted::new(UdpLink::new(rt));
     let mut clock = HostClock::new(rt);
     run(alloc, &words, &mut shelf, &mut out, &mut link, &mut clock)
 }

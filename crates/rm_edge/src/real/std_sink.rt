@@ -1,36 +1,21 @@
-ghost use Rattle.std.specs.Prelude.{◌≡◌, None};
+ghost use Rattle.std.specs.Prelude.{None};
 
-use super::faults::Faults;
+use super::counted::Counted;
 use crate::outside::{Failed, Sink};
 use std::io;
 use std::io::Write;
 
-/// Standard output. An error is a fault, and so is a write that takes nothing of a piece.
+/// Standard output, a sink once its faults are counted. An error is a fault, and so is a write that takes nothing of a piece.
 #[derive(Drop)]
-pub struct StdSink<R> {
-    rt: R,
-    faults: Faults,
-}
+pub struct StdSink<R>(pub R);
 
-impl<R: Print> StdSink<R> {
-    /// A sink with no fault.
-    pub fn new(rt: R) -> StdSink<R>
-        ensures { result.faults ≡ 0 }
-    {
-        StdSink {
-            rt,
-            faults: Faults::new(),
-        }
-    }
-}
-
-impl<R: Print> Sink for StdSink<R> {
+impl<R: Print> Sink for Counted<StdSink<R>> {
     ghost content = { λ _. None };
 
     ghost faults = { λ s. s.faults };
 
     fn put(&mut self, piece: &[u8]) -> Result<(), Failed> {
-        self.faults
-            .check(io::writer(&self.rt).write_all(piece).ok())
+        let put = io::writer(&self.inner.0).write_all(piece).ok();
+        self.check(put)
     }
 }

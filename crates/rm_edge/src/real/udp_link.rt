@@ -1,28 +1,29 @@
-ghost use Rattle.std.specs.Prelude.{◌≡◌, ◌≤◌, None, length, IfSome};
+ghost use Rattle.std.specs.Prelude.{◌≤◌, None, length, IfSome, IsNone};
 
-use super::faults::Faults;
+use super::counted::Counted;
 use crate::outside::{Failed, Link, Peer};
 use std::net::{Ipv4Addr, Net, SocketAddr, SocketAddrV4, UdpSocket};
 
-/// A socket of UDP on 127.0.0.1. A receive or a send before a port is bound is a fault, and so is each error. A datagram from
-/// port 0 wants no reply (RFC 768): a send to port 0 sends nothing, and that is no fault.
+/// A socket of UDP on 127.0.0.1, a link once its faults are counted. A receive or a send before a port is bound is a fault, and so
+/// is each error. A datagram from port 0 wants no reply (RFC 768): a send to port 0 sends nothing, and that is no fault.
 #[derive(Drop)]
 pub struct UdpLink<R> {
     rt: R,
     socket: Option<UdpSocket>,
-    faults: Faults,
 }
 
 impl<R: Net> UdpLink<R> {
-    /// A link with no port bound and no fault.
+    /// A socket with no port bound.
     pub fn new(rt: R) -> UdpLink<R>
-        ensures { result.faults ≡ 0 }
+        ensures { IsNone result.socket }
     {
-        UdpLink {
-            rt,
-            socket: None,
-            faults: Faults::new(),
-        }
+        UdpLink { rt, socket: None }
+    }
+
+    fn bind_to(&mut self, port: u16) -> Option<()> {
+        let local = SocketAddrV4::new(Ipv4Addr::LOCALHOST, port);
+        self.socket = Some(UdpSocket::bind(&self.rt, local).ok()?);
+        Some(())
     }
 
     // Waits for a datagram. None where no port is bound, and at an error.
@@ -54,7 +55,7 @@ impl<R: Net> UdpLink<R> {
     }
 }
 
-impl<R: Net> Link for UdpLink<R> {
+impl<R: Net> Link for Counted<UdpLink<R>> {
     ghost bound = { λ _. None };
 
     ghost received = { λ _. None };
@@ -64,19 +65,17 @@ impl<R: Net> Link for UdpLink<R> {
     ghost faults = { λ l. l.faults };
 
     fn bind(&mut self, port: u16) -> Result<(), Failed> {
-        let local = SocketAddrV4::new(Ipv4Addr::LOCALHOST, port);
-        let socket = self.faults.check(UdpSocket::bind(&self.rt, local).ok())?;
-        self.socket = Some(socket);
-        Ok(())
+        let bound = self.inner.bind_to(port);
+        self.check(bound)
     }
 
     fn receive(&mut self, into: &mut [u8]) -> Result<(Peer, usize), Failed> {
-        let found = self.receive_from(into);
-        self.faults.check(found)
+        let found = self.inner.receive_from(into);
+        self.check(found)
     }
 
     fn send(&mut self, to: Peer, bytes: &[u8]) -> Result<(), Failed> {
-        let sent = self.send_to(to, bytes);
-        self.faults.check(sent)
+        let sent = self.inner.send_to(to, bytes);
+        self.check(sent)
     }
 }
