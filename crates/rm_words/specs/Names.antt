@@ -36,14 +36,8 @@ name_of TrapPort = codes "trap-port"
 
 -- whether an option has a value
 abbrev pub takes_value : OptionName → Bool
-takes_value Hosts = true
-takes_value Pairs = true
-takes_value Upper = true
-takes_value Lead = true
 takes_value KeepShort = false
-takes_value Read = true
-takes_value Write = true
-takes_value TrapPort = true
+takes_value option = true
 
 abbrev pub commands : List CommandName
 commands = Replay ∷ Serve ∷ Summary ∷ Decode ∷ []
