@@ -11,7 +11,7 @@ pub struct Counted<T> {
 }
 
 impl<T> Counted<T> {
-    /// It, with no fault.
+    /// Over `inner`, with no fault.
     pub fn new(inner: T) -> Counted<T>
         ensures { result.faults ≡ 0 }
     {
