@@ -1,5 +1,5 @@
 // What a frame adds to a counter.
-ghost use Rattle.std.specs.Prelude.{◌≡◌, ◌+◌, ◌%◌, ◌^◌};
+ghost use Rattle.std.specs.Prelude.{◌≡◌};
 ghost use Rattle.rm_ether.specs.Counted.{counted, one_if, has_octets};
 
 use crate::counter::Counter;
@@ -33,13 +33,6 @@ pub fn added(counter: Counter, facts: &Facts) -> u64
         | Counter::Jabbers
         | Counter::Collisions => 0,
     }
-}
-
-/// Adds to a sum what a frame adds to that counter, modulo 2^64.
-pub fn add(sum: &mut u64, counter: Counter, facts: &Facts)
-    ensures { sum.new ≡ (sum.old + counted counter facts.now) % 2 ^ 64 }
-{
-    *sum = sum.wrapping_add(added(counter, facts));
 }
 
 // 1 for a frame that counts, 0 for one that doesn't.

@@ -10,12 +10,12 @@ use rm_model::State;
 use rm_proto::Facts;
 use rm_status::Change;
 
-/// A frame is counted in each valid row whose data source is the interface of the frame.
+/// What a frame adds to sums. Of the rows of etherStats each valid one counts it whose data source is the interface of the frame.
 #[derive(Drop)]
 pub struct Adding<'a> {
     /// The facts of the frame.
     pub facts: &'a Facts,
-    /// What it adds to each sum, worked out once for all rows.
+    /// What it adds to each sum, worked out once for all that count it.
     pub added: Statistics,
     ghost worked_out: { added ≡ sums_of (λ each. counted each facts.now) },
 }

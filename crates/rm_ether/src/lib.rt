@@ -11,6 +11,7 @@ mod statistics;
 #[cfg(test)]
 mod tests;
 
+pub use change::Adding;
 pub use counter::Counter;
 pub use ether::Ether;
 pub use row::StatisticsRow;

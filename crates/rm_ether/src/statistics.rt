@@ -1,7 +1,8 @@
 // What a row of etherStats counts.
 ghost use Rattle.std.specs.Prelude.{◌≡◌, ◌+◌, ◌%◌, ◌^◌, ◌<◌, ◌≤◌};
 
-use crate::added::{add, added};
+use crate::added::added;
+use crate::change::Adding;
 use crate::counter::Counter;
 use rm_group::{MOST_FRAMES, MOST_OCTETS};
 use rm_proto::Facts;
@@ -32,7 +33,7 @@ pub struct Statistics {
 
 impl Statistics {
     ghost use Rattle.rm_ether.specs.Counted.{counted, counted_from};
-    ghost use Rattle.rm_ether.specs.Standing.{counter_of, sums_of, no_sums, with_frame, AreBounded};
+    ghost use Rattle.rm_ether.specs.Standing.{counter_of, sums_of, no_sums, AreBounded};
     ghost use Rattle.rm_ether.specs.declared.counter.Counter.{Counter};
 
     /// Of no frame.
@@ -59,43 +60,17 @@ impl Statistics {
     }
 
     /// Counts a frame where it is of that interface. So few were counted that the sums are exact.
-    pub fn pass(&mut self, source: u32, facts: &Facts)
-        requires length { facts.now.length ≤ MOST_OCTETS }
+    pub fn pass(&mut self, source: u32, adding: &Adding<'_>)
+        requires length { adding.now.facts.now.length ≤ MOST_OCTETS }
         requires room { self.old.packets < MOST_FRAMES }
         requires bounded { AreBounded self.old }
-        ensures sums { (each : Counter) → counter_of self.new each ≡ counter_of self.old each + counted_from source each facts.now }
+        ensures sums { (each : Counter) → counter_of self.new each ≡ counter_of self.old each + counted_from source each adding.now.facts.now }
         ensures packets { self.new.packets ≤ self.old.packets + 1 }
         ensures bounded { AreBounded self.new }
     {
-        if facts.interface == source {
-            self.count(facts);
+        if adding.facts.interface == source {
+            self.add(&adding.added);
         }
-    }
-
-    /// Counts a frame.
-    pub fn count(&mut self, facts: &Facts)
-        ensures { self.new ≡ with_frame facts.now self.old }
-    {
-        add(&mut self.packets, Counter::Pkts, facts);
-        add(&mut self.octets, Counter::Octets, facts);
-        add(&mut self.broadcast, Counter::BroadcastPkts, facts);
-        add(&mut self.multicast, Counter::MulticastPkts, facts);
-        add(&mut self.undersize, Counter::UndersizePkts, facts);
-        add(&mut self.oversize, Counter::OversizePkts, facts);
-        add(&mut self.of_64, Counter::Pkts64Octets, facts);
-        add(&mut self.of_65_to_127, Counter::Pkts65to127Octets, facts);
-        add(&mut self.of_128_to_255, Counter::Pkts128to255Octets, facts);
-        add(&mut self.of_256_to_511, Counter::Pkts256to511Octets, facts);
-        add(
-            &mut self.of_512_to_1023,
-            Counter::Pkts512to1023Octets,
-            facts,
-        );
-        add(
-            &mut self.of_1024_to_1518,
-            Counter::Pkts1024to1518Octets,
-            facts,
-        );
     }
 
     /// What a frame adds to each sum.

@@ -3,18 +3,18 @@ ghost use Rattle.std.specs.Prelude.{◌≤◌};
 ghost use Rattle.rm_group.specs.declared.bounds.TheConstants.{MOST_OCTETS};
 
 use crate::run::Run;
+use rm_ether::Adding;
 use rm_group::MOST_OCTETS;
 use rm_pool::Change;
-use rm_proto::Facts;
 
 /// A frame that each history counts.
 #[derive(Drop)]
 pub(crate) struct CountedFrame<'a> {
-    /// What is known of it.
-    pub facts: &'a Facts,
+    /// What it adds to the sums of a bucket.
+    pub adding: Adding<'a>,
     /// The moment at which it passed, in milliseconds.
     pub moment: u32,
-    ghost length: { facts.now.length ≤ MOST_OCTETS },
+    ghost length: { adding.facts.now.length ≤ MOST_OCTETS },
 }
 
 impl Change<Run> for CountedFrame<'_> {
@@ -22,9 +22,9 @@ impl Change<Run> for CountedFrame<'_> {
 
     ghost allows = { λ s run. IsReady s.moment run };
 
-    ghost makes = { λ s run new. Counts s.facts.now s.moment run new };
+    ghost makes = { λ s run new. Counts s.adding.facts.now s.moment run new };
 
     fn change(&self, run: &mut Run) {
-        run.frame(self.facts, self.moment);
+        run.frame(&self.adding, self.moment);
     }
 }

@@ -9,6 +9,7 @@ ghost use Rattle.rm_history.specs.WellHeld.{all_in_range_prop, all_fit_prop, of_
 use crate::control_columns::ControlColumns;
 use crate::counted_frame::CountedFrame;
 use crate::run::Run;
+use rm_ether::Adding;
 use rm_group::{MOST_FRAMES, MOST_OCTETS};
 use rm_pool::Pool;
 use rm_proto::Facts;
@@ -74,7 +75,8 @@ impl History {
         ensures last { last_given self.new ≡ moment }
         ensures stocked { IsStocked self.old → IsStocked self.new }
     {
-        self.runs.change_each(&CountedFrame { facts, moment });
+        let adding = Adding::of(facts);
+        self.runs.change_each(&CountedFrame { adding, moment });
         self.frames += 1;
         self.last = moment;
     }

@@ -6,10 +6,9 @@ ghost use Rattle.rm_ether.specs.Standing.{AreBounded};
 
 use crate::plan::Plan;
 use circular_buffer::HeapCircularBuffer;
-use rm_ether::Statistics;
+use rm_ether::{Adding, Statistics};
 use rm_group::{MOST_FRAMES, MOST_OCTETS};
 use rm_pool::Part;
-use rm_proto::Facts;
 use rm_val::NoMemory;
 use std::alloc::Global;
 
@@ -97,13 +96,13 @@ impl Run {
 
     /// Counts a frame that passed at a moment in milliseconds, where it is of the interface. No bucket that ends after it is
     /// closed.
-    pub fn frame(&mut self, facts: &Facts, moment: u32)
+    pub fn frame(&mut self, adding: &Adding<'_>, moment: u32)
         requires reached { end_of self.old.plan self.old.closed ≤ moment }
-        requires length { facts.now.length ≤ MOST_OCTETS }
+        requires length { adding.now.facts.now.length ≤ MOST_OCTETS }
         requires room { self.old.current.packets < MOST_FRAMES }
         ensures buckets { (bucket : ℕ) (each : Counter) → 1 ≤ bucket → self.new.closed < bucket + self.new.ring.capacity
             → kept_counter self.new bucket each
-            ≡ kept_counter self.old bucket each + (if nat_eq bucket (complete_at self.old.plan moment + 1) then counted_from self.old.source each facts.now else 0) }
+            ≡ kept_counter self.old bucket each + (if nat_eq bucket (complete_at self.old.plan moment + 1) then counted_from self.old.source each adding.now.facts.now else 0) }
         ensures closed { self.new.closed ≡ complete_at self.old.plan moment }
         ensures plan { self.new.plan ≡ self.old.plan }
         ensures source { self.new.source ≡ self.old.source }
@@ -112,7 +111,7 @@ impl Run {
         let length = 1000 * self.plan.seconds;
         let complete = (moment - self.plan.start) / length;
         self.close(complete);
-        self.current.pass(self.source, facts);
+        self.current.pass(self.source, adding);
     }
 
     // Closes buckets until so many are closed.

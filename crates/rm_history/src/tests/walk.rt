@@ -7,6 +7,7 @@ use crate::counted_frame::CountedFrame;
 use crate::plan::Plan;
 use crate::run::Run;
 use crate::samples::Samples;
+use rm_ether::Adding;
 use rm_nested::{inner_cell, next_inner_cell};
 use rm_pool::{Begin, Pool};
 use rm_proto::facts;
@@ -94,8 +95,9 @@ fn two_histories(alloc: Global) -> Result<Pool<Run>, NoMemory>
     prove!(runs.len() <= 1);
     runs.grow(alloc, 2)?;
     runs.begin(9, &ByPlan { plan: NINTH });
+    let frame = facts(&[], 262_140, false);
     runs.change_each(&CountedFrame {
-        facts: &facts(&[], 262_140, false),
+        adding: Adding::of(&frame),
         moment: 12_500,
     });
     Ok(runs)
