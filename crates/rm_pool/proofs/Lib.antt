@@ -4,3 +4,4 @@ pub mod Follows
 pub mod Each
 pub mod Least
 pub mod Numbered
+pub mod RoomLemmas

@@ -6,6 +6,7 @@ mod change;
 mod follow;
 mod part;
 mod pool;
+mod room;
 mod slot;
 mod storage;
 #[cfg(test)]
