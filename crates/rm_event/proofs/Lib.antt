@@ -1,6 +1,4 @@
 mod OneFiring
 mod Fires
-mod Counts
 mod SameCells
-mod Judged
 mod Assigned

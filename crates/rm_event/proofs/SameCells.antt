@@ -26,7 +26,8 @@ use Rattle.rm_event.specs.Tables.{event_other, events_table, log_entry, log_of, 
 use Rattle.rm_event.specs.Log.{IsLog, kept_time}
 use Rattle.rm_pool.specs.Slots.{part_in}
 use Rattle.rm_event.specs.Standing.{IsLogOf, AreLogs}
-use Rattle.rm_event.specs.Shown.{sent_in, kept_other, rows_table, description_in, is_kept_of, entry_value, entry_in, logs_table, cells_shown}
+use Rattle.rm_nested.specs.NumberedRows.{is_kept_of, shown_by, value_by}
+use Rattle.rm_event.specs.Shown.{sent_in, kept_other, rows_table, description_in, shows, entry_value, logs_table, cells_shown}
 use Rattle.rm_status.proofs.Judged.{same_next}
 use Rattle.rm_status.proofs.RowFacts.{row_there, valid_there, valid_columns}
 use Rattle.rm_event.specs.Group.{event_cells}
@@ -75,18 +76,18 @@ module _ (rows : List (Row EventRow)) (held : AreControlRows event_table rows) (
         near : (entries : ℕ) → is_shown entries number ≡ true → entries - number < 32
         near entries h = let low : entries < number + 32 = grind (arith, nat_tests) in let high : number ≤ entries = grind (arith, nat_tests) in omega (arith, low, high)
 
-    entry_shows : (number : ℕ) → is_shown kept.added number ≡ true → (column : ℕ) → entry_value i kept (description_in rows i) number column ≡ log_value settings journal i number column
+    entry_shows : (number : ℕ) → is_shown kept.added number ≡ true → (column : ℕ) → entry_value rows i kept number column ≡ log_value settings journal i number column
     entry_shows number shown column = λ d. cond (nat_eq column 1) (int (pos i)) (cond (nat_eq column 2) (int (pos number)) (cond (nat_eq column 3) (ticks (time_is number shown d)) (description_there d)))
 
   abbrev shown_after : ℕ → ℕ → ℕ → Option Val
   shown_after i number column = cond (is_entry settings journal (i ∷ number ∷ [])) (Some (log_value settings journal i number column)) None
 
-  of_shown : (i number : ℕ) (column : ℕ) (kept : Log) → is_valid (event_state journal (i ∷ [])) ≡ true → IsLog kept (type_of journal i) (firings settings journal i) → (b : Bool) → is_shown kept.added number ≡ b → cond b (Some (entry_value i kept (description_in rows i) number column)) None ≡ cond b (Some (log_value settings journal i number column)) None
+  of_shown : (i number : ℕ) (column : ℕ) (kept : Log) → is_valid (event_state journal (i ∷ [])) ≡ true → IsLog kept (type_of journal i) (firings settings journal i) → (b : Bool) → is_shown kept.added number ≡ b → cond b (Some (entry_value rows i kept number column)) None ≡ cond b (Some (log_value settings journal i number column)) None
   of_shown i number column kept valid it true shown = ap Some (entry_shows i kept valid it number shown column)
   of_shown i number column kept valid it false shown = refl
 
   of_log : (i number : ℕ) (column : ℕ) (o : Option Log) → IsLogOf (event_state journal (i ∷ [])) (type_of journal i) (firings settings journal i) o
-      → cond (option_map_or (λ kept. is_shown kept.added number) o false) (Some (entry_in i o (description_in rows i) number column)) None ≡ shown_after i number column
+      → cond (shown_by shows o 0 number) (Some (value_by (entry_value rows) i o number column)) None ≡ shown_after i number column
   of_log i number column None idle = sym (ap (λ b. cond (b && is_shown (length (log_of settings journal i)) number) (Some (log_value settings journal i number column)) None) idle)
   of_log i number column (Some kept) it =
       of_shown i number column kept it.0 it.1 (is_shown kept.added number) refl
@@ -95,7 +96,7 @@ module _ (rows : List (Row EventRow)) (held : AreControlRows event_table rows) (
       entry_is : is_entry settings journal (i ∷ number ∷ []) ≡ is_shown kept.added number
       entry_is = ap (λ b. b && is_shown (length (log_of settings journal i)) number) it.0 ∙ ap (λ n. is_shown n number) (sym it.1.added)
 
-  of_pair : (i number : ℕ) (column : ℕ) → cond (is_kept_of logs i (number ∷ [])) (Some (entry_in i (part_in logs i) (description_in rows i) number column)) None ≡ shown_after i number column
+  of_pair : (i number : ℕ) (column : ℕ) → cond (is_kept_of shows logs 0 i (number ∷ [])) (Some (value_by (entry_value rows) i (part_in logs i) number column)) None ≡ shown_after i number column
   of_pair i number column = of_log i number column (part_in logs i) (are i)
 
   entry_cell_at : (at : Option Instance) → cell_at (logs_table rows logs) at ≡ cell_at (log_table settings journal) at

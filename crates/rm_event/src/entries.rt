@@ -1,18 +1,16 @@
 // The entries of logs.
-ghost use Rattle.std.specs.Prelude.{◌≡◌, ◌≤◌};
+ghost use Rattle.std.specs.Prelude.{◌≡◌};
 ghost use Rattle.rm_val.specs.Val.{val_of};
 ghost use Rattle.rm_val.specs.Spellable.{HasSpelling};
-ghost use Rattle.rm_model.specs.Numbers.{IsNumberAbove};
-ghost use Rattle.rm_event.specs.Shown.{shows, description_in, entry_value};
+ghost use Rattle.rm_event.specs.Shown.{description_in};
 
 use crate::event_row::EventRow;
 use crate::log::Log;
 use rm_group::TableObjects;
-use rm_model::Instance;
-use rm_nested::{InnerCells, InnerRows, first_number, one_number_above};
+use rm_nested::{NumberedCells, NumberedRows};
 use rm_pool::Pool;
 use rm_status::Controls;
-use rm_val::{Oid, Value};
+use rm_val::Value;
 
 /// The objects of logTable (RFC 1757, section 5): logEventIndex, logIndex, logTime and logDescription.
 pub(crate) const LOG_OBJECTS: TableObjects = TableObjects {
@@ -29,73 +27,32 @@ pub(crate) struct Entries<'a> {
     pub logs: &'a Pool<Log>,
 }
 
-impl InnerRows for Entries<'_> {
+impl NumberedRows for Entries<'_> {
     ghost use Rattle.std.specs.Prelude.{refl};
     ghost use Rattle.std.proofs.Math.Nat.{le-add_right};
-    ghost use Rattle.rm_pool.specs.Slots.{has_part};
-    ghost use Rattle.rm_event.specs.Shown.{is_kept_of, no_entry};
-
-    ghost is_outer = { λ s row. has_part s.logs.now row };
-
-    ghost is_inner = { λ s now row index. is_kept_of s.logs.now row index };
-
-    ghost longest = { 1 };
-
-    fn row_after(&self, row: u32) -> Option<u32> {
-        self.logs.after(row)
-    }
-
-    fn inner_after(&self, row: u32, index: &Oid, _now: u32) -> Option<Oid> {
-        one_number_above(index, self.number_above(row, first_number(index)))
-    }
-
-    ghost not_empty = { λ s now row. refl };
-
-    ghost of_outer = { λ s now row index none. no_entry s.logs.now row index none };
-
-    ghost short = { le-add_right 1 126 };
-}
-
-impl<'a> InnerCells<'a> for Entries<'a> {
-    ghost use Rattle.std.specs.Prelude.{refl};
-    ghost use Rattle.std.proofs.Math.Nat.{le-add_right};
-    ghost use Rattle.rm_pool.specs.Pools.{AreNumbered};
     ghost use Rattle.rm_event.specs.Columns.{log_columns};
     ghost use Rattle.rm_event.specs.Tables.{log_entry};
-    ghost use Rattle.rm_event.specs.Shown.{entry_at};
+    ghost use Rattle.rm_event.specs.Shown.{entry_value};
+
+    type Part = Log;
+
+    ghost parts = { λ s. s.logs.now };
 
     ghost entry = { log_entry };
 
     ghost columns = { log_columns };
 
-    ghost shown = { λ s column index. entry_at s.rows.now s.logs.now index column };
+    ghost value_of = { λ s. entry_value s.rows.now };
 
-    ghost can_show = { λ s. AreNumbered s.logs.now };
-
-    fn entry() -> Oid
-        ensures { result ≡ log_entry }
-    {
-        Oid::from_slice(LOG_OBJECTS.entry).unwrap()
+    fn parts(&self) -> &Pool<Log> {
+        self.logs
     }
 
-    fn columns() -> &'static [u32]
-        ensures { result.now ≡ log_columns }
+    fn table() -> TableObjects
+        ensures entry { result.entry.now ≡ log_entry }
+        ensures columns { result.columns.now ≡ log_columns }
     {
-        LOG_OBJECTS.columns
-    }
-
-    fn value(&self, at: &Instance, _now: u32) -> Option<Value<'a>> {
-        if at.index.len() != 2 {
-            return None;
-        }
-        let event = at.index.at(0);
-        let number = at.index.at(1);
-        let log = self.logs.get(event)?;
-        if log.shows(number) {
-            Some(value_of(self.rows, event, log, number, at.column))
-        } else {
-            None
-        }
+        LOG_OBJECTS
     }
 
     ghost rising = { refl };
@@ -105,36 +62,14 @@ impl<'a> InnerCells<'a> for Entries<'a> {
     ghost fits = { le-add_right 13 115 };
 }
 
-impl Entries<'_> {
-    // The least number of an entry of an event above one that is shown.
-    fn number_above(&self, event: u32, number: u32) -> Option<u32>
-        ensures { IsNumberAbove (shows self.now.logs.now event) number result }
-    {
-        self.logs.get(event)?.number_above(number)
-    }
-}
-
-// What a column of an entry shows.
-fn value_of<'a>(
-    rows: &'a Controls<EventRow>,
-    event: u32,
-    log: &Log,
-    number: u32,
-    column: u32,
-) -> Value<'a>
-    requires event { event ≤ 65535 }
-    requires number { number ≤ 2147483647 }
-    ensures value { val_of result ≡ entry_value event log.now (description_in rows.now event) number column }
-    ensures spelling { HasSpelling (val_of result) }
-{
-    if column == 1 {
-        Value::Int(event as i32)
-    } else if column == 2 {
-        Value::Int(number as i32)
-    } else if column == 3 {
-        Value::Ticks(log.time(number))
-    } else {
-        description(rows, event)
+impl<'a> NumberedCells<'a> for Entries<'a> {
+    fn show(&self, event: u32, log: &Log, number: u32, column: u32, _now: u32) -> Value<'a> {
+        match column {
+            1 => Value::Int(event as i32),
+            2 => Value::Int(number as i32),
+            3 => Value::Ticks(log.time(number)),
+            _ => description(self.rows, event),
+        }
     }
 }
 

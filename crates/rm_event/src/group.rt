@@ -2,13 +2,11 @@
 
 use crate::entries::{Entries, LOG_OBJECTS};
 use crate::event_cell::Sent;
-use crate::event_row::EVENT_OBJECTS;
+use crate::event_row::{EVENT_OBJECTS, EventRow};
 use crate::events::Events;
-use rm_group::{
-    Assigns, Commits, Denied, Group, Look, TableObjects, Tables, judge_read_only, lower_verdict,
-};
+use rm_group::{Assigns, Commits, Denied, Group, Look, TableObjects, Tables};
 use rm_model::Verdict;
-use rm_nested::{InnerCells, cell_of_both, next_of_both};
+use rm_nested::{cell_of_both, judge_both, next_of_both};
 use rm_val::{Oid, Value};
 use std::alloc::Global;
 
@@ -67,9 +65,7 @@ impl Group for Events {
     }
 
     fn judge_alone<A: Assigns>(&self, set: &A) -> Verdict {
-        let rows = self.rows.judge_alone(set);
-        let entries = judge_read_only(set, &Entries::entry(), Entries::columns());
-        lower_verdict(rows, entries)
+        judge_both::<EventRow, Entries<'_>, A>(&self.rows, set)
     }
 
     fn judge_rows<A: Assigns, L: Look>(&self, set: &A, _now: u32, _look: &L) -> Verdict {
@@ -83,7 +79,7 @@ impl Group for Events {
         _now: u32,
         _look: &L,
     ) -> Result<(), Denied> {
-        self.make_room(alloc, set)
+        self.logs.make_room(alloc, &self.rows, set)
     }
 
     fn discard(&mut self) {

@@ -4,6 +4,7 @@ ghost use Rattle.rm_event.specs.declared.log.TheConstants.{MOST_ENTRIES, MOST_SH
 
 use crate::event_type::EventType;
 use circular_buffer::HeapCircularBuffer;
+use rm_nested::NumberedPart;
 use rm_pool::{Begin, Part};
 use rm_val::NoMemory;
 use std::alloc::Global;
@@ -30,8 +31,6 @@ pub struct Log {
 
 impl Log {
     ghost use Rattle.rm_event.specs.Log.{IsNew, HasFired, kept_time};
-    ghost use Rattle.rm_event.specs.Tables.{is_shown};
-    ghost use Rattle.rm_model.specs.Numbers.{IsNumberAbove};
 
     /// Begins the log anew, with no entry.
     pub fn begin(&mut self)
@@ -52,23 +51,6 @@ impl Log {
             self.ring.push_front(tick);
             self.added += 1;
         }
-    }
-
-    /// Whether the entry with that number is shown.
-    pub fn shows(&self, number: u32) -> bool
-        ensures { result ≡ is_shown self.now.added number }
-    {
-        1 <= number && number <= self.added && self.added < number + MOST_SHOWN
-    }
-
-    /// The least number above one of an entry that is shown. None where none above is shown.
-    pub fn number_above(&self, number: u32) -> Option<u32>
-        ensures { IsNumberAbove (is_shown self.now.added) number result }
-    {
-        if number >= self.added {
-            return None;
-        }
-        Some(number.max(self.added.saturating_sub(MOST_SHOWN)) + 1)
     }
 
     /// The time of the entry with that number, 0 where it isn't kept.
@@ -92,6 +74,26 @@ impl Part for Log {
             ring: ring.map_err(|_| NoMemory)?,
         })
     }
+}
+
+impl NumberedPart for Log {
+    ghost use Rattle.std.specs.Prelude.{refl};
+    ghost use Rattle.rm_event.specs.Shown.{shows};
+
+    ghost is_shown = { shows };
+
+    fn shows(&self, number: u32, _now: u32) -> bool {
+        1 <= number && number <= self.added && self.added < number + MOST_SHOWN
+    }
+
+    fn number_above(&self, number: u32, _now: u32) -> Option<u32> {
+        if number >= self.added {
+            return None;
+        }
+        Some(number.max(self.added.saturating_sub(MOST_SHOWN)) + 1)
+    }
+
+    ghost from_1 = { λ log now. refl };
 }
 
 /// How the log of an event begins: with no entry.

@@ -2,7 +2,7 @@ mod Examples
 mod Rings
 mod Frames
 mod Becoming
-mod Storage
+mod FineAlone
 mod InRange
 mod AfterSets
 mod SameCells

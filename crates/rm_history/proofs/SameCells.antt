@@ -30,7 +30,8 @@ use Rattle.rm_history.specs.Buckets.{length_of, begin_of, complete_at, is_shown,
 use Rattle.rm_history.specs.Run.{kept_counter}
 use Rattle.rm_pool.specs.declared.slot.Slot.{Slot}
 use Rattle.rm_pool.specs.Slots.{part_in}
-use Rattle.rm_history.specs.Shown.{granted_in, kept_other, rows_table, is_kept_of, bucket_value, bucket_in, runs_table, cells_shown}
+use Rattle.rm_nested.specs.NumberedRows.{is_kept_of, shown_by, value_by}
+use Rattle.rm_history.specs.Shown.{granted_in, kept_other, rows_table, shows, bucket_value, runs_table, cells_shown}
 use Rattle.rm_history.specs.Standing.{IsRun, IsHistory, AreHistories}
 use Rattle.rm_status.proofs.RowFacts.{row_there}
 
@@ -99,7 +100,7 @@ module _ (settings : Counting) (journal : Journal) (now : ℕ) (later : last_mom
 -- etherHistory
 module _ (runs : List (Slot Run)) (settings : Counting) (journal : Journal) (histories : AreHistories runs settings journal) (now : ℕ) (later : last_moment journal ≤ now) where
   abbrev shown_in : ℕ → ℕ → ℕ → Option Run → Option Val
-  shown_in row bucket column o = cond (option_map_or (λ run. is_shown run.plan now bucket) o false) (Some (bucket_in row o bucket column)) None
+  shown_in row bucket column o = cond (shown_by shows o now bucket) (Some (value_by bucket_value row o bucket column)) None
 
   abbrev shown_after : ℕ → ℕ → ℕ → Option Val
   shown_after row bucket column = cond (is_sample journal now (row ∷ bucket ∷ [])) (Some (sample_value settings journal row bucket column)) None
@@ -117,7 +118,7 @@ module _ (runs : List (Slot Run)) (settings : Counting) (journal : Journal) (his
       is_there : is_sample journal now (row ∷ bucket ∷ []) ≡ is_shown run.plan now bucket
       is_there = ap (λ s. is_valid s && is_shown (plan_of journal (row ∷ [])) now bucket) is.valid ∙ ap (λ plan. is_shown plan now bucket) (sym is.plan)
 
-  of_pair : (row bucket : ℕ) (column : ℕ) → cond (is_kept_of runs now row (bucket ∷ [])) (Some (bucket_in row (part_in runs row) bucket column)) None ≡ shown_after row bucket column
+  of_pair : (row bucket : ℕ) (column : ℕ) → cond (is_kept_of shows runs now row (bucket ∷ [])) (Some (value_by bucket_value row (part_in runs row) bucket column)) None ≡ shown_after row bucket column
   of_pair row bucket column = of_history row bucket column (part_in runs row) (histories row)
 
   sample_cell_at : (at : Option Instance) → cell_at (runs_table runs now) at ≡ cell_at (sample_table settings journal now) at

@@ -32,4 +32,15 @@ impl History {
         self.last = now;
         self.give_back();
     }
+
+    /// Gives storage back that no valid row needs, but for that of one row. No variable changes.
+    pub(crate) fn give_back(&mut self)
+        ensures last { last_given self.new ≡ last_given self.old }
+        ensures frames { frames_given self.new ≡ frames_given self.old }
+        ensures stocked { IsStocked self.old → IsStocked self.new }
+        ensures stands { (settings : Counting) (journal : Journal) → Stands self.old settings journal → Stands self.new settings journal }
+        ensures released { IsReleased self.new }
+    {
+        self.runs.give_back(&self.rows);
+    }
 }

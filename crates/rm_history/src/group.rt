@@ -3,16 +3,16 @@ ghost use Rattle.std.specs.Prelude.{◌∷◌};
 ghost use Rattle.std.specs.Option.{option_or};
 
 use crate::control_cell::BucketsGranted;
-use crate::control_columns::CONTROL_OBJECTS;
+use crate::control_columns::{CONTROL_OBJECTS, ControlColumns};
 use crate::history::History;
 use crate::samples::{SAMPLE_OBJECTS, Samples};
 use rm_acts::Firing;
 use rm_group::{
     Assigns, Commits, Denied, Group, Look, NeverDue, Passing, Readable, Steps, TableObjects,
-    Tables, Unsampled, judge_read_only, lower_verdict,
+    Tables, Unsampled,
 };
 use rm_model::Verdict;
-use rm_nested::{InnerCells, cell_of_both, next_of_both};
+use rm_nested::{cell_of_both, judge_both, next_of_both};
 use rm_val::{Oid, Value};
 use std::alloc::Global;
 
@@ -72,9 +72,7 @@ impl Group for History {
     }
 
     fn judge_alone<A: Assigns>(&self, set: &A) -> Verdict {
-        let control = self.rows.judge_alone(set);
-        let samples = judge_read_only(set, &Samples::entry(), Samples::columns());
-        lower_verdict(control, samples)
+        judge_both::<ControlColumns, Samples<'_>, A>(&self.rows, set)
     }
 
     fn judge_rows<A: Assigns, L: Look>(&self, set: &A, _now: u32, _look: &L) -> Verdict {
@@ -88,7 +86,7 @@ impl Group for History {
         _now: u32,
         _look: &L,
     ) -> Result<(), Denied> {
-        self.make_ready(alloc, set)
+        self.runs.make_room(alloc, &self.rows, set)
     }
 
     fn discard(&mut self) {

@@ -9,7 +9,6 @@ mod counted_frame;
 mod group;
 mod history;
 mod plan;
-mod preparing;
 mod run;
 mod samples;
 mod shown_buckets;

@@ -1,26 +1,21 @@
 // The buckets that are shown.
-ghost use Rattle.std.specs.Prelude.{◌≡◌, ◌<◌, ◌≤◌, ◌^◌, refl};
+ghost use Rattle.std.specs.Prelude.{◌≡◌, ◌<◌, ◌≤◌, ◌^◌};
 ghost use Rattle.rm_val.specs.Val.{val_of};
 ghost use Rattle.rm_val.specs.Spellable.{HasSpelling};
-ghost use Rattle.rm_model.specs.Numbers.{IsNumberAbove};
 ghost use Rattle.rm_ether.specs.Standing.{counter_of};
 ghost use Rattle.rm_ether.specs.declared.counter.Counter.TheVariants.{Octets, Pkts};
 ghost use Rattle.rm_history.specs.Buckets.{begin_of, utilization};
-ghost use Rattle.rm_history.specs.Columns.{sample_columns, counter_in};
-ghost use Rattle.rm_history.specs.Shown.{shows, bucket_at, bucket_value};
-ghost use Rattle.std.proofs.Common.{rules};
-ghost use Rattle.rm_pool.specs.Pools.{AreNumbered};
-ghost use Rattle.rm_history.specs.EtherHistory.{sample_entry};
+ghost use Rattle.rm_history.specs.Columns.{counter_in};
+ghost use Rattle.rm_history.specs.Shown.{bucket_value};
 
 use crate::plan::Plan;
 use crate::run::Run;
 use rm_columns::counter_32;
 use rm_ether::{Counter, Statistics};
 use rm_group::TableObjects;
-use rm_model::Instance;
-use rm_nested::{InnerCells, InnerRows, first_number, one_number_above};
+use rm_nested::{NumberedCells, NumberedRows};
 use rm_pool::Pool;
-use rm_val::{Oid, Value};
+use rm_val::Value;
 
 /// The objects of etherHistory (RFC 1757, section 5): etherHistoryIndex, etherHistorySampleIndex, etherHistoryIntervalStart, the
 /// counters, and etherHistoryUtilization.
@@ -39,79 +34,43 @@ pub(crate) struct Samples<'a> {
     pub runs: &'a Pool<Run>,
 }
 
-impl InnerRows for Samples<'_> {
-    ghost use Rattle.rm_pool.specs.Slots.{has_part};
-    ghost use Rattle.rm_history.specs.Shown.{is_kept_of, no_bucket};
+impl NumberedRows for Samples<'_> {
+    ghost use Rattle.std.specs.Prelude.{refl};
+    ghost use Rattle.std.proofs.Math.Nat.{le-add_right};
+    ghost use Rattle.rm_history.specs.Columns.{sample_columns};
+    ghost use Rattle.rm_history.specs.EtherHistory.{sample_entry};
 
-    ghost is_outer = { λ s row. has_part s.runs.now row };
+    type Part = Run;
 
-    ghost is_inner = { λ s now row index. is_kept_of s.runs.now now row index };
+    ghost parts = { λ s. s.runs.now };
 
-    ghost longest = { 1 };
-
-    fn row_after(&self, row: u32) -> Option<u32> {
-        self.runs.after(row)
-    }
-
-    fn inner_after(&self, row: u32, index: &Oid, now: u32) -> Option<Oid> {
-        one_number_above(index, self.bucket_above(row, first_number(index), now))
-    }
-
-    ghost not_empty = { λ s now row. refl };
-
-    ghost of_outer = { λ s now row index none. no_bucket s.runs.now now row index none };
-
-    ghost short = { Prim.search rules };
-}
-
-impl<'a> InnerCells<'a> for Samples<'a> {
     ghost entry = { sample_entry };
 
     ghost columns = { sample_columns };
 
-    ghost shown = { λ s column index. bucket_at s.runs.now index column };
+    ghost value_of = { λ s. bucket_value };
 
-    ghost can_show = { λ s. AreNumbered s.runs.now };
-
-    fn entry() -> Oid
-        ensures { result ≡ sample_entry }
-    {
-        Oid::from_slice(SAMPLE_OBJECTS.entry).unwrap()
+    fn parts(&self) -> &Pool<Run> {
+        self.runs
     }
 
-    fn columns() -> &'static [u32]
-        ensures { result.now ≡ sample_columns }
+    fn table() -> TableObjects
+        ensures entry { result.entry.now ≡ sample_entry }
+        ensures columns { result.columns.now ≡ sample_columns }
     {
-        SAMPLE_OBJECTS.columns
-    }
-
-    fn value(&self, at: &Instance, now: u32) -> Option<Value<'a>> {
-        if at.index.len() != 2 {
-            return None;
-        }
-        let row = at.index.at(0);
-        let bucket = at.index.at(1);
-        let run = self.runs.get(row)?;
-        if run.shows(bucket, now) {
-            Some(value_of(row, run, bucket, at.column))
-        } else {
-            None
-        }
+        SAMPLE_OBJECTS
     }
 
     ghost rising = { refl };
 
     ghost named = { refl };
 
-    ghost fits = { Prim.search rules };
+    ghost fits = { le-add_right 13 115 };
 }
 
-impl Samples<'_> {
-    // The least bucket of a row above one that is shown at a moment in milliseconds.
-    fn bucket_above(&self, row: u32, bucket: u32, now: u32) -> Option<u32>
-        ensures { IsNumberAbove (shows self.now.runs.now now row) bucket result }
-    {
-        self.runs.get(row)?.bucket_above(bucket, now)
+impl<'a> NumberedCells<'a> for Samples<'a> {
+    fn show(&self, row: u32, run: &Run, bucket: u32, column: u32, _now: u32) -> Value<'a> {
+        value_of(row, run, bucket, column)
     }
 }
 
@@ -123,17 +82,12 @@ fn value_of(row: u32, run: &Run, bucket: u32, column: u32) -> Value<'static>
     ensures value { val_of result ≡ bucket_value row run.now bucket column }
     ensures spelling { HasSpelling (val_of result) }
 {
-    if column == 1 {
-        Value::Int(row as i32)
-    } else if column == 2 {
-        Value::Int(bucket as i32)
-    } else if column == 3 {
-        Value::Ticks(begin_of(run.plan, bucket) / 10)
-    } else if column == 15 {
-        Value::Int(utilization(&run.bucket(bucket), run.plan.seconds) as i32)
-    } else {
-        let counter = counter_in(column);
-        Value::Counter(counter_32(run.bucket(bucket).of(counter)))
+    match column {
+        1 => Value::Int(row as i32),
+        2 => Value::Int(bucket as i32),
+        3 => Value::Ticks(begin_of(run.plan, bucket) / 10),
+        15 => Value::Int(utilization(&run.bucket(bucket), run.plan.seconds) as i32),
+        _ => Value::Counter(counter_32(run.bucket(bucket).of(counter_in(column)))),
     }
 }
 

@@ -1,3 +1,4 @@
 pub mod Nested
 pub mod MadeUp
 pub mod InnerTable
+pub mod NumberedRows

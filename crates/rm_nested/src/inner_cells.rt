@@ -4,55 +4,38 @@ ghost use Rattle.std.specs.Option.{option_map, option_or};
 ghost use Rattle.rm_val.specs.Val.{Val, val_of};
 ghost use Rattle.rm_val.specs.Spellable.{IsSpellable, HasSpelling};
 ghost use Rattle.rm_model.specs.Cells.{cells_of, cell_at, IsNext};
+ghost use Rattle.rm_model.specs.Judgement.{IsFirstFault};
+ghost use Rattle.rm_group.specs.Alone.{alone_at};
+ghost use Rattle.rm_group.specs.Listed.{alone_beside};
 ghost use Rattle.rm_group.specs.Search.{are_rising};
 ghost use Rattle.rm_columns.specs.RowForm.{can_name};
 ghost use Rattle.rm_status.specs.RowsShown.{AreSpelled, rows_shown};
 ghost use Rattle.rm_nested.specs.InnerTable.{inner_table};
 
 use crate::inner_rows::InnerRows;
+use crate::inner_table::InnerTable;
 use crate::nested::Nested;
 use rm_columns::ControlRow;
-use rm_group::{choose_nearer, instance_of, next_name};
-use rm_model::Instance;
+use rm_group::{
+    Assigns, TableObjects, choose_nearer, instance_of, judge_read_only, lower_verdict, next_name,
+};
+use rm_model::{Instance, Verdict};
 use rm_status::{Controls, OtherColumns};
 use rm_val::{Oid, Value};
 
 /// Inner rows, with what the columns of their table show.
-pub trait InnerCells<'a>: InnerRows {
-    /// The identifier of the table's entry.
-    ghost entry: { List ℕ };
-
-    /// The numbers of its columns.
-    ghost columns: { List ℕ };
-
+pub trait InnerCells<'a>: InnerTable {
     /// What a column shows, by its number and the index of a row.
     ghost shown: { Self → ℕ → List ℕ → Val };
 
     /// Whether each index has a value.
     ghost can_show: { Self → Type 0 };
 
-    /// The identifier of the table's entry.
-    fn entry() -> Oid
-        ensures { result ≡ entry };
-
-    /// The numbers of its columns.
-    fn columns() -> &'static [u32]
-        ensures { result.now ≡ columns };
-
     /// The value at an instance, at a moment in milliseconds. None where there is no such row.
     fn value(&self, at: &Instance, now: u32) -> Option<Value<'a>>
         requires { can_show self.now }
-        ensures value { option_map val_of result ≡ cell_at (inner_table entry columns (Self.InnerRows.is_inner self.now now) (shown self.now)) (Some at.now) }
+        ensures value { option_map val_of result ≡ cell_at (inner_table Self.InnerTable.entry Self.InnerTable.columns (Self.InnerRows.is_inner self.now now) (shown self.now)) (Some at.now) }
         ensures spelling { IfSome result (λ value. HasSpelling (val_of value)) };
-
-    /// The columns rise.
-    ghost rising: { IsTrue (are_rising columns) };
-
-    /// The name of a cell has a spelling.
-    ghost named: { IsTrue (can_name 1 entry) };
-
-    /// It isn't too long.
-    ghost fits: { length entry + 2 + Self.InnerRows.longest ≤ 128 };
 }
 
 /// The value of the cell with that name, at a moment in milliseconds. None where the table has no such cell.
@@ -132,4 +115,17 @@ pub fn next_of_both<'a, R: ControlRow, O: OtherColumns<R>, I: InnerCells<'a> + C
     let mut other = Oid::new();
     let entry = next_inner_cell(inner, name, now, &mut other);
     choose_nearer(control, out, entry, other)
+}
+
+/// The first pass of a Set on a control table and on a table of inner rows, of which no column can be set.
+pub fn judge_both<'a, R: ControlRow, I: InnerCells<'a>, A: Assigns>(
+    rows: &Controls<R>,
+    set: &A,
+) -> Verdict
+    ensures { let bindings = A.bindings set.now in
+        IsFirstFault (length bindings) (alone_at (alone_beside R.form.table (record { entry = I.entry; columns = I.columns })) bindings) result }
+{
+    let control = rows.judge_alone(set);
+    let inner = judge_read_only(set, &I::entry(), I::columns());
+    lower_verdict(control, inner)
 }

@@ -8,6 +8,7 @@ use crate::plan::Plan;
 use crate::run::Run;
 use rm_columns::ControlRow;
 use rm_model::State;
+use rm_nested::NumberedPart;
 use rm_pool::Part;
 use rm_status::Controls;
 use rm_val::{Oid, Value};
@@ -69,7 +70,7 @@ fn the_last_complete_buckets_are_shown(rt: HostRuntime) -> Result<(), Fail> {
         assert_eq!(rt; run.shows(bucket, now), shown, "{bucket} {now}");
     }
     for (bucket, now, next) in NEXT {
-        assert_eq!(rt; run.bucket_above(bucket, now), next, "{bucket} {now}");
+        assert_eq!(rt; run.number_above(bucket, now), next, "{bucket} {now}");
     }
     Ok(())
 }

@@ -21,17 +21,17 @@ found_first shown cells others asked found least (Some value) there next under f
 pub returns-then-is_lt-clause-next : goal.returns-then-is_lt-clause-next
 returns-then-is_lt-clause-next g c =
     let R = g.R.ControlRow in
-    let I = g.I.InnerCells in
+    let T = g.I.InnerTable in
     let control = cells_of (rows_shown R.form (g.O.OtherColumns.others c.args.others.now c.args.rows.now) c.args.rows.now) in
-    let table = inner_table I.entry I.columns (g.I.InnerRows.is_inner c.args.inner c.args.now) (I.shown c.args.inner) in
+    let table = inner_table T.entry T.columns (g.I.InnerRows.is_inner c.args.inner c.args.now) (g.I.InnerCells.shown c.args.inner) in
     let found = c.next_cell-control.new.out in
-    let less : is_lt (slice_cmp nat_cmp found I.entry) ≡ true = rw (← c.entry.ensures, ← c.compare.ensures.value, ← c.is_lt.ensures) c.if-is_lt.true in
-    found_first val_of control (cells_of table) c.args.name.now found I.entry c.next_cell-control.result c.if-is_some.ensures c.next_cell-control.ensures.next (is_below found I.entry less) (table_from table)
+    let less : is_lt (slice_cmp nat_cmp found T.entry) ≡ true = rw (← c.entry.ensures, ← c.compare.ensures.value, ← c.is_lt.ensures) c.if-is_lt.true in
+    found_first val_of control (cells_of table) c.args.name.now found T.entry c.next_cell-control.result c.if-is_some.ensures c.next_cell-control.ensures.next (is_below found T.entry less) (table_from table)
 
 pub returns-clause-next : goal.returns-clause-next
 returns-clause-next g c =
     let R = g.R.ControlRow in
-    let I = g.I.InnerCells in
+    let T = g.I.InnerTable in
     let control = cells_of (rows_shown R.form (g.O.OtherColumns.others c.args.others.now c.args.rows.now) c.args.rows.now) in
-    let inner = cells_of (inner_table I.entry I.columns (g.I.InnerRows.is_inner c.args.inner c.args.now) (I.shown c.args.inner)) in
+    let inner = cells_of (inner_table T.entry T.columns (g.I.InnerRows.is_inner c.args.inner c.args.now) (g.I.InnerCells.shown c.args.inner)) in
     c.choose_nearer.ensures.next control inner c.args.name.now c.next_cell-control.ensures.next c.next_inner_cell-entry.ensures.next

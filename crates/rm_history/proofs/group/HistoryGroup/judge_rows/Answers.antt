@@ -3,7 +3,7 @@ use Rattle.rm_model.specs.ControlRows.{no_rows}
 use Rattle.rm_status.proofs.Judged.{judged_after}
 use Rattle.rm_history.specs.HistoryControl.{history_control}
 use Rattle.rm_history.specs.ControlColumns.{set_to}
-use Rattle.rm_history.proofs.Storage.{first_fine}
+use Rattle.rm_history.proofs.FineAlone.{first_fine}
 use Rattle.rm_history.proofs.group.HistoryGroup.judge_rows.Goals as goal
 
 pub judge_rows-requires : goal.judge_rows-requires

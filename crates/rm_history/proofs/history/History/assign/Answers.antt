@@ -4,7 +4,7 @@ use Rattle.rm_status.proofs.Committed.{IsCommitted, count_then}
 use Rattle.rm_status.proofs.Puts.{all_fine}
 use Rattle.rm_history.specs.HistoryControl.{history_control}
 use Rattle.rm_history.specs.ControlColumns.{control_rows}
-use Rattle.rm_history.proofs.Storage.{first_fine}
+use Rattle.rm_history.proofs.FineAlone.{first_fine}
 use Rattle.rm_history.proofs.InRange.{rows_in_range}
 use Rattle.rm_history.proofs.AfterSets.{all_fit_then, rows_with_set, histories_with_set}
 use Rattle.rm_history.proofs.history.History.assign.Goals as goal
