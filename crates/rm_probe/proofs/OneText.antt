@@ -1,32 +1,21 @@
 -- One text of the same frames and datagrams.
-use Rattle.std.proofs.Common.{◌≡◌, ◌⊎◌, inl, inr, ℕ, ◌-◌, Bool, true, List, [], ◌∷◌, ◌++◌, length, map, drop, Option, Some, None, refl, sym, ap, subst, ◌∙◌}
+use Rattle.std.proofs.Common.{◌≡◌, ◌⊎◌, inl, inr, ℕ, ◌-◌, true, List, [], ◌∷◌, ◌++◌, length, map, drop, Option, Some, None, refl, sym, ap, subst, ◌∙◌}
 use Rattle.std.specs.List.{slice_get}
 use Rattle.rm_model.specs.Journal.{Frame, Journal, passes}
 use Rattle.rm_pcap.specs.Records.{Stop}
-use Rattle.rm_pdu.specs.declared.kind.Kind.TheVariants.{Set}
 use Rattle.rm_pdu.specs.Message.{Message, message_octets}
 use Rattle.rm_pdu.specs.Parse.{Parse, message, IsParse}
 use Rattle.rm_agent.specs.declared.settings.Settings.{Settings}
 use Rattle.rm_agent.specs.declared.answer.Reason.{Reason}
 use Rattle.rm_agent.specs.Answers.{reason_for, IsReplyAfter}
-use Rattle.rm_reply.specs.Sets.{given_by}
-use Rattle.rm_agent.specs.Groups.{Reserves}
 use Rattle.rm_requests.specs.Lines.{TimedDatagram}
-use Rattle.rm_agent.specs.Advance.{Notification, IsAdvanced as AgentIsAdvanced}
 use Rattle.rm_probe.specs.Advance.{note_of, IsAdvanced}
 use Rattle.rm_probe.specs.Notes.{Note}
 use Rattle.rm_probe.specs.Said.{Response, Replied, Dropped, Said, Notified, Responded, Last, lines, stop_before}
+use Rattle.rm_probe.specs.Laws.{IsToldOnce, OneOfEach}
 use Rattle.rm_probe.specs.Events.{Event, Comes, Asks, events, events_by, frames_left}
 use Rattle.rm_probe.specs.Serving.{Arrival, IsServed, IsServedBy, requests_of}
 use Rattle.rm_probe.specs.Text.{IsAnswered, dropped, replied, AreSaid, ReservesNothing, AreWithoutChoice, Choice, AreSaidBy, IsText, IsTextBy}
-
--- octets are one thing, a request that is no SetRequest that reserves storage has one reply, and samples come in one way
-pub record OneOfEach (settings : Settings) : Type 0 where
-  pub parse : (requests : Bool) (bytes : List ℕ) (v w : Parse) → IsParse requests bytes v → IsParse requests bytes w → v ≡ w
-  pub reply : (journal : Journal) (now : ℕ) (request a b : Message) (after later : Journal) → (request.kind ≡ Set → (index : ℕ) → Reserves journal (given_by request.bindings) index → ⊥)
-      → IsReplyAfter settings journal now request a after → IsReplyAfter settings journal now request b later → (a ≡ b) × (after ≡ later)
-  pub advance : (to : ℕ) (journal : Journal) (sent others : List Notification) (after later : Journal) → AgentIsAdvanced settings to journal sent after → AgentIsAdvanced settings to journal others later
-      → (sent ≡ others) × (after ≡ later)
 
 module _ (settings : Settings) (one : OneOfEach settings) where
   -- samples have one list of notes, and leave one journal
@@ -98,23 +87,6 @@ module _ (settings : Settings) (one : OneOfEach settings) where
       let (nothing, others) = without notes ready advanced in
       (notes, response, rest, ready, after, advanced, answer, inl nothing, is, without_choice after es rest (others response after answer) are)
 
-  pub text_once : (frames : List Frame) (stop : Stop) (requests : List TimedDatagram) (choices : List Choice) (text other : List ℕ) → IsTextBy settings frames stop requests choices text → IsTextBy settings frames stop requests choices other → text ≡ other
-  text_once frames stop requests choices text other is is' =
-      is.whole ∙ ap (λ (said : List Said). lines (said ++ Last stop (length frames) (length requests) ∷ [])) (all_once [] (events 1 frames requests) choices is.before is'.before is.are_said is'.are_said) ∙ sym is'.whole
-
-  pub text_alone : (frames : List Frame) (stop : Stop) (requests : List TimedDatagram) (text : List ℕ) → AreWithoutChoice settings [] (events 1 frames requests) → IsText settings frames stop requests text → IsTextBy settings frames stop requests [] text
-  text_alone frames stop requests text without is =
-      record { before = is.is_run.before; are_said = without_choice [] (events 1 frames requests) is.is_run.before without is.is_run.are_said; whole = is.whole ∙ ap lines is.is_run.whole }
-
-  pub served_once : (frames : List Frame) (stop : Stop) (arrivals : List Arrival) (choices : List Choice) (said other : List Said) → IsServedBy settings frames stop arrivals choices said → IsServedBy settings frames stop arrivals choices other → said ≡ other
-  served_once frames stop arrivals choices said other is is' =
-      is.whole ∙ ap (λ (before : List Said). before ++ Last (stop_before (frames_left (requests_of arrivals) frames) stop) (length frames - length (frames_left (requests_of arrivals) frames)) (length arrivals) ∷ [])
-      (all_once [] (events_by 1 frames (requests_of arrivals)) choices is.before is'.before is.are_said is'.are_said) ∙ sym is'.whole
-
-  pub served_alone : (frames : List Frame) (stop : Stop) (arrivals : List Arrival) (said : List Said) → AreWithoutChoice settings [] (events_by 1 frames (requests_of arrivals)) → IsServed settings frames stop arrivals said → IsServedBy settings frames stop arrivals [] said
-  served_alone frames stop arrivals said without is =
-      record { before = is.before; are_said = without_choice [] (events_by 1 frames (requests_of arrivals)) is.before without is.are_said; whole = is.whole }
-
 -- the answers by which things are said
 said_by : (settings : Settings) (journal : Journal) (es : List Event) (said : List Said) → AreSaid settings journal es said → (choices : List Choice) × AreSaidBy settings journal es choices said
 unfolding AreSaid AreSaidBy
@@ -125,15 +97,41 @@ said_by settings journal (Asks number request ∷ es) said (notes, response, res
     let (choices, by) = said_by settings after es rest are in
     (record { response = response; after = after } ∷ choices, (notes, response, rest, ready, after, advanced, answer, inr refl, is, by))
 
--- each text is written by some answers
-pub text_by : (settings : Settings) (frames : List Frame) (stop : Stop) (requests : List TimedDatagram) (text : List ℕ) → IsText settings frames stop requests text
-    → (choices : List Choice) × IsTextBy settings frames stop requests choices text
-text_by settings frames stop requests text is =
-    let (choices, by) = said_by settings [] (events 1 frames requests) is.is_run.before is.is_run.are_said in
-    (choices, record { before = is.is_run.before; are_said = by; whole = is.whole ∙ ap lines is.is_run.whole })
+-- one thing is told of events, where it is made of what is said of them
+told_once : {T : Type 0} (settings : Settings) → OneOfEach settings → (es : List Event) (make : List Said → T) (IsTold : T → Type 0) (IsToldBy : List Choice → T → Type 0)
+    → ((told : T) → IsTold told → (said : List Said) × AreSaid settings [] es said × (told ≡ make said))
+    → ((choices : List Choice) (told : T) → IsToldBy choices told → (said : List Said) × AreSaidBy settings [] es choices said × (told ≡ make said))
+    → ((choices : List Choice) (told : T) (said : List Said) → AreSaidBy settings [] es choices said → told ≡ make said → IsToldBy choices told)
+    → IsToldOnce settings es IsTold IsToldBy
+told_once {T} settings one es make IsTold IsToldBy parts parts_by whole_by = record {
+  alone = λ without told other is is'. same [] told other (open_ended without told is) (open_ended without other is');
+  by_answers = same;
+  has_answers = λ told is.
+      let (said, are, whole) = parts told is in
+      let (choices, by) = said_by settings [] es said are in (choices, whole_by choices told said by whole);
+}
+  where
+    same : (choices : List Choice) (told other : T) → IsToldBy choices told → IsToldBy choices other → told ≡ other
+    same choices told other is is' =
+        let (said, are, whole) = parts_by choices told is in
+        let (said', are', whole') = parts_by choices other is' in
+        whole ∙ ap make (all_once settings one [] es choices said said' are are') ∙ sym whole'
 
-pub served_by : (settings : Settings) (frames : List Frame) (stop : Stop) (arrivals : List Arrival) (said : List Said) → IsServed settings frames stop arrivals said
-    → (choices : List Choice) × IsServedBy settings frames stop arrivals choices said
-served_by settings frames stop arrivals said is =
-    let (choices, by) = said_by settings [] (events_by 1 frames (requests_of arrivals)) is.before is.are_said in
-    (choices, record { before = is.before; are_said = by; whole = is.whole })
+    open_ended : AreWithoutChoice settings [] es → (told : T) → IsTold told → IsToldBy [] told
+    open_ended without told is =
+        let (said, are, whole) = parts told is in whole_by [] told said (without_choice settings one [] es said without are) whole
+
+pub text_once : (settings : Settings) → OneOfEach settings → (frames : List Frame) (stop : Stop) (requests : List TimedDatagram)
+    → IsToldOnce settings (events 1 frames requests) (IsText settings frames stop requests) (IsTextBy settings frames stop requests)
+text_once settings one frames stop requests =
+    told_once settings one (events 1 frames requests) (λ (before : List Said). lines (before ++ Last stop (length frames) (length requests) ∷ [])) (IsText settings frames stop requests) (IsTextBy settings frames stop requests)
+    (λ text is. (is.is_run.before, is.is_run.are_said, is.whole ∙ ap lines is.is_run.whole)) (λ choices text is. (is.before, is.are_said, is.whole))
+    (λ choices text before are whole. record { before = before; are_said = are; whole = whole })
+
+pub served_once : (settings : Settings) → OneOfEach settings → (frames : List Frame) (stop : Stop) (arrivals : List Arrival)
+    → IsToldOnce settings (events_by 1 frames (requests_of arrivals)) (IsServed settings frames stop arrivals) (IsServedBy settings frames stop arrivals)
+served_once settings one frames stop arrivals =
+    told_once settings one (events_by 1 frames (requests_of arrivals))
+    (λ (before : List Said). before ++ Last (stop_before (frames_left (requests_of arrivals) frames) stop) (length frames - length (frames_left (requests_of arrivals) frames)) (length arrivals) ∷ [])
+    (IsServed settings frames stop arrivals) (IsServedBy settings frames stop arrivals) (λ said is. (is.before, is.are_said, is.whole)) (λ choices said is. (is.before, is.are_said, is.whole))
+    (λ choices said before are whole. record { before = before; are_said = are; whole = whole })

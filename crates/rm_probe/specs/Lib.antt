@@ -5,6 +5,7 @@ pub mod Notes
 pub mod Said
 pub mod Advance
 pub mod Text
+pub mod Laws
 pub mod Post
 pub mod Output
 pub mod Probe

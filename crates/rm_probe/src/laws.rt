@@ -1,5 +1,5 @@
 // Laws of what a run writes. The bodies cite the laws of datagrams, replies and samples, and do nothing else.
-ghost use Rattle.std.specs.Prelude.{◌≡◌, ℕ, List, []};
+ghost use Rattle.std.specs.Prelude.{List};
 ghost use Rattle.rm_model.specs.Journal.{Frame, Journal};
 ghost use Rattle.rm_pcap.specs.Records.{Stop};
 ghost use Rattle.rm_agent.specs.declared.settings.Settings.{Settings};
@@ -8,7 +8,8 @@ ghost use Rattle.rm_requests.specs.Lines.{TimedDatagram};
 ghost use Rattle.rm_probe.specs.Events.{Event, events, events_by};
 ghost use Rattle.rm_probe.specs.Serving.{Arrival, IsServed, IsServedBy, requests_of};
 ghost use Rattle.rm_probe.specs.Said.{Said};
-ghost use Rattle.rm_probe.specs.Text.{AreSaid, AreWithoutChoice, Choice, IsText, IsTextBy};
+ghost use Rattle.rm_probe.specs.Laws.{IsToldOnce, OneOfEach};
+ghost use Rattle.rm_probe.specs.Text.{AreSaid, IsText, IsTextBy};
 
 use rm_agent::{
     advance_is_orderly, every_advance, every_reply, frame_is_orderly, one_advance, one_reply,
@@ -16,61 +17,32 @@ use rm_agent::{
 };
 use rm_pdu::{every_parse, one_parse};
 
-/// A law: of the same frames and datagrams there is one text, where none of the SetRequests among them reserves storage.
+/// A law: of the same frames and datagrams there is one text with the same answers to the SetRequests that reserve storage, and one in all
+/// where none of them does. Each text is written with some answers.
 pub fn one_text()
-    ensures { (settings : Settings) (frames : List Frame) (stop : Stop) (requests : List TimedDatagram) (text other : List ℕ)
-        → AreWithoutChoice settings [] (events 1 frames requests) → IsText settings frames stop requests text
-        → IsText settings frames stop requests other → text ≡ other }
+    ensures { (settings : Settings) (frames : List Frame) (stop : Stop) (requests : List TimedDatagram)
+        → IsToldOnce settings (events 1 frames requests) (IsText settings frames stop requests) (IsTextBy settings frames stop requests) }
 {
-    one_parse();
-    one_reply();
-    one_advance();
+    one_of_each();
 }
 
-/// A law: of the same frames and datagrams there is one text with the same answers to the SetRequests that reserve storage.
-pub fn one_text_by_answers()
-    ensures { (settings : Settings) (frames : List Frame) (stop : Stop) (requests : List TimedDatagram) (choices : List Choice) (text other : List ℕ)
-        → IsTextBy settings frames stop requests choices text → IsTextBy settings frames stop requests choices other → text ≡ other }
-{
-    one_parse();
-    one_reply();
-    one_advance();
-}
-
-/// A law: each text is written with some answers.
-pub fn every_text_has_answers()
-    ensures { (settings : Settings) (frames : List Frame) (stop : Stop) (requests : List TimedDatagram) (text : List ℕ) → IsText settings frames stop requests text
-        → (choices : List Choice) × IsTextBy settings frames stop requests choices text }
-{}
-
-/// A law: of the same frames and the same datagrams that came one thing is said by a run that serves, where none of the SetRequests among
-/// them reserves storage.
+/// A law: of the same frames and the same datagrams that came one thing is said by a run that serves with the same answers to the SetRequests
+/// that reserve storage, and one in all where none of them does. All that may be said is said with some answers.
 pub fn one_served()
-    ensures { (settings : Settings) (frames : List Frame) (stop : Stop) (arrivals : List Arrival) (said other : List Said)
-        → AreWithoutChoice settings [] (events_by 1 frames (requests_of arrivals)) → IsServed settings frames stop arrivals said
-        → IsServed settings frames stop arrivals other → said ≡ other }
+    ensures { (settings : Settings) (frames : List Frame) (stop : Stop) (arrivals : List Arrival)
+        → IsToldOnce settings (events_by 1 frames (requests_of arrivals)) (IsServed settings frames stop arrivals) (IsServedBy settings frames stop arrivals) }
+{
+    one_of_each();
+}
+
+// A law: there is one of each thing of which a run is made.
+fn one_of_each()
+    ensures { (settings : Settings) → OneOfEach settings }
 {
     one_parse();
     one_reply();
     one_advance();
 }
-
-/// A law: of the same frames and the same datagrams that came one thing is said with the same answers to the SetRequests that reserve
-/// storage.
-pub fn one_served_by_answers()
-    ensures { (settings : Settings) (frames : List Frame) (stop : Stop) (arrivals : List Arrival) (choices : List Choice) (said other : List Said)
-        → IsServedBy settings frames stop arrivals choices said → IsServedBy settings frames stop arrivals choices other → said ≡ other }
-{
-    one_parse();
-    one_reply();
-    one_advance();
-}
-
-/// A law: all that a run that serves may say is said with some answers.
-pub fn every_served_has_answers()
-    ensures { (settings : Settings) (frames : List Frame) (stop : Stop) (arrivals : List Arrival) (said : List Said) → IsServed settings frames stop arrivals said
-        → (choices : List Choice) × IsServedBy settings frames stop arrivals choices said }
-{}
 
 /// A law: from an orderly journal on, something may be said of all events.
 pub(crate) fn something_said()

@@ -19,10 +19,7 @@ mod status;
 mod tests;
 
 pub use entry::replay;
-pub use laws::{
-    every_served_has_answers, every_text_has_answers, one_served, one_served_by_answers, one_text,
-    one_text_by_answers,
-};
+pub use laws::{one_served, one_text};
 pub use notes::Notes;
 pub use output::{Output, OutputFault};
 pub use post::{Addressee, Post, Posted, Unsent};

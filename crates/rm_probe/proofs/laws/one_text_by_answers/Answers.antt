@@ -1,5 +1,0 @@
-use Rattle.rm_probe.proofs.OneText.{text_once}
-use Rattle.rm_probe.proofs.laws.one_text_by_answers.Goals as goal
-
-pub returns : goal.returns
-returns c settings = text_once settings (record { parse = c.one_parse.ensures; reply = c.one_reply.ensures settings; advance = c.one_advance.ensures settings })
