@@ -8,7 +8,7 @@ use Rattle.rm_edge.specs.Link.{Datagram, Receives}
 use Rattle.rm_edge.specs.declared.outside.link.Peer.{Peer}
 use Rattle.rm_probe.specs.Serving.{Arrival, HaveCome, TellsAll, received_of, rising}
 use Rattle.rm_probe.specs.Turns.{ReceivesOne, last_of, room}
-use Rattle.rm_probe.proofs.OutputLemmas.{adds_then}
+use Rattle.rm_probe.proofs.OutputLemmas.{adds_same, adds_then}
 
 tells_none : (told : Option (List ℕ)) → TellsAll told told []
 tells_none None = tt
@@ -30,13 +30,10 @@ pub none_come : (received received' : Option (List Datagram)) (told : Option (Li
 unfolding rising
 none_come received received' told last adds = record { came = adds; moments = []; tells = tells_none told; rises = refl }
 
-none_received : {E : Type 0} (old new : Option (List Datagram)) (into : List ℕ) (e : E) → Receives old new into (Err e) → Adds old new []
-none_received None new into e receives = tt
-none_received (Some old) new into e receives = receives ∙ ap (λ (l : List Datagram). Some l) (sym (append-nil old))
-
 -- a receive that failed
 pub none_comes : {E : Type 0} (old new : Option (List Datagram)) (told : Option (List ℕ)) (last : ℕ) (into : List ℕ) (e : E) → Receives old new into (Err e) → HaveCome old new told told last []
-none_comes old new told last into e receives = none_come old new told last (none_received old new into e receives)
+none_comes None new told last into e receives = none_come None new told last tt
+none_comes (Some old) new told last into e receives = none_come (Some old) new told last (adds_same (Some old) new receives)
 
 -- the octets of a front are those of the whole
 take_front : (count : ℕ) (into : List ℕ) → take count into ≡ take count (take count into)

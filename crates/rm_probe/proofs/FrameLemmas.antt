@@ -3,13 +3,12 @@ use Rattle.std.proofs.Common.{◌≡◌, ℕ, suc, ◌+◌, ◌<◌, ◌≤◌, 
 use Rattle.std.specs.Prelude.{⊤}
 use Rattle.std.specs.List.{prefix_len}
 use Rattle.std.proofs.lemmas.List.{append-nil}
-use mathlib.Core.List.{map-append}
 use Rattle.std.proofs.lemmas.Bool.Decides.{nat_tests}
 use Rattle.rm_edge.specs.Outside.{Held, File}
 use Rattle.rm_model.specs.Journal.{Frame, Journal, passes}
 use Rattle.rm_pcap.specs.Records.{Stop, Broken, Found, Whole, Stops as StopsAt}
 use Rattle.rm_pcap.specs.Progress.{Progress, next_in, moment_found, passing, Shows, frame_of, IsLawfulFind}
-use Rattle.rm_pcap.specs.Calls.{Looks, Passes, Fails, IsBroken}
+use Rattle.rm_pcap.specs.Calls.{Looks, Passes, Fails}
 use Rattle.rm_pcap.specs.declared.frame.Frame.{Frame as Lent}
 use Rattle.rm_pcap.specs.declared.frame.Step.TheVariants.{Next}
 use Rattle.rm_pcap.specs.declared.fault.PcapFault.{PcapFault}
@@ -19,9 +18,10 @@ use Rattle.rm_agent.specs.declared.settings.Settings.{Settings}
 use Rattle.rm_probe.specs.Advance.{IsAdvanced}
 use Rattle.rm_probe.specs.Events.{is_by, frames_after}
 use Rattle.rm_probe.specs.Probe.{settings_of, last_given, frames_given, Stands}
-use Rattle.rm_probe.specs.Steps.{ArePassing, HasBegun, Advanced, Advances, IsNotBefore, Keeps, Leaves}
+use Rattle.rm_probe.specs.Capture.{status_of}
+use Rattle.rm_probe.specs.Steps.{ArePassing, HasBegun, Advanced, IsNotBefore, IsOfCapture, Keeps, Leaves, SaysNext}
 use Rattle.rm_probe.specs.Notes.{Note}
-use Rattle.rm_probe.specs.Said.{Said, Notified, Sent}
+use Rattle.rm_probe.specs.Said.{Said, Notified, SaysMore}
 use Rattle.rm_probe.specs.declared.probe.Probe.{Probe}
 use Rattle.rm_probe.proofs.PassingLemmas.{passing_more}
 use Rattle.rm_probe.proofs.RecordLemmas.{leaves_looking, leaves_passing, leaves_first, leaves_none}
@@ -44,7 +44,7 @@ passed_none settings moment bytes progress probe frames stop journal left stands
     record { passed = []; left = frames; reached = journal; passing = (refl, refl); leaves = left; stands = stands; taken = refl; after = refl; count = refl }
 
 -- so far some have passed
-has_begun : (settings : Settings) (moment : ℕ) (bytes : List ℕ) (progress : Progress) (probe : Probe) (before : ℕ) (frames : List Frame) (stop : Stop) (journal : Journal) (notes : List Note)
+pub has_begun : (settings : Settings) (moment : ℕ) (bytes : List ℕ) (progress : Progress) (probe : Probe) (before : ℕ) (frames : List Frame) (stop : Stop) (journal : Journal) (notes : List Note)
     → Passed settings moment bytes progress probe before frames stop journal notes → HasBegun settings moment frames journal notes
 has_begun settings moment bytes progress probe before frames stop journal notes p =
     record { passed = p.passed; left = p.left; reached = p.reached; passing = p.passing; taken = p.taken; orderly = p.stands.orderly }
@@ -171,27 +171,37 @@ passed_found settings m held held' bytes old looked new probe probe' before fram
     passed_one settings m held' bytes looked new probe probe' before frames stop journal notes more passed after (same ∙ is) found_so (omega (arith, moment, early))
     (subst (λ (f : Frame). LetsPass settings probe probe' f more) (sym shows) counted) q
 
--- a fault other than of a read is how the records stop
-pub broken : (held : Held) (bytes : List ℕ) (progress : Progress) (left : List Frame) (stop : Stop) (fault : PcapFault) → (fault ≡ Read → ⊥) → held ≡ File bytes
-    → IsBroken held progress.form progress.lead progress.reach progress.read fault → Leaves progress bytes left stop → stop ≡ Broken fault
-broken held bytes progress left stop fault other is (inl e) leaves = absurd (other e)
-broken held bytes progress left stop fault other is (inr breaks) leaves =
-    (leaves_none progress bytes left stop (Broken fault) (sym (breaks.stands bytes is leaves.agrees.read)) leaves).stop_is
+-- The capture has a fault where it is now. A read failed, after some notifications, or the records stop with that fault.
+module _ (held : Held) (bytes : List ℕ) (progress : Progress) (left : List Frame) (stop : Stop) (is : held ≡ File bytes) (leaves : Leaves progress bytes left stop) where
+  stopped : (fault : PcapFault) → (fault ≡ Read → ⊥) → Fails held progress fault → stop ≡ Broken fault
+  stopped fault other fails = elim fails.cause [
+    | inl e ↦ absurd (other e)
+    | inr breaks ↦ (leaves_none progress bytes left stop (Broken fault) (sym (breaks.stands bytes is leaves.agrees.read)) leaves).stop_is
+  ]
 
--- the capture has a fault where it is now
-pub advances_fault : (m : ℕ) (held : Held) (bytes : List ℕ) (old now new : Progress) (probe probe' probe'' : Probe) (notes : List Note) (fault : PcapFault) → held ≡ File bytes → Fails held now fault
-    → ((frames : List Frame) (stop : Stop) (journal : Journal) → Leaves old bytes frames stop → Stands probe journal → Passed (settings_of probe) m bytes now probe' old.reach.count frames stop journal notes)
-    → Advances {T = Unit {0}} m bytes old new probe probe'' notes (Err fault)
-advances_fault m held bytes old now new probe probe' probe'' notes Read is fails p = λ frames stop journal left stands.
-    has_begun (settings_of probe) m bytes now probe' old.reach.count frames stop journal notes (p frames stop journal left stands)
-advances_fault m held bytes old now new probe probe' probe'' notes Magic is fails p = λ frames stop journal left stands. let q = p frames stop journal left stands in broken held bytes now q.left stop Magic (λ e. cc) is fails.cause q.leaves
-advances_fault m held bytes old now new probe probe' probe'' notes Version is fails p = λ frames stop journal left stands. let q = p frames stop journal left stands in broken held bytes now q.left stop Version (λ e. cc) is fails.cause q.leaves
-advances_fault m held bytes old now new probe probe' probe'' notes LinkType is fails p = λ frames stop journal left stands. let q = p frames stop journal left stands in broken held bytes now q.left stop LinkType (λ e. cc) is fails.cause q.leaves
-advances_fault m held bytes old now new probe probe' probe'' notes (Included at) is fails p = λ frames stop journal left stands. let q = p frames stop journal left stands in broken held bytes now q.left stop (Included at) (λ e. cc) is fails.cause q.leaves
-advances_fault m held bytes old now new probe probe' probe'' notes (Original at) is fails p = λ frames stop journal left stands. let q = p frames stop journal left stands in broken held bytes now q.left stop (Original at) (λ e. cc) is fails.cause q.leaves
-advances_fault m held bytes old now new probe probe' probe'' notes (Late at) is fails p = λ frames stop journal left stands. let q = p frames stop journal left stands in broken held bytes now q.left stop (Late at) (λ e. cc) is fails.cause q.leaves
-advances_fault m held bytes old now new probe probe' probe'' notes TooMany is fails p = λ frames stop journal left stands. let q = p frames stop journal left stands in broken held bytes now q.left stop TooMany (λ e. cc) is fails.cause q.leaves
-advances_fault m held bytes old now new probe probe' probe'' notes NoMemory is fails p = λ frames stop journal left stands. let q = p frames stop journal left stands in broken held bytes now q.left stop NoMemory (λ e. cc) is fails.cause q.leaves
+  pub fault_says : (IsNext : List Said → Type 0) (IsBegun : List Note → Type 0) (notes : List Note) (fault : PcapFault) → Fails held progress fault → IsBegun notes
+      → SaysNext {T = Unit {0}} IsNext IsBegun stop (map Notified notes) (Err (status_of fault))
+  fault_says IsNext IsBegun notes Read fails begun = (notes, begun, refl)
+  fault_says IsNext IsBegun notes Magic fails begun = (Magic, stopped Magic (λ e. cc) fails, refl)
+  fault_says IsNext IsBegun notes Version fails begun = (Version, stopped Version (λ e. cc) fails, refl)
+  fault_says IsNext IsBegun notes LinkType fails begun = (LinkType, stopped LinkType (λ e. cc) fails, refl)
+  fault_says IsNext IsBegun notes (Included at) fails begun = (Included at, stopped (Included at) (λ e. cc) fails, refl)
+  fault_says IsNext IsBegun notes (Original at) fails begun = (Original at, stopped (Original at) (λ e. cc) fails, refl)
+  fault_says IsNext IsBegun notes (Late at) fails begun = (Late at, stopped (Late at) (λ e. cc) fails, refl)
+  fault_says IsNext IsBegun notes TooMany fails begun = (TooMany, stopped TooMany (λ e. cc) fails, refl)
+  fault_says IsNext IsBegun notes NoMemory fails begun = (NoMemory, stopped NoMemory (λ e. cc) fails, refl)
+
+-- a step of the capture fails by a record or a read
+pub of_capture : (held : Held) (progress : Progress) (fault : PcapFault) → Fails held progress fault → IsOfCapture (status_of fault)
+of_capture held progress Read fails = tt
+of_capture held progress (Included at) fails = tt
+of_capture held progress (Original at) fails = tt
+of_capture held progress (Late at) fails = tt
+of_capture held progress TooMany fails = tt
+of_capture held progress Magic fails = tt
+of_capture held progress Version fails = tt
+of_capture held progress LinkType fails = tt
+of_capture held progress NoMemory fails = elim fails.cause [ inl e ↦ absurd cc | inr breaks ↦ breaks.place ]
 
 -- what stands next isn't before the last moment given, where a look found it
 pub keeps_looking : (held : Held) (moment : ℕ) (probe : Probe) (old new : Progress) (found : Found) → Looks held old new found → Keeps moment probe old → Keeps moment probe new
@@ -244,17 +254,8 @@ pub record Advancing {F N : Type 0} (held : F → List ℕ → Held) (faults : F
   pub quiet : (each : List ℕ) → faults now each ≡ faults first each
   pub settings : settings_of probe' ≡ settings_of probe
   pub more : List Note
-  pub sent : Sent since notes notes' more
+  pub noted : SaysMore since notes notes' (map Notified more)
   pub early : last_given probe' ≤ moment
   pub keeps : Keeps (last_given probe') probe' progress
   pub passed : (bytes : List ℕ) → held first name ≡ File bytes → (frames : List Frame) (stop : Stop) (journal : Journal) → Leaves old bytes frames stop → Stands probe journal
       → Passed (settings_of probe) moment bytes progress probe' old.reach.count frames stop journal more
-
--- notifications, and then others
-pub sent_more : {N : Type 0} (since : N → N → List Said → Type 0) (old mid new : N) (notes more : List Note) → Sent since old mid notes → Sent since mid new more → Sent since old new (notes ++ more)
-sent_more since old mid new notes more first second = λ start said is.
-    subst (λ (all : List Said). since start new all) (append_assoc said (map Notified notes) (map Notified more) ∙ ap (λ (all : List Said). said ++ all) (sym (map-append Notified notes more)))
-    (second start (said ++ map Notified notes) (first start said is))
-
-pub sent_none : {N : Type 0} (since : N → N → List Said → Type 0) (state : N) → Sent since state state []
-sent_none since state = λ start said is. subst (λ (all : List Said). since start state all) (sym (append-nil said)) is

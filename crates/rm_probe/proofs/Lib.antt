@@ -1,4 +1,5 @@
 pub mod RecordLemmas
+pub mod SayingLemmas
 pub mod PassingLemmas
 pub mod SampleLemmas
 pub mod JudgeLemmas

@@ -1,13 +1,18 @@
--- Octets that are put and messages that are sent, one after the other.
-use Rattle.std.proofs.Common.{◌≡◌, ◌⊎◌, inl, inr, ℕ, ◌+◌, min, List, [], ◌++◌, take, length, Option, Some, None, Result, Ok, Err, refl, sym, ap, subst, ◌∙◌, arith, append_assoc}
-use Rattle.std.proofs.lemmas.List.{take-append-le, take_all}
+-- Octets that are put and messages that are sent, one after the other, and what an output has said by them.
+use Rattle.std.proofs.Common.{◌≡◌, ◌⊎◌, inl, inr, ℕ, ◌+◌, min, List, [], ◌∷◌, ◌++◌, take, length, Option, Some, None, Result, Ok, Err, refl, sym, ap, subst, ◌∙◌, arith, append_assoc}
+use Rattle.std.proofs.lemmas.Grind.{flat_map-append}
+use Rattle.std.proofs.lemmas.List.{append-nil, take-append-le, take_all}
 use Rattle.std.proofs.Math.Seq.{take-append-add, take-length}
 use Rattle.std.proofs.lemmas.Bool.{cases_lt}
 use Rattle.rm_edge.specs.Outside.{Adds, AddsFront, Puts, Rose, HasCause}
-use Rattle.rm_edge.specs.Link.{Datagram}
+use Rattle.rm_edge.specs.Link.{Datagram, Stays}
+use Rattle.rm_edge.specs.declared.outside.link.Peer.{Peer}
 use Rattle.rm_probe.specs.declared.output.OutputFault.{OutputFault}
 use Rattle.rm_probe.specs.declared.output.OutputFault.TheVariants.{Put, Send}
-use Rattle.rm_probe.specs.Output.{Shown, HasGrown, HasAdded, adds_none}
+use Rattle.rm_probe.specs.declared.post.Addressee.{Addressee}
+use Rattle.rm_probe.specs.declared.post.Addressee.TheVariants.{Manager, Asking}
+use Rattle.rm_probe.specs.Output.{Shown, HasGrown, HasAdded, IsSaidFront, Says, TellsInOrder, adds_none, front_none, nothing_added}
+use Rattle.rm_probe.specs.Said.{Said, line_of, lines, messages, messages_of}
 
 -- what failed last after a call of a kind
 abbrev pub fault_after : {E : Type 0} → OutputFault → Result (Unit {0}) E → Option OutputFault
@@ -15,6 +20,14 @@ fault_after kind (Ok done) = None
 fault_after kind (Err e) = Some kind
 
 module _ {A : Type 0} where
+  -- nothing was added to what is the same
+  pub adds_same : (old new : Option (List A)) → new ≡ old → Adds old new []
+  adds_same old new same = subst (λ (held : Option (List A)). Adds old held []) (sym same) (adds_none old)
+
+  pub stays_adds : (old new : Option (List A)) → Stays old new → Adds old new []
+  stays_adds None new stays = tt
+  stays_adds (Some items) new stays = adds_same (Some items) new stays
+
   pub adds_then : (a b c : Option (List A)) (x y : List A) → Adds a b x → Adds b c y → Adds a c (x ++ y)
   adds_then None b c x y p q = tt
   adds_then (Some old) b c x y p q =
@@ -69,8 +82,8 @@ module _ {A : Type 0} where
     grown_still : (a b : Option (List A)) (before after : ℕ) (failed failed' : Option OutputFault) → failed ≡ None → b ≡ a → after ≡ before → (failed' ≡ Some kind → ⊥)
         → HasGrown kind a b before after failed failed' []
     grown_still a b before after failed failed' none same count other = record {
-      whole = λ _. subst (λ (o : Option (List A)). Adds a o []) (sym same) (adds_none a);
-      front = (0, subst (λ (o : Option (List A)). Adds a o []) (sym same) (adds_none a));
+      whole = λ _. adds_same a b same;
+      front = (0, adds_same a b same);
       later = omega (arith, count);
       cause = λ e. absurd (other e);
       stays = λ fault e. same;
@@ -150,3 +163,123 @@ failed_adds state text sent fault is = record {
   sends = grown_failed Send state.sent state.sends state.failed sent fault is;
   stays = λ other e. e;
 }
+
+pub more_lines : (said more : List Said) → lines (said ++ more) ≡ lines said ++ lines more
+more_lines said more = flat_map-append line_of said more
+
+pub more_messages : (managers : List Peer) (asking : ℕ → List Peer) (said more : List Said) → messages managers asking (said ++ more) ≡ messages managers asking said ++ messages managers asking more
+more_messages managers asking said more = flat_map-append (messages_of managers asking) said more
+
+-- some things were added, and then others
+pub added_more : (managers : List Peer) (asking : ℕ → List Peer) (a b c : Shown) (said more : List Said) → HasAdded a b (lines said) (messages managers asking said) → HasAdded b c (lines more) (messages managers asking more)
+    → HasAdded a c (lines (said ++ more)) (messages managers asking (said ++ more))
+added_more managers asking a b c said more first then =
+    rw (more_lines said more, more_messages managers asking said more) (added_then a b c (lines said) (lines more) (messages managers asking said) (messages managers asking more) first then)
+
+-- one thing, by its line and its messages
+pub one_said : (managers : List Peer) (asking : ℕ → List Peer) (old new : Shown) (one : Said) → HasAdded old new (line_of one) (messages_of managers asking one)
+    → HasAdded old new (lines (one ∷ [])) (messages managers asking (one ∷ []))
+one_said managers asking old new one added = rw (append-nil (line_of one), append-nil (messages_of managers asking one)) added
+
+-- one thing told in order is a front of it
+pub one_front : (managers : List Peer) (asking : ℕ → List Peer) (old new : Shown) (one : Said) → TellsInOrder old new (line_of one) (messages_of managers asking one)
+    → IsSaidFront managers asking old.content new.content old.sent new.sent (one ∷ [])
+one_front managers asking old new one (inl ((n, front), same)) = record {
+  written = [];
+  rest = one ∷ [];
+  split = refl;
+  puts = (n, subst (λ (line : List ℕ). Adds old.content new.content (take n line)) (sym (append-nil (line_of one))) front);
+  sends = (0, adds_same old.sent new.sent same);
+}
+one_front managers asking old new one (inr (whole, front)) = record {
+  written = one ∷ [];
+  rest = [];
+  split = refl;
+  puts = (0, subst (λ (line : List ℕ). Adds old.content new.content line) (sym (append-nil (line_of one ++ []) ∙ append-nil (line_of one))) whole);
+  sends = subst (λ (all : List Datagram). AddsFront old.sent new.sent all) (sym (append-nil (messages_of managers asking one))) front;
+}
+
+-- a front is one of more that is said
+pub front_longer : (managers : List Peer) (asking : ℕ → List Peer) (a b : Option (List ℕ)) (s t : Option (List Datagram)) (said more : List Said) → IsSaidFront managers asking a b s t said → IsSaidFront managers asking a b s t (said ++ more)
+front_longer managers asking a b s t said more front =
+    let (n, put) = front.puts in
+    let (k, same) = take_longer n (lines front.rest) (lines more) in
+    let longer : take n (lines front.rest) ≡ take k (lines (front.rest ++ more)) = sym same ∙ ap (take k) (sym (more_lines front.rest more)) in
+    record {
+      written = front.written;
+      rest = front.rest ++ more;
+      split = ap (λ (l : List Said). l ++ more) front.split ∙ append_assoc front.written front.rest more;
+      puts = (k, subst (λ (l : List ℕ). Adds a b (lines front.written ++ l)) longer put);
+      sends = front.sends;
+    }
+
+-- what was said whole, and then a front
+pub said_then_front : (managers : List Peer) (asking : ℕ → List Peer) (a b c : Option (List ℕ)) (s t u : Option (List Datagram)) (said more : List Said) → Adds a b (lines said) → Adds s t (messages managers asking said)
+    → IsSaidFront managers asking b c t u more → IsSaidFront managers asking a c s u (said ++ more)
+said_then_front managers asking a b c s t u said more put sent front =
+    let (n, puts) = front.puts in
+    record {
+      written = said ++ front.written;
+      rest = front.rest;
+      split = ap (λ (l : List Said). said ++ l) front.split ∙ sym (append_assoc said front.written front.rest);
+      puts = (
+        n,
+        subst (λ (l : List ℕ). Adds a c l) (sym (append_assoc (lines said) (lines front.written) (take n (lines front.rest))) ∙ ap (λ (l : List ℕ). l ++ take n (lines front.rest)) (sym (more_lines said front.written)))
+            (adds_then a b c (lines said) (lines front.written ++ take n (lines front.rest)) put puts),
+      );
+      sends = subst (λ (l : List Datagram). AddsFront s u l) (sym (more_messages managers asking said front.written))
+          (front_then s t u (messages managers asking said) (messages managers asking front.written) sent front.sends);
+    }
+
+-- a front, and then more, of which nothing was put or sent where a call had failed
+fronts_more : (managers : List Peer) (asking : ℕ → List Peer) (a b c : Shown) (said more : List Said) → HasAdded a b (lines said) (messages managers asking said) → HasAdded b c (lines more) (messages managers asking more)
+    → IsSaidFront managers asking a.content b.content a.sent b.sent said → (b.failed ≡ None → IsSaidFront managers asking b.content c.content b.sent c.sent more) → IsSaidFront managers asking a.content c.content a.sent c.sent (said ++ more)
+fronts_more managers asking a b c said more one two first then = by_failed b.failed refl
+  where
+    by_failed : (failed : Option OutputFault) → b.failed ≡ failed → IsSaidFront managers asking a.content c.content a.sent c.sent (said ++ more)
+    by_failed None well = said_then_front managers asking a.content b.content c.content a.sent b.sent c.sent said more (one.puts.whole well) (one.sends.whole well) (then well)
+    by_failed (Some fault) is =
+        subst (λ (content : Option (List ℕ)). IsSaidFront managers asking a.content content a.sent c.sent (said ++ more)) (sym (two.puts.stays fault is))
+        (subst (λ (sent : Option (List Datagram)). IsSaidFront managers asking a.content b.content a.sent sent (said ++ more)) (sym (two.sends.stays fault is)) (front_longer managers asking a.content b.content a.sent b.sent said more first))
+
+module _ {P : Type 0} (peers : P → Addressee → List Peer) (same : P → P → Type 0) where
+  -- an output has said nothing
+  pub says_none : ((post : P) → same post post) → (post : P) (state : Shown) → Says peers same post post state state []
+  says_none still post state = record {
+    still = still post;
+    adds = nothing_added state;
+    order = λ none. front_none (peers post Manager) (λ (number : ℕ). peers post Asking) state.content state.sent;
+  }
+
+  -- an output has said some things, and then others
+  pub says_then : ((a b c : P) → same a b → same b c → same a c) → ((a b : P) → same a b → peers b ≡ peers a) → (p q r : P) (a b c : Shown) (said more : List Said)
+      → Says peers same p q a b said → Says peers same q r b c more → Says peers same p r a c (said ++ more)
+  says_then onward kept p q r a b c said more one two = record {
+    still = onward p q r one.still two.still;
+    adds = added_more (peers p Manager) (λ (number : ℕ). peers p Asking) a b c said more one.adds later_adds;
+    order = λ none. fronts_more (peers p Manager) (λ (number : ℕ). peers p Asking) a b c said more one.adds later_adds (one.order none)
+        (λ well. subst (λ (who : Addressee → List Peer). IsSaidFront (who Manager) (λ (number : ℕ). who Asking) b.content c.content b.sent c.sent more) (kept p q one.still) (two.order well));
+  }
+    where
+      later_adds : HasAdded b c (lines more) (messages (peers p Manager) (λ (number : ℕ). peers p Asking) more)
+      later_adds = subst (λ (who : Addressee → List Peer). HasAdded b c (lines more) (messages (who Manager) (λ (number : ℕ). who Asking) more)) (kept p q one.still) two.adds
+
+  -- an output that is the same one has said one thing more
+  module _ {Name : Type 0} (still : (post : P) → same post post) (onward : (a b c : P) → same a b → same b c → same a c) (kept : (a b : P) → same a b → peers b ≡ peers a) (i j n : Name) (p q r : P) (a b c : Shown)
+      (said : List Said) (before : (j ≡ i) × Says peers same p q a b said) (one : Said) (named : n ≡ j) where
+    pub says_one : same q r → HasAdded b c (line_of one) (messages_of (peers q Manager) (λ (number : ℕ). peers q Asking) one)
+        → (b.failed ≡ None → TellsInOrder b c (line_of one) (messages_of (peers q Manager) (λ (number : ℕ). peers q Asking) one)) → (n ≡ i) × Says peers same p r a c (said ++ one ∷ [])
+    says_one alike added order = (
+      named ∙ before.0,
+      says_then onward kept p q r a b c said (one ∷ []) before.1
+          (record {
+            still = alike;
+            adds = one_said (peers q Manager) (λ (number : ℕ). peers q Asking) b c one added;
+            order = λ none. one_front (peers q Manager) (λ (number : ℕ). peers q Asking) b c one (order none);
+          }),
+    )
+
+    -- which no message tells
+    pub says_put : messages_of (peers q Manager) (λ (number : ℕ). peers q Asking) one ≡ [] → r ≡ q → c.sent ≡ b.sent → HasAdded b c (line_of one) [] → (n ≡ i) × Says peers same p r a c (said ++ one ∷ [])
+    says_put untold is unsent added =
+        says_one (subst (λ (post : P). same q post) (sym is) (still q)) (subst (λ (ms : List Datagram). HasAdded b c (line_of one) ms) (sym untold) added) (λ none. inl (added.puts.front, unsent))

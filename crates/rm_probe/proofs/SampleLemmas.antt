@@ -10,7 +10,7 @@ use Rattle.rm_agent.specs.Agent.{sample_of, IsWritten}
 use Rattle.rm_agent.specs.Advance.{sent_at, notifications_of, none_due, one_due}
 use Rattle.rm_probe.specs.Advance.{note_of, notes_of, IsAdvanced}
 use Rattle.rm_probe.specs.Notes.{Note}
-use Rattle.rm_probe.specs.Said.{Said, Sent}
+use Rattle.rm_probe.specs.Said.{Said, Notified, SaysMore}
 use Rattle.rm_probe.specs.Probe.{settings_of, last_given, frames_given, Stands}
 use Rattle.rm_probe.specs.declared.probe.Probe.{Probe}
 
@@ -51,7 +51,7 @@ pub record Sampling {N : Type 0} (since : N → N → List Said → Type 0) (not
   pub last : last_given probe' ≤ to
   pub frames : frames_given probe' ≡ frames_given probe
   pub more : List Note
-  pub sent : Sent since notes notes' more
+  pub noted : SaysMore since notes notes' (map Notified more)
   pub goes : (journal : Journal) → Stands probe journal
       → (reached : Journal) × Stands probe' reached × ((later : List Note) (after : Journal) → IsAdvanced (settings_of probe) to reached later after → IsAdvanced (settings_of probe) to journal (more ++ later) after)
 

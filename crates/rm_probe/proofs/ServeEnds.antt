@@ -1,9 +1,8 @@
 -- How the parts of a run that serves make its end.
 use Rattle.std.specs.Prelude.{IfErr, OnOk}
 use Rattle.std.proofs.Common.{◌≡◌, ◌⊎◌, inl, inr, ℕ, ◌-◌, List, [], ◌∷◌, ◌++◌, length, Option, Some, None, Result, Ok, Err, refl, sym, ap, subst, ◌∙◌, arith}
-use Rattle.std.proofs.lemmas.List.{append-nil}
 use Rattle.rm_edge.specs.Outside.{Held, File, OfFile, Adds, Rose}
-use Rattle.rm_edge.specs.Link.{Datagram, Grows, Stays}
+use Rattle.rm_edge.specs.Link.{Datagram, Grows}
 use Rattle.rm_edge.specs.Uses.{FileUse, SinkUse, LinkUse, HasReadFault, HasPutFault, HasLinkFault}
 use Rattle.rm_edge.specs.declared.outside.link.Peer.{Peer}
 use Rattle.rm_model.specs.Journal.{Frame}
@@ -16,7 +15,7 @@ use Rattle.rm_pcap.specs.declared.form.Form.{Form}
 use Rattle.rm_agent.specs.declared.settings.Settings.{Settings}
 use Rattle.rm_probe.specs.Capture.{IsCapture, IsCaptureFile, CallsFor, status_of}
 use Rattle.rm_probe.specs.Events.{events_by, frames_left}
-use Rattle.rm_probe.specs.Output.{HasAdded, IsFront, front_none}
+use Rattle.rm_probe.specs.Output.{HasAdded, IsSaidFront, front_none}
 use Rattle.rm_probe.specs.Probe.{IsFresh}
 use Rattle.rm_probe.specs.Said.{Last, Said, lines, stop_before}
 use Rattle.rm_probe.specs.Serving.{Arrival, BindsNone, BindsPort, EndsServing, IsIdle, IsServed, ServesExactly, WritesServedFront, asking_of, served_messages}
@@ -29,17 +28,13 @@ use Rattle.rm_probe.specs.declared.status.Status.{Status}
 use Rattle.rm_probe.specs.declared.status.Status.TheVariants.{Done, Usage, BadCapture, BadRequests, ReadFault, WriteFault, NoMemory, LinkFault, TooLong}
 use Rattle.rm_probe.proofs.EndLemmas.{OneReading, not_broken, same_fault, told}
 use Rattle.rm_probe.proofs.RecordLemmas.{of_told}
-use Rattle.rm_probe.proofs.StepLemmas.{front_longer}
+use Rattle.rm_probe.proofs.OutputLemmas.{front_longer}
 use Rattle.rm_probe.proofs.WritingLemmas.{put_rose, send_rose}
 
 -- a port that was bound, and none
 pub grows_adds : {A : Type 0} (old new : Option (List A)) (x : A) → Grows old new x → Adds old new (x ∷ [])
 grows_adds None new x grows = tt
 grows_adds (Some old) new x grows = grows
-
-pub stays_adds : {A : Type 0} (old new : Option (List A)) → Stays old new → Adds old new []
-stays_adds None new stays = tt
-stays_adds {A} (Some old) new stays = stays ∙ ap (λ (l : List A). Some l) (sym (append-nil old))
 
 pub port_bound : (port : ℕ) (arrivals : List Arrival) (link : LinkUse) (status : Status) → Adds link.bound link.bound_after (port ∷ []) → BindsPort port arrivals link status
 port_bound port arrivals link Done adds = adds
@@ -73,10 +68,10 @@ pub keeps_first : (probe : Probe) (progress : Progress) (form : Form) (lead : �
 keeps_first probe progress form lead fresh is = subst (λ (p : Progress). Keeps 0 probe p) (sym is) (record { last = omega (arith, fresh.last); next = omega arith; count = fresh.frames })
 
 -- of whatever may be said, nothing is a front
-idle_front : (manager : Peer) (out : SinkUse) (link : LinkUse) → IsIdle out link → (said : List Said) → IsFront (manager ∷ []) (asking_of []) out.content out.content_after link.sent link.sent_after said
+idle_front : (manager : Peer) (out : SinkUse) (link : LinkUse) → IsIdle out link → (said : List Said) → IsSaidFront (manager ∷ []) (asking_of []) out.content out.content_after link.sent link.sent_after said
 idle_front manager out link idle said =
-    subst (λ (content : Option (List ℕ)). IsFront (manager ∷ []) (asking_of []) out.content content link.sent link.sent_after said) (sym idle.unwritten)
-    (subst (λ (sent : Option (List Datagram)). IsFront (manager ∷ []) (asking_of []) out.content out.content link.sent sent said) (sym idle.unsent)
+    subst (λ (content : Option (List ℕ)). IsSaidFront (manager ∷ []) (asking_of []) out.content content link.sent link.sent_after said) (sym idle.unwritten)
+    (subst (λ (sent : Option (List Datagram)). IsSaidFront (manager ∷ []) (asking_of []) out.content out.content link.sent sent said) (sym idle.unsent)
     (front_longer (manager ∷ []) (asking_of []) out.content out.content link.sent link.sent [] said (front_none (manager ∷ []) (asking_of []) out.content link.sent)))
 
 -- a run that is done has ended with no fault
@@ -135,7 +130,7 @@ module _ (lead : ℕ) where
     )
 
     -- of the first of what may be said a front was written
-    served_front : (arrivals : List Arrival) (said : List Said) → OfFile capture.held (IsCaptureFile lead) → IsFront (manager ∷ []) (asking_of arrivals) out.content out.content_after link.sent link.sent_after said
+    served_front : (arrivals : List Arrival) (said : List Said) → OfFile capture.held (IsCaptureFile lead) → IsSaidFront (manager ∷ []) (asking_of arrivals) out.content out.content_after link.sent link.sent_after said
         → ((bytes : List ℕ) (frames : List Frame) (stop : Stop) → capture.held ≡ File bytes → IsCapture lead bytes frames stop → (rest : List Said) × IsServed settings frames stop arrivals (said ++ rest))
         → WritesServedFront settings lead manager arrivals capture out link
     served_front arrivals said form front says = (
@@ -148,7 +143,7 @@ module _ (lead : ℕ) where
     -- how the run itself ends
     pub served_ends : (arrivals : List Arrival) (said : List Said) (failed : Option OutputFault) (run : Result (Unit {0}) Status) → OfFile capture.held (IsCaptureFile lead)
         → HasAdded (shown_before out link) (shown_after out link failed) (lines said) (served_messages manager arrivals said)
-        → IsFront (manager ∷ []) (asking_of arrivals) out.content out.content_after link.sent link.sent_after said → FailsBy failed run
+        → IsSaidFront (manager ∷ []) (asking_of arrivals) out.content out.content_after link.sent link.sent_after said → FailsBy failed run
         → ((bytes : List ℕ) (frames : List Frame) (stop : Stop) → capture.held ≡ File bytes → IsCapture lead bytes frames stop → SaysServed settings frames stop arrivals said run)
         → FindsAnother (IsNotCapture lead capture.held) ⊥ (ends_by run) → (run ≡ Err ReadFault → HasReadFault capture) → IfErr run (λ (status : Status). IsForeign status → ⊥)
         → EndsServing settings lead manager arrivals capture out link (ends_by run)

@@ -14,7 +14,7 @@ use Rattle.rm_requests.specs.Lines.{TimedDatagram}
 use Rattle.rm_probe.specs.Capture.{IsFaultless}
 use Rattle.rm_probe.specs.Events.{Event, Asks, comings, events_by, frames_left, is_by}
 use Rattle.rm_probe.specs.Notes.{Note}
-use Rattle.rm_probe.specs.Output.{HasAdded, IsFront, Shown, adds_none, grown_none, nothing_added}
+use Rattle.rm_probe.specs.Output.{HasAdded, IsSaidFront, Shown, adds_none, grown_none, nothing_added, shown}
 use Rattle.rm_probe.specs.Probe.{Stands, last_given, settings_of}
 use Rattle.rm_probe.specs.Said.{Dropped, Last, Notified, Replied, Responded, Response, Said, lines, messages, messages_of, stop_before, to_each}
 use Rattle.rm_probe.specs.Serving.{Arrival, HaveCome, IsServed, asking_of, peers_of, request_of, requests_of}
@@ -30,7 +30,7 @@ use Rattle.rm_probe.proofs.ArrivalLemmas.{come_then, last_more, none_come}
 use Rattle.rm_probe.proofs.EventLemmas.{events_more}
 use Rattle.rm_probe.proofs.PassingLemmas.{SomethingSaid, begun_said, nothing_said}
 use Rattle.rm_probe.proofs.RunLemmas.{InRun, next_said, run_begin, says_faultless}
-use Rattle.rm_probe.proofs.StepLemmas.{added_more, said_then_front}
+use Rattle.rm_probe.proofs.OutputLemmas.{added_more, said_then_front}
 use Rattle.rm_probe.proofs.WritingLemmas.{send_rose}
 
 -- the messages of each thing said are the same, whichever of two asked
@@ -92,8 +92,8 @@ turn_adds manager first mid last arrivals next rest said more number is one of_o
 -- and of that a front
 turn_front : (manager : Peer) (first mid last : Shown) (arrivals next rest : List Arrival) (said more : List Said) (number : ℕ) → number ≡ 1 + length arrivals → take 1 rest ≡ next → IsOfOne number more
     → HasAdded first mid (lines said) (messages (manager ∷ []) (asking_of (arrivals ++ rest)) said) → mid.failed ≡ None
-    → IsFront (manager ∷ []) (λ (n : ℕ). peers_of next) mid.content last.content mid.sent last.sent more
-    → IsFront (manager ∷ []) (asking_of (arrivals ++ rest)) first.content last.content first.sent last.sent (said ++ more)
+    → IsSaidFront (manager ∷ []) (λ (n : ℕ). peers_of next) mid.content last.content mid.sent last.sent more
+    → IsSaidFront (manager ∷ []) (asking_of (arrivals ++ rest)) first.content last.content first.sent last.sent (said ++ more)
 turn_front manager first mid last arrivals next rest said more number is one of_one before well front =
     said_then_front (manager ∷ []) (asking_of (arrivals ++ rest)) first.content mid.content last.content first.sent mid.sent last.sent said more (before.puts.whole well) (before.sends.whole well)
     (record {
@@ -107,8 +107,8 @@ turn_front manager first mid last arrivals next rest said more number is one of_
     })
 
 -- a front beside a link on which nothing is sent
-pub front_beside : (managers others : List Peer) (asking asked : ℕ → List Peer) (content content' : Option (List ℕ)) (s t sent : Option (List Datagram)) (said : List Said) → IsFront others asked content content' s t said
-    → IsFront managers asking content content' sent sent said
+pub front_beside : (managers others : List Peer) (asking asked : ℕ → List Peer) (content content' : Option (List ℕ)) (s t sent : Option (List Datagram)) (said : List Said) → IsSaidFront others asked content content' s t said
+    → IsSaidFront managers asking content content' sent sent said
 front_beside managers others asking asked content content' s t sent said front = record { written = front.written; rest = front.rest; split = front.split; puts = front.puts; sends = (0, adds_none sent) }
 
 -- what is put beside a link on which nothing is sent
@@ -279,7 +279,7 @@ module _ {F K L C : Type 0} (held : F → List ℕ → Held) (reads : F → List
     quiet = λ each. refl;
     come = none_come (received l) (received l) (told c) 0 (adds_none (received l));
     bound = refl;
-    adds = λ rest. nothing_added (shown_before (sink_use content puts k k) (link_use bound received sent sends l l));
+    adds = λ rest. nothing_added (shown content puts sent sends k l None);
     number_is = refl;
     last_is = none_last ∙ sym none;
     settings_same = same;
@@ -299,10 +299,10 @@ module _ {F K L C : Type 0} (held : F → List ℕ → Held) (reads : F → List
           (subst (λ (m : ℕ). HaveCome (received l') (received l'') (told c') (told c'') m came) (sym i.last_is) turn.come);
       bound = turn.bound ∙ i.bound;
       failed = turn.failed;
-      adds = turn_adds manager (shown_before (sink_use content puts k k') (link_use bound received sent sends l l')) (shown_after (sink_use content puts k k') (link_use bound received sent sends l l') None)
-          (shown_after (sink_use content puts k k'') (link_use bound received sent sends l l'') turn.failed) arrivals came came said next (number + 1) (omega (arith, i.number_is)) (take_all 1 came few) one (i.adds came) turn.adds;
-      order = turn_front manager (shown_before (sink_use content puts k k') (link_use bound received sent sends l l')) (shown_after (sink_use content puts k k') (link_use bound received sent sends l l') None)
-          (shown_after (sink_use content puts k k'') (link_use bound received sent sends l l'') turn.failed) arrivals came came said next (number + 1) (omega (arith, i.number_is)) (take_all 1 came few) one (i.adds came) refl turn.order;
+      adds = turn_adds manager (shown content puts sent sends k l None) (shown content puts sent sends k' l' None)
+          (shown content puts sent sends k'' l'' turn.failed) arrivals came came said next (number + 1) (omega (arith, i.number_is)) (take_all 1 came few) one (i.adds came) turn.adds;
+      order = turn_front manager (shown content puts sent sends k l None) (shown content puts sent sends k' l' None)
+          (shown content puts sent sends k'' l'' turn.failed) arrivals came came said next (number + 1) (omega (arith, i.number_is)) (take_all 1 came few) one (i.adds came) refl turn.order;
       fails = turn.fails;
     }
 
@@ -322,11 +322,11 @@ module _ {F K L C : Type 0} (held : F → List ℕ → Held) (reads : F → List
           come = subst (λ (a : List Arrival). HaveCome (received l) (received l'') (told c) (told c'') 0 (arrivals ++ a)) alone both.come;
           bound = both.bound;
           adds = λ rest.
-              subst (λ (a : List Arrival). HasAdded (shown_before (sink_use content puts k k'') (link_use bound received sent sends l l'')) (shown_after (sink_use content puts k k'') (link_use bound received sent sends l l'') None)
+              subst (λ (a : List Arrival). HasAdded (shown content puts sent sends k l None) (shown content puts sent sends k'' l'' None)
               (lines (said ++ next)) (messages (manager ∷ []) (asking_of a) (said ++ next))) (sym (append_assoc arrivals (arrival ∷ []) rest))
-              (turn_adds manager (shown_before (sink_use content puts k k') (link_use bound received sent sends l l')) (shown_after (sink_use content puts k k') (link_use bound received sent sends l l') None)
-              (shown_after (sink_use content puts k k'') (link_use bound received sent sends l l'') None) arrivals came (arrival ∷ rest) said next (number + 1) (omega (arith, i.number_is)) (sym alone) one (i.adds (arrival ∷ rest))
-              (subst (λ (f : Option OutputFault). HasAdded (shown_before (sink_use content puts k' k'') (link_use bound received sent sends l' l'')) (shown_after (sink_use content puts k' k'') (link_use bound received sent sends l' l'') f)
+              (turn_adds manager (shown content puts sent sends k l None) (shown content puts sent sends k' l' None)
+              (shown content puts sent sends k'' l'' None) arrivals came (arrival ∷ rest) said next (number + 1) (omega (arith, i.number_is)) (sym alone) one (i.adds (arrival ∷ rest))
+              (subst (λ (f : Option OutputFault). HasAdded (shown content puts sent sends k' l' None) (shown content puts sent sends k'' l'' f)
               (lines next) (messages (manager ∷ []) (λ (n : ℕ). peers_of came) next)) turn.fails turn.adds));
           number_is = omega (arith, i.number_is, length-append arrivals (arrival ∷ []));
           last_is = last_more 0 arrivals arrival ∙ moment;
@@ -343,18 +343,18 @@ module _ {F K L C : Type 0} (held : F → List ℕ → Held) (reads : F → List
 
     -- the last line
     pub end_served : {T : Type 0} (line : List Said) (failed : Option OutputFault) (result : Result T Status) → TellsNoMessage line
-        → HasAdded (shown_after (sink_use content puts k k') (link_use bound received sent sends l l') None) (shown_after (sink_use content puts k k'') (link_use bound received sent sends l l') failed) (lines line) []
-        → IsFront (manager ∷ []) (asking_of arrivals) (content k') (content k'') (sent l') (sent l') line → FailsBy failed result
+        → HasAdded (shown content puts sent sends k' l' None) (shown content puts sent sends k'' l' failed) (lines line) []
+        → IsSaidFront (manager ∷ []) (asking_of arrivals) (content k') (content k'') (sent l') (sent l') line → FailsBy failed result
         → HasServed manager (asking_of arrivals) 0 (sink_use content puts k k'') (link_use bound received sent sends l l') (clock_use told c c') arrivals (said ++ line) result
     end_served line failed result silent added front fails = record {
       come = i.come;
       bound = i.bound;
       failed = failed;
-      adds = added_more (manager ∷ []) (asking_of arrivals) (shown_before (sink_use content puts k k') (link_use bound received sent sends l l')) (shown_after (sink_use content puts k k') (link_use bound received sent sends l l') None)
-          (shown_after (sink_use content puts k k'') (link_use bound received sent sends l l') failed) said line
-          (subst (λ (a : List Arrival). HasAdded (shown_before (sink_use content puts k k') (link_use bound received sent sends l l')) (shown_after (sink_use content puts k k') (link_use bound received sent sends l l') None)
+      adds = added_more (manager ∷ []) (asking_of arrivals) (shown content puts sent sends k l None) (shown content puts sent sends k' l' None)
+          (shown content puts sent sends k'' l' failed) said line
+          (subst (λ (a : List Arrival). HasAdded (shown content puts sent sends k l None) (shown content puts sent sends k' l' None)
           (lines said) (messages (manager ∷ []) (asking_of a) said)) (append-nil arrivals) (i.adds []))
-          (subst (λ (ms : List Datagram). HasAdded (shown_after (sink_use content puts k k') (link_use bound received sent sends l l') None) (shown_after (sink_use content puts k k'') (link_use bound received sent sends l l') failed) (lines line) ms)
+          (subst (λ (ms : List Datagram). HasAdded (shown content puts sent sends k' l' None) (shown content puts sent sends k'' l' failed) (lines line) ms)
           (sym (silent (manager ∷ []) (asking_of arrivals))) added);
       order = said_then_front (manager ∷ []) (asking_of arrivals) (content k) (content k') (content k'') (sent l) (sent l') (sent l') said line ((i.adds []).puts.whole refl)
           (subst (λ (a : List Arrival). Adds (sent l) (sent l') (messages (manager ∷ []) (asking_of a) said)) (append-nil arrivals) ((i.adds []).sends.whole refl)) front;

@@ -3,7 +3,7 @@ use Rattle.std.proofs.Common.{◌≡◌, ◌⊎◌, inl, inr, ℕ, ◌≤◌, �
 use Rattle.std.specs.Prelude.{OnOk}
 use Rattle.std.proofs.lemmas.List.{length-take, take_all}
 use Rattle.std.proofs.lemmas.Bool.{cases_lt}
-use Rattle.rm_edge.specs.Outside.{Adds, Rose}
+use Rattle.rm_edge.specs.Outside.{Rose}
 use Rattle.rm_edge.specs.Link.{Datagram}
 use Rattle.rm_edge.specs.Uses.{SinkUse, LinkUse, ClockUse, IsUntouched}
 use Rattle.rm_edge.specs.declared.outside.link.Peer.{Peer}
@@ -14,7 +14,7 @@ use Rattle.rm_pdu.specs.Parse.{Parse, too_long, malformed, other_version, not_re
 use Rattle.rm_agent.specs.declared.settings.Settings.{Settings}
 use Rattle.rm_probe.specs.Events.{Event, Asks, Comes, comings, is_by}
 use Rattle.rm_probe.specs.Notes.{Note}
-use Rattle.rm_probe.specs.Output.{HasAdded, IsFront, Shown, adds_none, front_none, grown_none}
+use Rattle.rm_probe.specs.Output.{HasAdded, IsSaidFront, Shown, front_none, grown_none}
 use Rattle.rm_probe.specs.Said.{Response, Said, lines, messages}
 use Rattle.rm_probe.specs.Serving.{Arrival, HaveCome, peers_of}
 use Rattle.rm_probe.specs.Steps.{FailsBy, HasBegun, IsNextSaid, SaysNext}
@@ -22,7 +22,7 @@ use Rattle.rm_probe.specs.Text.{IsAnswered, dropped, replied, AreSaid}
 use Rattle.rm_probe.specs.Turns.{HasServed, room, shown_after, shown_before}
 use Rattle.rm_probe.specs.declared.output.OutputFault.{OutputFault}
 use Rattle.rm_probe.specs.declared.output.OutputFault.TheVariants.{Put, Send}
-use Rattle.rm_probe.proofs.OutputLemmas.{added_then}
+use Rattle.rm_probe.proofs.OutputLemmas.{added_then, adds_same}
 use Rattle.rm_probe.specs.declared.probe.Probe.{Probe}
 use Rattle.rm_probe.specs.declared.status.Status.{Status}
 use Rattle.rm_probe.specs.declared.status.Status.TheVariants.{Done, Usage, BadCapture, BadRequests, ReadFault, WriteFault, NoMemory, LinkFault, TooLong}
@@ -102,8 +102,8 @@ pub receive_adds : (content : Option (List ℕ)) (puts : ℕ) (sent sent' : Opti
 receive_adds content puts sent sent' sends sends' same later = record {
   puts = grown_none Put content puts None;
   sends = record {
-    whole = λ _. subst (λ (s : Option (List Datagram)). Adds sent s []) (sym same) (adds_none sent);
-    front = (0, subst (λ (s : Option (List Datagram)). Adds sent s []) (sym same) (adds_none sent));
+    whole = λ _. adds_same sent sent' same;
+    front = (0, adds_same sent sent' same);
     later = later;
     cause = λ e. absurd cc;
     stays = λ fault e. absurd cc;
@@ -122,22 +122,22 @@ none_served manager asking last out link clock come bound sent untouched count l
   adds = record {
     puts = record {
       whole = λ e. absurd cc;
-      front = (0, subst (λ (s : Option (List ℕ)). Adds out.content s []) (sym untouched) (adds_none out.content));
+      front = (0, adds_same out.content out.content_after untouched);
       later = omega (arith, count);
       cause = λ e. absurd cc;
       stays = λ fault e. absurd cc;
     };
     sends = record {
       whole = λ e. absurd cc;
-      front = (0, subst (λ (s : Option (List Datagram)). Adds link.sent s []) (sym sent) (adds_none link.sent));
+      front = (0, adds_same link.sent link.sent_after sent);
       later = later;
       cause = λ e. inr rose;
       stays = λ fault e. absurd cc;
     };
     stays = λ fault e. absurd cc;
   };
-  order = subst (λ (content : Option (List ℕ)). IsFront (manager ∷ []) asking out.content content link.sent link.sent_after []) (sym untouched)
-      (subst (λ (sent : Option (List Datagram)). IsFront (manager ∷ []) asking out.content out.content link.sent sent []) (sym sent) (front_none (manager ∷ []) asking out.content link.sent));
+  order = subst (λ (content : Option (List ℕ)). IsSaidFront (manager ∷ []) asking out.content content link.sent link.sent_after []) (sym untouched)
+      (subst (λ (sent : Option (List Datagram)). IsSaidFront (manager ∷ []) asking out.content out.content link.sent sent []) (sym sent) (front_none (manager ∷ []) asking out.content link.sent));
   fails = refl;
 }
 
@@ -157,13 +157,13 @@ adds_from out link sent sends last text messages same later added =
 pub one_served : {T : Type 0} (manager : Peer) (last : ℕ) (out : SinkUse) (link : LinkUse) (clock : ClockUse) (sent : Option (List Datagram)) (sends : ℕ) (arrival : Arrival) (said : List Said) (result : Result T Status) (failed : Option OutputFault)
     → HaveCome link.received link.received_after clock.told clock.told_after last (arrival ∷ []) → link.bound_after ≡ link.bound → sent ≡ link.sent → link.faults ≤ sends
     → HasAdded (record { content = out.content; puts = out.faults; sent = sent; sends = sends; failed = None }) (shown_after out link failed) (lines said) (messages (manager ∷ []) (λ (number : ℕ). arrival.peer ∷ []) said)
-    → IsFront (manager ∷ []) (λ (number : ℕ). arrival.peer ∷ []) out.content out.content_after sent link.sent_after said → FailsBy failed result → HasServed manager (λ (number : ℕ). peers_of (arrival ∷ [])) last out link clock (arrival ∷ []) said result
+    → IsSaidFront (manager ∷ []) (λ (number : ℕ). arrival.peer ∷ []) out.content out.content_after sent link.sent_after said → FailsBy failed result → HasServed manager (λ (number : ℕ). peers_of (arrival ∷ [])) last out link clock (arrival ∷ []) said result
 one_served manager last out link clock sent sends arrival said result failed come bound same later adds order fails = record {
   come = come;
   bound = bound;
   failed = failed;
   adds = adds_from out link sent sends (shown_after out link failed) (lines said) (messages (manager ∷ []) (λ (number : ℕ). arrival.peer ∷ []) said) same later adds;
-  order = subst (λ (before : Option (List Datagram)). IsFront (manager ∷ []) (λ (number : ℕ). arrival.peer ∷ []) out.content out.content_after before link.sent_after said) same order;
+  order = subst (λ (before : Option (List Datagram)). IsSaidFront (manager ∷ []) (λ (number : ℕ). arrival.peer ∷ []) out.content out.content_after before link.sent_after said) same order;
   fails = fails;
 }
 

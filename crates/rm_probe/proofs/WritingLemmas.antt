@@ -14,8 +14,7 @@ use Rattle.rm_probe.specs.Ends.{IsSilent}
 use Rattle.rm_probe.specs.Steps.{FailsBy, IsQuiet, SaysRun, Writes, ends_by}
 use Rattle.rm_probe.specs.declared.status.Status.{Status}
 use Rattle.rm_probe.specs.declared.status.Status.TheVariants.{Done, Usage, BadCapture, BadRequests, ReadFault, WriteFault, NoMemory, LinkFault, TooLong}
-use Rattle.rm_probe.proofs.OutputLemmas.{front_more}
-use Rattle.rm_probe.proofs.StepLemmas.{more_lines}
+use Rattle.rm_probe.proofs.OutputLemmas.{front_more, more_lines}
 
 module _ (a b : Shown) (said : List Said) (messages : List Datagram) (added : HasAdded a b (lines said) messages) (none : a.failed ≡ None) where
   -- a put failed

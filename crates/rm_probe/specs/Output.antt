@@ -60,7 +60,7 @@ failed_by (Err fault) = Some fault
 
 -- Of what was said some lines were put whole, and then a front of the lines behind them; and of the messages that the whole lines tell, the
 -- first were sent.
-pub record IsFront (managers : List Peer) (asking : ℕ → List Peer) (content content_after : Option (List ℕ)) (sent sent_after : Option (List Datagram)) (said : List Said) : Type 0 where
+pub record IsSaidFront (managers : List Peer) (asking : ℕ → List Peer) (content content_after : Option (List ℕ)) (sent sent_after : Option (List Datagram)) (said : List Said) : Type 0 where
   pub written : List Said
   pub rest : List Said
   pub split : said ≡ written ++ rest
@@ -68,16 +68,14 @@ pub record IsFront (managers : List Peer) (asking : ℕ → List Peer) (content 
   pub sends : AddsFront sent sent_after (messages managers asking written)
 
 -- nothing is a front
-pub front_none : (managers : List Peer) (asking : ℕ → List Peer) (content : Option (List ℕ)) (sent : Option (List Datagram)) → IsFront managers asking content content sent sent []
+pub front_none : (managers : List Peer) (asking : ℕ → List Peer) (content : Option (List ℕ)) (sent : Option (List Datagram)) → IsSaidFront managers asking content content sent sent []
 front_none managers asking content sent = record { written = []; rest = []; split = refl; puts = (0, adds_none content); sends = (0, adds_none sent) }
 
 -- An output has said this: its post is the same, the lines were put, and the messages sent, those to who asks to the one peer that the post has.
-pub record Says {K P : Type 0} (content : K → Option (List ℕ)) (puts : K → ℕ) (sent : P → Option (List Datagram)) (sends : P → ℕ) (peers : P → Addressee → List Peer) (same : P → P → Type 0)
-    (sink : K) (post : P) (failed : Option OutputFault) (sink' : K) (post' : P) (failed' : Option OutputFault) (said : List Said) : Type 0 where
+pub record Says {P : Type 0} (peers : P → Addressee → List Peer) (same : P → P → Type 0) (post post' : P) (old new : Shown) (said : List Said) : Type 0 where
   pub still : same post post'
-  pub adds : HasAdded (shown content puts sent sends sink post failed) (shown content puts sent sends sink' post' failed')
-      (lines said) (messages (peers post Manager) (λ (number : ℕ). peers post Asking) said)
-  pub order : failed ≡ None → IsFront (peers post Manager) (λ (number : ℕ). peers post Asking) (content sink) (content sink') (sent post) (sent post') said
+  pub adds : HasAdded old new (lines said) (messages (peers post Manager) (λ (number : ℕ). peers post Asking) said)
+  pub order : old.failed ≡ None → IsSaidFront (peers post Manager) (λ (number : ℕ). peers post Asking) old.content new.content old.sent new.sent said
 
 -- A line was put, or a front of it; and where it was put whole, a front of the messages that it tells was sent.
 abbrev pub TellsInOrder : Shown → Shown → List ℕ → List Datagram → Type 0

@@ -88,6 +88,6 @@ messages_of managers asking said = []
 abbrev pub messages : List Peer → (ℕ → List Peer) → List Said → List Datagram
 messages managers asking said = flat_map (messages_of managers asking) said
 
--- Notifications came behind what had been said before, by a relation that says what was said since an earlier state.
-abbrev pub Sent : {N : Type 0} → (since : N → N → List Said → Type 0) → N → N → List Note → Type 0
-Sent {N = N} since old new notes = (start : N) (said : List Said) → since start old said → since start new (said ++ map Notified notes)
+-- More was said behind what had been said before, by a relation that says what was said since an earlier state.
+abbrev pub SaysMore : {S : Type 0} → (since : S → S → List Said → Type 0) → S → S → List Said → Type 0
+SaysMore {S} since old new more = (start : S) (said : List Said) → since start old said → since start new (said ++ more)

@@ -12,7 +12,7 @@ use Rattle.rm_requests.specs.Lines.{TimedDatagram}
 use Rattle.rm_probe.specs.Capture.{IsCapture, IsCaptureFile, IsBroken, CallsFor, status_of}
 use Rattle.rm_probe.specs.Ends.{Comes}
 use Rattle.rm_probe.specs.Events.{events_by, frames_left}
-use Rattle.rm_probe.specs.Output.{IsFront}
+use Rattle.rm_probe.specs.Output.{IsSaidFront}
 use Rattle.rm_probe.specs.Said.{Said, Last, lines, messages, stop_before}
 use Rattle.rm_probe.specs.Text.{AreSaid, AreSaidBy, Choice}
 use Rattle.rm_probe.specs.declared.status.Status.{Status}
@@ -94,7 +94,7 @@ WritesServed settings lead manager arrivals capture out link = OfServed settings
 -- a front of the text was written, and of the messages that its whole lines tell the first were sent
 abbrev pub WritesServedFront : Settings → ℕ → Peer → List Arrival → FileUse → SinkUse → LinkUse → Type 0
 WritesServedFront settings lead manager arrivals capture out link = OfServed settings lead arrivals capture
-    (λ said. IsFront (manager ∷ []) (asking_of arrivals) out.content out.content_after link.sent link.sent_after said)
+    (λ said. IsSaidFront (manager ∷ []) (asking_of arrivals) out.content out.content_after link.sent link.sent_after said)
 
 -- nothing was written or sent
 pub record IsIdle (out : SinkUse) (link : LinkUse) : Type 0 where

@@ -7,11 +7,10 @@ use Rattle.rm_pcap.specs.Records.{Stop, Broken, Found, Whole, Stops, AreRecords}
 use Rattle.rm_pcap.specs.Progress.{Progress, Agrees}
 use Rattle.rm_pcap.specs.declared.reach.Reach.{Reach}
 use Rattle.rm_pcap.specs.declared.fault.PcapFault.{PcapFault}
-use Rattle.rm_pcap.specs.declared.fault.PcapFault.TheVariants.{Included, Original, Late, TooMany, Read}
 use Rattle.rm_probe.specs.Advance.{IsAdvanced}
 use Rattle.rm_agent.specs.Orderly.{IsOrderly}
 use Rattle.rm_probe.specs.Notes.{Note}
-use Rattle.rm_probe.specs.Said.{Response, Said, Notified, Responded, Last, messages, stop_before, Sent}
+use Rattle.rm_probe.specs.Said.{Response, Said, Notified, Responded, Last, messages, stop_before}
 use Rattle.rm_probe.specs.Capture.{IsCaptureFile, IsFaultless, CallsFor, status_of}
 use Rattle.rm_requests.specs.Lines.{TimedDatagram, IsRequestFile}
 use Rattle.rm_probe.specs.declared.replaying.NumberedDatagram.{NumberedDatagram}
@@ -26,14 +25,12 @@ use Rattle.rm_agent.specs.declared.settings.Settings.{Settings}
 use Rattle.rm_probe.specs.declared.status.Status.{Status}
 use Rattle.rm_probe.specs.declared.status.Status.TheVariants.{Done, Usage, BadCapture, BadRequests, ReadFault, WriteFault, NoMemory, LinkFault, TooLong}
 
--- the faults of a record, and of a read
-abbrev pub IsOfRecord : PcapFault → Type 0
-IsOfRecord (Included at) = ⊤
-IsOfRecord (Original at) = ⊤
-IsOfRecord (Late at) = ⊤
-IsOfRecord TooMany = ⊤
-IsOfRecord Read = ⊤
-IsOfRecord fault = ⊥
+-- what the fault of a record ends by, or a failed read
+abbrev pub IsOfCapture : Status → Type 0
+IsOfCapture (BadCapture at) = ⊤
+IsOfCapture TooLong = ⊤
+IsOfCapture ReadFault = ⊤
+IsOfCapture status = ⊥
 
 -- what judging a capture answers
 abbrev pub JudgesCapture : {T : Type 0} → ℕ → Held → ℕ → ℕ → Result T Status → Type 0
@@ -85,22 +82,6 @@ pub record Advanced (settings : Settings) (moment : ℕ) (bytes : List ℕ) (pro
   pub passing : ArePassing settings journal (take_while (is_by moment) frames) notes reached
   pub stands : Stands probe reached
   pub count : progress.reach.count + length (frames_after moment frames) ≡ before + length frames
-
--- notifications came, and this is a fact of them and of the octets that the file has, where they are told
-abbrev pub Notifies : {N : Type 0} → (since : N → N → List Said → Type 0) → N → N → Held → (List Note → List ℕ → Type 0) → Type 0
-Notifies since old new held P = (more : List Note) × Sent since old new more × ((bytes : List ℕ) → held ≡ File bytes → P more bytes)
-
--- Whatever the frames left and the journal are, those up to the moment go from the one to the other. Where a read fails, some of
--- them do. Another fault is that of the records left.
-abbrev pub Advances : {T : Type 0} → ℕ → List ℕ → Progress → Progress → Probe → Probe → List Note → Result T PcapFault → Type 0
-Advances moment bytes old new probe probe' notes (Ok done) =
-    (frames : List Frame) (stop : Stop) (journal : Journal) → Leaves old bytes frames stop → Stands probe journal
-    → Advanced (settings_of probe) moment bytes new probe' old.reach.count frames stop journal notes
-Advances moment bytes old new probe probe' notes (Err Read) =
-    (frames : List Frame) (stop : Stop) (journal : Journal) → Leaves old bytes frames stop → Stands probe journal
-    → HasBegun (settings_of probe) moment frames journal notes
-Advances moment bytes old new probe probe' notes (Err fault) =
-    (frames : List Frame) (stop : Stop) (journal : Journal) → Leaves old bytes frames stop → Stands probe journal → stop ≡ Broken fault
 
 -- the datagram of a request, at its moment
 abbrev pub timed : NumberedDatagram → TimedDatagram
@@ -161,6 +142,13 @@ SaysNext IsNext IsBegun stop said (Err WriteFault) = IsNext said
 SaysNext IsNext IsBegun stop said (Err LinkFault) = IsNext said
 SaysNext IsNext IsBegun stop said (Err ReadFault) = (notes : List Note) × IsBegun notes × (said ≡ map Notified notes)
 SaysNext IsNext IsBegun stop said (Err status) = (fault : PcapFault) × (stop ≡ Broken fault) × (status ≡ status_of fault)
+
+-- What was said by a step, whatever frames the capture had left and whatever the journal was. Where a read failed, some of the frames up to a
+-- moment have passed.
+abbrev pub SaysFrom : {T : Type 0} → Held → Progress → Probe → ℕ → (List ℕ → List Frame → Stop → Journal → List Said → Type 0) → List Said → Result T Status → Type 0
+SaysFrom held progress probe moment IsNext said result =
+    (bytes : List ℕ) (frames : List Frame) (stop : Stop) (journal : Journal) → held ≡ File bytes → Leaves progress bytes frames stop → Stands probe journal
+    → SaysNext (IsNext bytes frames stop journal) (HasBegun (settings_of probe) moment frames journal) stop said result
 
 -- what failed last after a step: nothing, or what it ends by
 abbrev pub FailsBy : {T : Type 0} → Option OutputFault → Result T Status → Type 0

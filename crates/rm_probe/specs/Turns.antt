@@ -8,7 +8,7 @@ use Rattle.rm_pcap.specs.Records.{Stop}
 use Rattle.rm_pcap.specs.Progress.{Progress}
 use Rattle.rm_agent.specs.declared.settings.Settings.{Settings}
 use Rattle.rm_probe.specs.Notes.{Note}
-use Rattle.rm_probe.specs.Output.{HasAdded, IsFront, Shown}
+use Rattle.rm_probe.specs.Output.{HasAdded, IsSaidFront, Shown}
 use Rattle.rm_probe.specs.Said.{Notified, Said, lines, messages}
 use Rattle.rm_probe.specs.Serving.{Arrival, HaveCome, IsServed, request_of}
 use Rattle.rm_probe.specs.Steps.{FailsBy, HasBegun, IsNextSaid, IsResponse, SaysFirst, SaysNext}
@@ -46,7 +46,7 @@ pub record HasServed {T : Type 0} (manager : Peer) (asking : ℕ → List Peer) 
   -- a receive that failed counts as a send that did
   pub failed : Option OutputFault
   pub adds : HasAdded (shown_before out link) (shown_after out link failed) (lines said) (messages (manager ∷ []) asking said)
-  pub order : IsFront (manager ∷ []) asking out.content out.content_after link.sent link.sent_after said
+  pub order : IsSaidFront (manager ∷ []) asking out.content out.content_after link.sent link.sent_after said
   pub fails : FailsBy failed result
 
 -- a response to the datagram of that number, or notifications alone

@@ -1,8 +1,14 @@
-// Where the notifications of a probe go.
-ghost use Rattle.std.specs.Prelude.{◌≤◌, List, [], ◌∷◌, ◌++◌, length};
-ghost use Rattle.rm_probe.specs.Said.{Said, Notified};
+// Where the notifications of a probe go, and what else is said in a run.
+ghost use Rattle.std.specs.Prelude.{◌≡◌, ◌≤◌, List, [], ◌∷◌, Option, length};
+ghost use Rattle.rm_agent.specs.Answers.{IsShort};
+ghost use Rattle.rm_probe.specs.Output.{failed_by};
+ghost use Rattle.rm_probe.specs.Said.{Last, Notified, Responded, Said, SaysMore, response_of, stop_by};
+ghost use Rattle.rm_probe.specs.declared.output.OutputFault.{OutputFault as Failing};
 
-use rm_agent::MOST_REPLY;
+use crate::output::OutputFault;
+use crate::replaying::NumberedDatagram;
+use rm_agent::{Answer, MOST_REPLY};
+use rm_pcap::Step;
 
 /// Where the notifications of a probe go (RFC 1905, section 4.2.6).
 pub trait Notes {
@@ -12,9 +18,30 @@ pub trait Notes {
     /// Takes a notification: its moment in milliseconds, and the octets of its message, at most 1472.
     fn note(&mut self, moment: u32, message: &[u8])
         requires short { length message.now ≤ MOST_REPLY }
-        ensures noted { (start : Self) (said : List Said) → since start self.old said
-            → since start self.new (said ++ Notified (record { moment = moment; message = message.now }) ∷ []) };
+        ensures noted { SaysMore since self.old self.new (Notified (record { moment = moment; message = message.now }) ∷ []) };
 
     /// Since a state itself nothing was said.
     ghost none: { (state : Self) → since state state [] };
+}
+
+/// Where all that is said in a run goes: notifications, what is answered, and the last line.
+pub(crate) trait Outlet: Notes {
+    /// What failed last.
+    ghost failed: { Self → Option Failing };
+
+    /// Says what is answered to a datagram. The reply, if there is one, stands at the front of `out`.
+    fn answer(
+        &mut self,
+        request: NumberedDatagram<'_>,
+        answer: Answer,
+        out: &[u8; MOST_REPLY],
+    ) -> Result<(), OutputFault>
+        requires short { IsShort answer }
+        ensures says { SaysMore Self.since self.old self.new (Responded request.entry.number request.entry.moment (response_of answer out.now) ∷ []) }
+        ensures failed { failed self.new ≡ failed_by result };
+
+    /// Says how the records stop, by the step that was found, and how many frames and datagrams there were.
+    fn last(&mut self, step: Step<'_>, frames: u64, requests: u64) -> Result<(), OutputFault>
+        ensures says { SaysMore Self.since self.old self.new (Last (stop_by step.entry) frames requests ∷ []) }
+        ensures failed { failed self.new ≡ failed_by result };
 }

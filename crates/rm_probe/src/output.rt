@@ -1,15 +1,16 @@
 // The output of a run.
-ghost use Rattle.std.specs.Prelude.{◌≡◌, ◌∷◌, [], None, refl};
-ghost use Rattle.rm_agent.specs.Answers.{IsShort};
-ghost use Rattle.rm_probe.specs.Said.{Responded, response_of, to_each};
-ghost use Rattle.rm_probe.specs.declared.post.Addressee.TheVariants.{Asking, Manager};
+ghost use Rattle.std.specs.Prelude.{◌≡◌, [], None, refl};
+ghost use Rattle.rm_probe.specs.Said.{to_each};
 ghost use Rattle.rm_probe.specs.Output.{HasAdded, Says, TellsInOrder, failed_by, front_none, nothing_added, shown};
+ghost use Rattle.rm_probe.specs.declared.post.Addressee.TheVariants.{Asking, Manager};
 
 use crate::line::{self, Line};
-use crate::notes::Notes;
+use crate::notes::{Notes, Outlet};
 use crate::post::{Addressee, Post, Unsent};
+use crate::replaying::NumberedDatagram;
 use rm_agent::{Answer, MOST_REPLY};
 use rm_edge::Sink;
+use rm_pcap::Step;
 
 /// Why an output takes nothing more.
 #[derive(Clone, Copy, Debug, PartialEq, Eq)]
@@ -95,34 +96,12 @@ impl<'a, K: Sink, P: Post> Output<'a, K, P> {
             }
         }
     }
-
-    /// Puts the line of a datagram, with its moment in milliseconds and its number, and what is answered, and sends the reply if
-    /// there is one, which stands at the front of `out`.
-    pub(crate) fn answer(
-        &mut self,
-        moment: u32,
-        number: u64,
-        answer: Answer,
-        out: &[u8; MOST_REPLY],
-    ) -> Result<(), OutputFault>
-        requires short { IsShort answer }
-        ensures same_reference { self.new.sink.ghost_name ≡ self.old.sink.ghost_name }
-        ensures says { Says K.content K.faults P.sent P.faults P.peers P.same self.old.sink.now self.old.post self.old.failed
-            self.new.sink.now self.new.post self.new.failed (Responded number moment (response_of answer out.now) ∷ []) }
-        ensures failed { self.new.failed ≡ failed_by result }
-    {
-        let mut line = Line::new();
-        line::answer_line(moment, number, answer, out, &mut line);
-        match answer {
-            Answer::Reply(count) => self.tell(&line, Addressee::Asking, &out[..count]),
-            Answer::Drop(_) => self.put(&line),
-        }
-    }
 }
 
 impl<K: Sink, P: Post> Notes for Output<'_, K, P> {
-    ghost since = { λ start now said. (now.sink.ghost_name ≡ start.sink.ghost_name) × Says K.content K.faults P.sent P.faults P.peers P.same
-        start.sink.now start.post start.failed now.sink.now now.post now.failed said };
+    ghost since = { λ start now said. (now.sink.ghost_name ≡ start.sink.ghost_name) × Says P.peers P.same start.post now.post
+        (shown K.content K.faults P.sent P.faults start.sink.now start.post start.failed)
+        (shown K.content K.faults P.sent P.faults now.sink.now now.post now.failed) said };
 
     ghost none = { λ state. (
       refl,
@@ -138,5 +117,30 @@ impl<K: Sink, P: Post> Notes for Output<'_, K, P> {
         line::trap_line(moment, message, &mut line);
         // A call that failed is kept in mind.
         let _ = self.tell(&line, Addressee::Manager, message);
+    }
+}
+
+/// A reply is sent behind its line.
+impl<K: Sink, P: Post> Outlet for Output<'_, K, P> {
+    ghost failed = { λ state. state.failed };
+
+    fn answer(
+        &mut self,
+        request: NumberedDatagram<'_>,
+        answer: Answer,
+        out: &[u8; MOST_REPLY],
+    ) -> Result<(), OutputFault> {
+        let mut line = Line::new();
+        line::answer_line(request.moment, request.number, answer, out, &mut line);
+        match answer {
+            Answer::Reply(count) => self.tell(&line, Addressee::Asking, &out[..count]),
+            Answer::Drop(_) => self.put(&line),
+        }
+    }
+
+    fn last(&mut self, step: Step<'_>, frames: u64, requests: u64) -> Result<(), OutputFault> {
+        let mut line = Line::new();
+        line::last_line(step, frames, requests, &mut line);
+        self.put(&line)
     }
 }

@@ -1,5 +1,5 @@
 // The probe.
-ghost use Rattle.std.specs.Prelude.{◌≡◌, ℕ, ◌+◌, ◌≤◌, ◌<◌, max, List, [], ◌∷◌, length, Some, IfOk, IfSome, IfNone};
+ghost use Rattle.std.specs.Prelude.{◌≡◌, ℕ, ◌+◌, ◌≤◌, ◌<◌, max, List, [], ◌∷◌, length, Some, IfOk, IfSome, IfNone, map};
 ghost use Rattle.rm_model.specs.Journal.{Journal};
 ghost use Rattle.rm_acts.specs.Alarms.{due_of, IsNextDue};
 ghost use Rattle.rm_agent.specs.Agent.{due_of_agent, IsNextMoment, samples_left_of, sample_of};
@@ -7,7 +7,7 @@ ghost use Rattle.rm_agent.specs.Answers.{IsShort};
 ghost use Rattle.rm_agent.specs.Orderly.{NoneIsDue};
 ghost use Rattle.rm_probe.specs.Advance.{notes_of};
 ghost use Rattle.rm_probe.specs.Notes.{Note};
-ghost use Rattle.rm_probe.specs.Said.{Sent};
+ghost use Rattle.rm_probe.specs.Said.{Notified, SaysMore};
 
 use crate::notes::Notes;
 use rm_agent::{Agent, Answer, MOST_FRAMES, MOST_REPLY, Settings, advance_is_orderly};
@@ -44,7 +44,7 @@ impl Probe {
     /// has its event fire, and where the event asks for a trap, the notification goes to `notes`.
     pub fn advance<N: Notes>(&mut self, to: u32, notes: &mut N)
         requires { last_given self.old ≤ to }
-        ensures advanced { (more : List Note) × Sent N.since notes.old notes.new more
+        ensures advanced { (more : List Note) × SaysMore N.since notes.old notes.new (map Notified more)
             × ((journal : Journal) → Stands self.old journal → (after : Journal) × IsAdvanced (settings_of self.old) to journal more after
             × Stands self.new after) }
         ensures settings { settings_of self.new ≡ settings_of self.old }
@@ -71,7 +71,7 @@ impl Probe {
     // Takes the next sample, which is due at a moment in milliseconds.
     fn sample<N: Notes>(&mut self, moment: u32, notes: &mut N)
         requires { IsNextMoment (due_of_agent self.old.agent) (Some moment) }
-        ensures taken { (more : List Note) × Sent N.since notes.old notes.new more
+        ensures taken { (more : List Note) × SaysMore N.since notes.old notes.new (map Notified more)
             × ((journal : Journal) → Stands self.old journal → (alarm : ℕ) × IsNextDue (due_of journal) (Some (moment, alarm))
             × (more ≡ notes_of (settings_of self.old) journal (moment, alarm))
             × Stands self.new (sample_of (settings_of self.old) journal moment alarm ∷ journal)) }
@@ -94,7 +94,7 @@ impl Probe {
         requires captured { length frame.now.bytes.now ≤ frame.now.original }
         requires original { frame.now.original ≤ 262144 }
         requires room { frames_given self.old < MOST_FRAMES }
-        ensures passes { (more : List Note) × Sent N.since notes.old notes.new more
+        ensures passes { (more : List Note) × SaysMore N.since notes.old notes.new (map Notified more)
             × ((journal : Journal) → Stands self.old journal → (ready : Journal)
             × IsAdvanced (settings_of self.old) frame.now.moment journal more ready
             × Stands self.new (passes (frame_of frame.now) ∷ ready)) }
@@ -118,7 +118,7 @@ impl Probe {
         notes: &mut N,
     ) -> Answer
         requires { last_given self.old ≤ moment }
-        ensures answered { (more : List Note) × Sent N.since notes.old notes.new more
+        ensures answered { (more : List Note) × SaysMore N.since notes.old notes.new (map Notified more)
             × ((journal : Journal) → Stands self.old journal → (ready after : Journal)
             × IsAdvanced (settings_of self.old) moment journal more ready
             × IsAnswered (settings_of self.old) ready moment bytes.now (response_of result out.new) after × Stands self.new after) }

@@ -1,32 +1,29 @@
 // The text of a run: a capture and a request file are read again, which were judged before, and the datagrams are answered.
-ghost use Rattle.std.specs.Prelude.{◌≡◌, ◌⊎◌, ◌≤◌, ◌<◌, ◌^◌, ◌++◌, ℕ, List, Some, None, Ok, Err, OnOk, IfErr, [], ◌∷◌, map};
+ghost use Rattle.std.specs.Prelude.{◌≡◌, ◌⊎◌, ◌≤◌, ◌<◌, ◌-◌, ◌^◌, ◌++◌, ℕ, List, Some, None, Ok, Err, OnOk, IfErr, [], ◌∷◌, map};
 ghost use Rattle.rm_edge.specs.Outside.{Rose, File};
 ghost use Rattle.rm_edge.specs.Shelves.{KeepsShelf};
-ghost use Rattle.rm_model.specs.Journal.{Frame, Journal};
+ghost use Rattle.rm_model.specs.Journal.{Frame};
 ghost use Rattle.rm_pcap.specs.View.{progress_of};
 ghost use Rattle.rm_pcap.specs.Records.{Stop, Stops};
-ghost use Rattle.rm_pcap.specs.declared.fault.PcapFault.TheVariants.{Read};
 ghost use Rattle.rm_probe.specs.Capture.{IsCapture, IsFaultless};
 ghost use Rattle.rm_requests.specs.Lines.{TimedDatagram, AreRequests};
 ghost use Rattle.rm_requests.specs.Reading.{beginning, reached_of};
 ghost use Rattle.rm_probe.specs.Notes.{Note};
-ghost use Rattle.rm_probe.specs.Said.{Notified, Responded, Response, Said};
-ghost use Rattle.rm_probe.specs.Output.{Says, failed_by};
-ghost use Rattle.rm_probe.specs.Probe.{settings_of, last_given, frames_given, IsFresh, Stands};
-ghost use Rattle.rm_probe.specs.Steps.{Advances, Answers, FailsBy, FindsAnother, HasBegun, IsForeign, IsLastLine, IsLastSaid, IsNextSaid, IsNotCapture, IsNotLeft, IsNotRequests, IsOfRecord, IsQuiet, IsResponse, Keeps, Leaves, Notifies, SaysNext, SaysRun, TellsNoMessage, Writes, ends_by, timed, told_by};
+ghost use Rattle.rm_probe.specs.Said.{Notified, Responded, Response, Said, SaysMore};
+ghost use Rattle.rm_probe.specs.Output.{failed_by};
+ghost use Rattle.rm_probe.specs.Probe.{settings_of, last_given, frames_given, IsFresh};
+ghost use Rattle.rm_probe.specs.Steps.{Advanced, Answers, FailsBy, FindsAnother, IsForeign, IsLastLine, IsLastSaid, IsNextSaid, IsNotCapture, IsNotLeft, IsNotRequests, IsOfCapture, IsQuiet, IsResponse, Keeps, Leaves, SaysFrom, SaysNext, SaysRun, TellsNoMessage, Writes, ends_by, timed, told_by};
 ghost use Rattle.rm_probe.specs.Ends.{IsSilent};
 ghost use Rattle.rm_probe.specs.declared.status.Status.TheVariants.{ReadFault, WriteFault, NoMemory};
 
 use crate::laws::something_said;
-use crate::line::{self, Line};
-use crate::notes::Notes;
+use crate::notes::{Notes, Outlet};
 use crate::output::{Output, OutputFault};
-use crate::post::Post;
 use crate::probe::Probe;
 use crate::status::Status;
 use rm_agent::MOST_REPLY;
 use rm_edge::{Shelf, Sink};
-use rm_pcap::{Capture, PcapFault, Step};
+use rm_pcap::{Capture, Step};
 use rm_requests::Requests;
 use std::alloc::Global;
 
@@ -47,21 +44,23 @@ pub(crate) struct Replaying {
 
 impl Replaying {
     /// Counts the frames up to a moment in milliseconds, which isn't below the last one that the probe was given, each after the
-    /// samples that are due. Fails where a read fails, or with the fault of the next record.
+    /// samples that are due. Fails where a read fails, or by the fault of the next record.
     fn advance<F: Shelf, N: Notes>(
         &mut self,
         shelf: &mut F,
         name: &str,
         moment: u32,
         notes: &mut N,
-    ) -> Result<(), PcapFault>
+    ) -> Result<(), Status>
         requires later { last_given self.old.probe ≤ moment }
         requires keeps { Keeps (last_given self.old.probe) self.old.probe (progress_of self.old.capture) }
-        ensures shelf { KeepsShelf F.held F.faults shelf.old shelf.new (λ each. each ≡ name.now) (result ≡ Err Read) }
-        ensures cause { result ≡ Err Read → Rose (F.faults shelf.old name.now) (F.faults shelf.new name.now) }
-        ensures kinds { IfErr result IsOfRecord }
-        ensures passed { Notifies N.since notes.old notes.new (F.held shelf.old name.now) (λ more bytes.
-            Advances moment bytes (progress_of self.old.capture) (progress_of self.new.capture) self.old.probe self.new.probe more result) }
+        ensures shelf { KeepsShelf F.held F.faults shelf.old shelf.new (λ each. each ≡ name.now) (result ≡ Err ReadFault) }
+        ensures reads { result ≡ Err ReadFault → Rose (F.faults shelf.old name.now) (F.faults shelf.new name.now) }
+        ensures kinds { IfErr result IsOfCapture }
+        ensures says { (passed : List Note) × SaysMore N.since notes.old notes.new (map Notified passed)
+            × SaysFrom (F.held shelf.old name.now) (progress_of self.old.capture) self.old.probe moment (λ bytes frames stop journal said.
+            Advanced (settings_of self.old.probe) moment bytes (progress_of self.new.capture) self.new.probe (progress_of self.old.capture).reach.count
+            frames stop journal passed) (map Notified passed) result }
         ensures settings { settings_of self.new.probe ≡ settings_of self.old.probe }
         ensures keeps { OnOk result (Keeps moment self.new.probe (progress_of self.new.capture)) }
         ensures all { moment ≡ 4294967295 → OnOk result ((stop : Stop) × ((progress_of self.new.capture).ahead ≡ Some (Stops stop))) }
@@ -81,27 +80,24 @@ impl Replaying {
     }
 
     /// Counts the frames up to the moment of a datagram, answers it, and writes its line.
-    pub fn write_answer<F: Shelf, K: Sink, P: Post>(
+    pub fn write_answer<F: Shelf, O: Outlet>(
         &mut self,
         alloc: Global,
         shelf: &mut F,
         name: &str,
         request: NumberedDatagram<'_>,
-        out: &mut Output<'_, K, P>,
+        out: &mut O,
     ) -> Result<(), Status>
         requires later { last_given self.old.probe ≤ request.moment }
         requires keeps { Keeps (last_given self.old.probe) self.old.probe (progress_of self.old.capture) }
-        requires output { out.old.failed ≡ None }
+        requires output { O.failed out.old ≡ None }
         ensures shelf { KeepsShelf F.held F.faults shelf.old shelf.new (λ each. each ≡ name.now) (result ≡ Err ReadFault) }
-        ensures says { (said : List Said) × Says K.content K.faults P.sent P.faults P.peers P.same out.old.sink.now out.old.post out.old.failed
-            out.new.sink.now out.new.post out.new.failed said
-            × ((bytes : List ℕ) (frames : List Frame) (stop : Stop) (journal : Journal) → F.held shelf.old name.now ≡ File bytes
-            → Leaves (progress_of self.old.capture) bytes frames stop → Stands self.old.probe journal
-            → SaysNext (IsNextSaid bytes (progress_of self.old.capture) (progress_of self.new.capture) (settings_of self.old.probe) self.new.probe
-            request.entry.number (timed request.entry) frames stop journal) (HasBegun (settings_of self.old.probe) request.entry.moment frames journal) stop said result)
+        ensures says { (said : List Said) × SaysMore O.since out.old out.new said
+            × SaysFrom (F.held shelf.old name.now) (progress_of self.old.capture) self.old.probe request.entry.moment
+            (λ bytes. IsNextSaid bytes (progress_of self.old.capture) (progress_of self.new.capture) (settings_of self.old.probe) self.new.probe
+            request.entry.number (timed request.entry)) said result
             × (IsResponse request.entry.number said ⊎ ((notes : List Note) × (said ≡ map Notified notes))) }
-        ensures failed { FailsBy out.new.failed result }
-        ensures same_reference { out.new.sink.ghost_name ≡ out.old.sink.ghost_name }
+        ensures failed { FailsBy (O.failed out.new) result }
         ensures settings { settings_of self.new.probe ≡ settings_of self.old.probe }
         ensures keeps { OnOk result (Keeps (last_given self.new.probe) self.new.probe (progress_of self.new.capture)) }
         ensures last { OnOk result (last_given self.new.probe ≡ request.entry.moment) }
@@ -113,81 +109,71 @@ impl Replaying {
     }
 
     /// Writes the last line, after so many datagrams. It says `cut` where no frame is left and the file cuts a record short.
-    pub fn put_last<F: Shelf, K: Sink, P: Post>(
+    pub fn put_last<F: Shelf, O: Outlet>(
         &mut self,
         shelf: &mut F,
         name: &str,
         requests: u64,
-        out: &mut Output<'_, K, P>,
+        out: &mut O,
     ) -> Result<(), Status>
         ensures shelf { KeepsShelf F.held F.faults shelf.old shelf.new (λ each. each ≡ name.now) (result ≡ Err ReadFault) }
-        ensures same_reference { out.new.sink.ghost_name ≡ out.old.sink.ghost_name }
-        ensures says { (said : List Said) × Says K.content K.faults P.sent P.faults P.peers P.same out.old.sink.now out.old.post out.old.failed
-            out.new.sink.now out.new.post out.new.failed said
+        ensures says { (said : List Said) × SaysMore O.since out.old out.new said
             × ((bytes : List ℕ) (frames : List Frame) (stop : Stop) → F.held shelf.old name.now ≡ File bytes
             → Leaves (progress_of self.old.capture) bytes frames stop
             → SaysNext (IsLastLine (progress_of self.old.capture).reach.count requests frames stop) (λ notes. notes ≡ []) stop said result)
             × TellsNoMessage said }
-        ensures failed { FailsBy out.new.failed result }
+        ensures failed { FailsBy (O.failed out.new) result }
         ensures reads { result ≡ Err ReadFault → Rose (F.faults shelf.old name.now) (F.faults shelf.new name.now) }
         ensures loud { IfErr result (λ status. IsForeign status → ⊥) }
     {
         let frames = u64::from(self.capture.count());
         let step = self.capture.next(shelf, name)?;
-        let mut line = Line::new();
-        line::last_line(step, frames, requests, &mut line);
-        told(out.put(&line))
+        told(out.last(step, frames, requests))
     }
 
-    /// Counts the frames that are left, and writes the last line, after so many datagrams.
-    fn write_last<F: Shelf, K: Sink, P: Post>(
+    /// Counts the frames that are left, and writes the last line, after the datagrams of a request file.
+    fn write_last<F: Shelf, O: Outlet>(
         &mut self,
         shelf: &mut F,
         name: &str,
-        requests: u64,
-        out: &mut Output<'_, K, P>,
+        requests: &Requests,
+        out: &mut O,
     ) -> Result<(), Status>
         requires moment { last_given self.old.probe < 2 ^ 32 }
         requires keeps { Keeps (last_given self.old.probe) self.old.probe (progress_of self.old.capture) }
-        requires output { out.old.failed ≡ None }
+        requires output { O.failed out.old ≡ None }
         ensures shelf { KeepsShelf F.held F.faults shelf.old shelf.new (λ each. each ≡ name.now) (result ≡ Err ReadFault) }
-        ensures same_reference { out.new.sink.ghost_name ≡ out.old.sink.ghost_name }
-        ensures says { (said : List Said) × Says K.content K.faults P.sent P.faults P.peers P.same out.old.sink.now out.old.post out.old.failed
-            out.new.sink.now out.new.post out.new.failed said
-            × ((bytes : List ℕ) (frames : List Frame) (stop : Stop) (journal : Journal) → F.held shelf.old name.now ≡ File bytes
-            → Leaves (progress_of self.old.capture) bytes frames stop → Stands self.old.probe journal
-            → SaysNext (IsLastSaid (settings_of self.old.probe) (progress_of self.old.capture).reach.count requests frames stop journal)
-            (HasBegun (settings_of self.old.probe) 4294967295 frames journal) stop said result) }
-        ensures failed { FailsBy out.new.failed result }
+        ensures says { (said : List Said) × SaysMore O.since out.old out.new said
+            × SaysFrom (F.held shelf.old name.now) (progress_of self.old.capture) self.old.probe 4294967295
+            (λ bytes. IsLastSaid (settings_of self.old.probe) (progress_of self.old.capture).reach.count ((reached_of requests.now).number - 1)) said result }
+        ensures failed { FailsBy (O.failed out.new) result }
         ensures reads { result ≡ Err ReadFault → Rose (F.faults shelf.old name.now) (F.faults shelf.new name.now) }
         ensures loud { IfErr result (λ status. IsForeign status → ⊥) }
     {
         self.advance(shelf, name, u32::MAX, out)?;
-        self.put_last(shelf, name, requests, out)
+        self.put_last(shelf, name, requests.passed(), out)
     }
 
     /// Writes the lines of the datagrams of a request file, which is read from its first line on, and the last one.
-    fn write_lines<F: Shelf, K: Sink, P: Post>(
+    fn write_lines<F: Shelf, O: Outlet>(
         &mut self,
         alloc: Global,
         shelf: &mut F,
         name: &str,
         requests: &str,
         reader: &mut Requests,
-        out: &mut Output<'_, K, P>,
+        out: &mut O,
     ) -> Result<(), Status>
         requires reached { reached_of reader.old ≡ beginning }
         requires first { IsFresh self.old.probe }
         requires begun { Keeps 0 self.old.probe (progress_of self.old.capture) }
-        requires output { out.old.failed ≡ None }
-        ensures same_reference { out.new.sink.ghost_name ≡ out.old.sink.ghost_name }
-        ensures says { (said : List Said) × Says K.content K.faults P.sent P.faults P.peers P.same out.old.sink.now out.old.post out.old.failed
-            out.new.sink.now out.new.post out.new.failed said
+        requires output { O.failed out.old ≡ None }
+        ensures says { (said : List Said) × O.since out.old out.new said
             × ((bytes lines : List ℕ) (frames : List Frame) (stop : Stop) (asked : List TimedDatagram)
             → F.held shelf.old name.now ≡ File bytes → F.held shelf.old requests.now ≡ File lines
             → Leaves (progress_of self.old.capture) bytes frames stop → (progress_of self.old.capture).reach.count ≡ 0 → IsFaultless stop
             → AreRequests lines asked → SaysRun (settings_of self.old.probe) frames stop asked said result) }
-        ensures failed { FailsBy out.new.failed result }
+        ensures failed { FailsBy (O.failed out.new) result }
         ensures finds { FindsAnother (IsNotLeft (F.held shelf.old name.now) (progress_of self.old.capture)) (IsNotRequests (F.held shelf.old requests.now)) (ends_by result) }
         ensures reads { result ≡ Err ReadFault → Rose (F.faults shelf.old name.now) (F.faults shelf.new name.now)
             ⊎ Rose (F.faults shelf.old requests.now) (F.faults shelf.new requests.now) }
@@ -198,7 +184,7 @@ impl Replaying {
         loop {
             let asked = match reader.next(shelf, requests) {
                 Ok(Some(asked)) => asked,
-                Ok(None) => return self.write_last(shelf, name, reader.passed(), out),
+                Ok(None) => return self.write_last(shelf, name, reader, out),
                 Err(fault) => return Err(Status::of_requests(fault)),
             };
             let request = NumberedDatagram {
@@ -215,26 +201,24 @@ impl Replaying {
 }
 
 // Takes the samples that are due up to the moment of a datagram, and answers it.
-fn answer<K: Sink, P: Post>(
+fn answer<O: Outlet>(
     alloc: Global,
     probe: &mut Probe,
     request: NumberedDatagram<'_>,
-    out: &mut Output<'_, K, P>,
+    out: &mut O,
 ) -> Result<(), OutputFault>
     requires later { last_given probe.old ≤ request.moment }
-    ensures same_reference { out.new.sink.ghost_name ≡ out.old.sink.ghost_name }
     ensures answers { (more : List Note) × (response : Response)
-        × Says K.content K.faults P.sent P.faults P.peers P.same out.old.sink.now out.old.post out.old.failed
-        out.new.sink.now out.new.post out.new.failed (map Notified more ++ Responded request.entry.number request.entry.moment response ∷ [])
+        × SaysMore O.since out.old out.new (map Notified more ++ Responded request.entry.number request.entry.moment response ∷ [])
         × Answers probe.old probe.new (timed request.entry) more response }
-    ensures failed { out.new.failed ≡ failed_by result }
+    ensures failed { O.failed out.new ≡ failed_by result }
     ensures settings { settings_of probe.new ≡ settings_of probe.old }
     ensures last { last_given probe.new ≡ request.entry.moment }
     ensures frames { frames_given probe.new ≡ frames_given probe.old }
 {
     let mut reply = [0; MOST_REPLY];
     let answer = probe.datagram(alloc, request.datagram, request.moment, &mut reply, out);
-    out.answer(request.moment, request.number, answer, &reply)
+    out.answer(request, answer, &reply)
 }
 
 /// Reads both files again, the capture with its first frame at the moment `lead`, and writes the text of them.
@@ -275,13 +259,14 @@ pub fn write_run<F: Shelf, K: Sink>(
     }
 }
 
-// An output that takes nothing more ends the run.
+// How an output that takes nothing more ends the run.
 fn told(output: Result<(), OutputFault>) -> Result<(), Status>
     ensures { result ≡ told_by output }
 {
     match output {
         Ok(()) => Ok(()),
-        Err(fault) => Err(Status::from(fault)),
+        Err(OutputFault::Put) => Err(Status::WriteFault),
+        Err(OutputFault::Send) => Err(Status::LinkFault),
     }
 }
 

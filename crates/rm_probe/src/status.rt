@@ -1,7 +1,6 @@
 // How a run ended.
 ghost use Rattle.std.specs.Prelude.{◌≡◌, Some};
 
-use crate::output::OutputFault;
 use rm_pcap::PcapFault;
 use rm_requests::RequestsFault;
 use std::fmt::{self, Display, Formatter, Write};
@@ -64,7 +63,6 @@ impl Status {
 
 /// How a run ends by a fault of its capture.
 impl From<PcapFault> for Status {
-    ghost use Rattle.std.specs.Prelude.{◌≡◌};
     ghost use Rattle.rm_probe.specs.Capture.{status_of};
 
     ghost from_gives = { λ fault status. status ≡ status_of fault };
@@ -80,21 +78,6 @@ impl From<PcapFault> for Status {
             PcapFault::TooMany => Status::TooLong,
             PcapFault::Read => Status::ReadFault,
             PcapFault::NoMemory => Status::NoMemory,
-        }
-    }
-}
-
-/// How a run ends where its output takes nothing more.
-impl From<OutputFault> for Status {
-    ghost use Rattle.std.specs.Prelude.{◌≡◌};
-    ghost use Rattle.rm_probe.specs.Status.{status_for};
-
-    ghost from_gives = { λ fault status. status ≡ status_for fault };
-
-    fn from(fault: OutputFault) -> Status {
-        match fault {
-            OutputFault::Put => Status::WriteFault,
-            OutputFault::Send => Status::LinkFault,
         }
     }
 }

@@ -1,6 +1,8 @@
 // Tests of the lines that go into a sink.
 use super::sink_of;
 use crate::line::Line;
+use crate::notes::Outlet;
+use crate::replaying::NumberedDatagram;
 use crate::{Notes, Output, OutputFault, Posted};
 use rm_agent::{Answer, Reason};
 use rm_edge::{MemLink, Peer};
@@ -69,10 +71,16 @@ fn messages_are_sent_with_their_lines(rt: HostRuntime) -> Result<(), Fail> {
     let mut output = Output::posting(&mut sink, post);
     let reply = [0x30; 1472];
     output.note(3000, &[0x30, 0x0a]);
-    assert!(rt; output.answer(4000, 1, Answer::Reply(1), &reply).is_ok());
+    let first = NumberedDatagram {
+        number: 1,
+        moment: 4000,
+        datagram: &[],
+    };
+    let second = NumberedDatagram { number: 2, ..first };
+    assert!(rt; output.answer(first, Answer::Reply(1), &reply).is_ok());
     assert!(rt;
         output
-            .answer(4000, 2, Answer::Drop(Reason::Version), &reply)
+            .answer(second, Answer::Drop(Reason::Version), &reply)
             .is_ok()
     );
     assert_eq!(rt;

@@ -15,7 +15,7 @@ returns-in-Ok-clause-text g c = λ bytes lines frames stop asked is isr capture 
     let (left, none) = begun_left c.args.lead bytes frames stop (progress_of c.in-Ok.capture).form (progress_of c.in-Ok.capture) (c.in-Ok.ensures.header bytes is) c.in-Ok.ensures.begun capture in
     let (said, says, runs) = c.write_lines-run.ensures.says in
     subst (λ (k : g.row.K.Denot). Writes (settings_of c.args.probe) frames stop asked (g.K.Sink.content c.args.out.now) (g.K.Sink.content k) c.ended.result) (search rules)
-    (rw (c.new-output.ensures.sink, ← c.ended.ensures) at (writes_by _ _ said _ says.adds c.new-output.ensures.failed refl refl (settings_of c.args.probe) frames stop asked c.write_lines-run.result c.write_lines-run.ensures.failed
+    (rw (c.new-output.ensures.sink, ← c.ended.ensures) at (writes_by _ _ said _ says.1.adds c.new-output.ensures.failed refl refl (settings_of c.args.probe) frames stop asked c.write_lines-run.result c.write_lines-run.ensures.failed
     (runs bytes lines frames stop asked (c.in-Ok.ensures.shelf.constant c.args.name.now ∙ is) (c.in-Ok.ensures.shelf.constant c.args.requests.now ∙ isr) left none capture.faultless are)))
 
 pub returns-in-Ok-clause-finds : goal.returns-in-Ok-clause-finds
@@ -27,22 +27,22 @@ pub returns-in-Ok-clause-writes : goal.returns-in-Ok-clause-writes
 returns-in-Ok-clause-writes g c = λ is.
     let (said, says, runs) = c.write_lines-run.ensures.says in
     subst (λ (k : g.row.K.Denot). Rose (g.K.Sink.faults c.args.out.now) (g.K.Sink.faults k)) (search rules)
-    (rw c.new-output.ensures.sink at (write_rose _ _ said _ says.adds c.new-output.ensures.failed c.write_lines-run.result c.write_lines-run.ensures.failed (sym c.ended.ensures ∙ is)))
+    (rw c.new-output.ensures.sink at (write_rose _ _ said _ says.1.adds c.new-output.ensures.failed c.write_lines-run.result c.write_lines-run.ensures.failed (sym c.ended.ensures ∙ is)))
 
 pub returns-in-Ok-clause-silent : goal.returns-in-Ok-clause-silent
 returns-in-Ok-clause-silent g c = λ silent.
     let (said, says, runs) = c.write_lines-run.ensures.says in
-    absurd (not_silent _ _ said _ says.adds c.new-output.ensures.failed refl refl c.write_lines-run.result c.write_lines-run.ensures.failed c.write_lines-run.ensures.loud (rw c.ended.ensures at silent))
+    absurd (not_silent _ _ said _ says.1.adds c.new-output.ensures.failed refl refl c.write_lines-run.result c.write_lines-run.ensures.failed c.write_lines-run.ensures.loud (rw c.ended.ensures at silent))
 
 pub returns-in-Ok-clause-kinds : goal.returns-in-Ok-clause-kinds
 returns-in-Ok-clause-kinds g c = λ silent.
     let (said, says, runs) = c.write_lines-run.ensures.says in
-    absurd (not_silent _ _ said _ says.adds c.new-output.ensures.failed refl refl c.write_lines-run.result c.write_lines-run.ensures.failed c.write_lines-run.ensures.loud (rw c.ended.ensures at silent))
+    absurd (not_silent _ _ said _ says.1.adds c.new-output.ensures.failed refl refl c.write_lines-run.result c.write_lines-run.ensures.failed c.write_lines-run.ensures.loud (rw c.ended.ensures at silent))
 
 pub returns-in-Ok-clause-later : goal.returns-in-Ok-clause-later
 returns-in-Ok-clause-later g c =
     let (said, says, runs) = c.write_lines-run.ensures.says in
-    subst (λ (k : g.row.K.Denot). g.K.Sink.faults c.args.out.now ≤ g.K.Sink.faults k) (search rules) (rw c.new-output.ensures.sink at says.adds.puts.later)
+    subst (λ (k : g.row.K.Denot). g.K.Sink.faults c.args.out.now ≤ g.K.Sink.faults k) (search rules) (rw c.new-output.ensures.sink at says.1.adds.puts.later)
 
 pub returns-in-Err-clause-text : goal.returns-in-Err-clause-text
 returns-in-Err-clause-text g c = λ bytes lines frames stop asked is isr capture are.

@@ -8,7 +8,8 @@ use Rattle.rm_probe.specs.Steps.{ends_by}
 use Rattle.rm_probe.specs.declared.serving.Serving.{Serving}
 use Rattle.rm_probe.proofs.ArrivalLemmas.{none_come}
 use Rattle.rm_probe.proofs.TurnLemmas.{adds_from}
-use Rattle.rm_probe.proofs.ServeEnds.{another_ready, done_all, grows_adds, none_written, port_bound, port_unbound, refused_ends, refused_going, served_ends, stays_adds}
+use Rattle.rm_probe.proofs.OutputLemmas.{adds_same, stays_adds}
+use Rattle.rm_probe.proofs.ServeEnds.{another_ready, done_all, grows_adds, none_written, port_bound, port_unbound, refused_ends, refused_going, served_ends}
 use Rattle.rm_probe.proofs.serving.serve.Goals as goal
 
 pub returns-in-Err-clause-serves : goal.returns-in-Err-clause-serves
@@ -56,7 +57,7 @@ returns-clause-serves g c =
     record {
       arrivals = [];
       come = none_come (g.L.Link.received c.args.link.now) (g.L.Link.received c.bind.new.self) (g.T.Clock.told c.args.clock.now) 0
-          (subst (λ received. Adds (g.L.Link.received c.args.link.now) received []) (sym c.in-Err-bind.ensures.received) (adds_none (g.L.Link.received c.args.link.now)));
+          (adds_same (g.L.Link.received c.args.link.now) (g.L.Link.received c.bind.new.self) c.in-Err-bind.ensures.received);
       few = omega arith;
       all = λ e. absurd cc;
       bound = inr (record { unbound = stays_adds (g.L.Link.bound c.args.link.now) (g.L.Link.bound c.bind.new.self) c.in-Err-bind.ensures.ports; unasked = refl; unsent = c.in-Err-bind.ensures.sent });

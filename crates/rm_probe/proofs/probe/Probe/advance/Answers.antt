@@ -3,7 +3,7 @@ use Rattle.std.proofs.lemmas.List.{append-nil}
 use Rattle.rm_probe.specs.Advance.{IsAdvanced}
 use Rattle.rm_probe.specs.Notes.{Note}
 use Rattle.rm_probe.specs.Probe.{settings_of}
-use Rattle.rm_probe.proofs.FrameLemmas.{sent_none, sent_more}
+use Rattle.rm_probe.proofs.SayingLemmas.{notes_both, says_nothing}
 use Rattle.rm_probe.proofs.SampleLemmas.{advanced_none, next_more}
 use Rattle.rm_probe.proofs.probe.Probe.advance.Goals as goal
 
@@ -13,20 +13,20 @@ loop-moment-init g c = record {
   last = c.requires;
   frames = refl;
   more = [];
-  sent = sent_none g.N.Notes.since c.args.notes.now;
+  noted = says_nothing g.N.Notes.since c.args.notes.now;
   goes = λ journal stands. (journal, stands, λ later after is. is);
 }
 
 pub loop-moment-preserved : goal.loop-moment-preserved
 loop-moment-preserved g c =
     let i = c.loop-moment.invariant in
-    let (more, sent, taken) = c.sample.ensures.taken in
+    let (more, noted, taken) = c.sample.ensures.taken in
     record {
       settings = c.sample.ensures.settings ∙ i.settings;
       last = omega (arith, c.sample.ensures.last, i.last, c.in-Some.ensures.due);
       frames = c.sample.ensures.frames ∙ i.frames;
       more = i.more ++ more;
-      sent = sent_more g.N.Notes.since c.args.notes.now c.loop-moment.notes c.sample.new.notes i.more more i.sent sent;
+      noted = notes_both g.N.Notes.since c.args.notes.now c.loop-moment.notes c.sample.new.notes i.more more i.noted noted;
       goes = λ journal stands.
           let (reached, stood, goes) = i.goes journal stands in
           let (alarm, due, told, stood') = taken reached stood in
@@ -37,7 +37,7 @@ pub returns-clause-advanced : goal.returns-clause-advanced
 returns-clause-advanced g c =
     let i = c.loop-moment.invariant in (
       i.more,
-      i.sent,
+      i.noted,
       λ journal stands.
           let (reached, stood, goes) = i.goes journal stands in (
             reached,

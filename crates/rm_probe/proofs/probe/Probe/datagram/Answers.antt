@@ -8,10 +8,10 @@ use Rattle.rm_probe.proofs.probe.Probe.datagram.Goals as goal
 
 pub returns-clause-answered : goal.returns-clause-answered
 returns-clause-answered g c =
-    let (more, sent, advanced) = c.advance.ensures.advanced in
+    let (more, noted, advanced) = c.advance.ensures.advanced in
     let (v, judged, why) = c.answer.ensures.reason in (
       more,
-      sent,
+      noted,
       λ journal stands.
           let (ready, is, stood) = advanced journal stands in
           let (orderly, none) = c.advance_is_orderly.ensures (settings_of c.args.self.now) c.args.moment journal is.sent ready stands.orderly is.advanced in

@@ -3,9 +3,9 @@ use Rattle.rm_probe.proofs.probe.Probe.frame.Goals as goal
 
 pub returns-clause-passes : goal.returns-clause-passes
 returns-clause-passes g c =
-    let (more, sent, advanced) = c.advance.ensures.advanced in (
+    let (more, noted, advanced) = c.advance.ensures.advanced in (
       more,
-      sent,
+      noted,
       λ journal stands.
           let (ready, is, stood) = advanced journal stands in
           let (orderly, none) = c.advance_is_orderly.ensures (settings_of c.args.self.now) c.args.frame.now.moment journal is.sent ready stands.orderly is.advanced in

@@ -1,4 +1,4 @@
-use Rattle.std.proofs.Common.{◌≡◌, ◌++◌, ◌∷◌, [], ℕ, List, length, arith, ◌∙◌, ap, refl, sym, subst, inl, inr, Err, append_assoc, length-append}
+use Rattle.std.proofs.Common.{◌≡◌, ◌-◌, ◌++◌, ◌∷◌, [], ℕ, List, length, arith, ◌∙◌, ap, refl, sym, subst, inl, inr, Err, append_assoc, length-append}
 use Rattle.rm_edge.specs.Outside.{Held}
 use Rattle.rm_pcap.specs.View.{progress_of}
 use Rattle.rm_requests.specs.Lines.{TimedDatagram}
@@ -6,9 +6,9 @@ use Rattle.rm_requests.specs.Reading.{Answers, Reached, Passes, reached_of, data
 use Rattle.rm_agent.specs.declared.settings.Settings.{Settings}
 use Rattle.rm_probe.specs.Probe.{settings_of}
 use Rattle.rm_probe.specs.Steps.{HasBegun, IsLastSaid, IsNextSaid, IsNotRequests, SaysNext, SaysRun}
+use Rattle.rm_probe.proofs.SayingLemmas.{says_both, says_nothing}
 use Rattle.rm_probe.proofs.FrameLemmas.{keeps_begun}
 use Rattle.rm_probe.proofs.JudgeLemmas.{HasTaken, remains, taken_all, taken_more, taken_none}
-use Rattle.rm_probe.proofs.StepLemmas.{says_none, says_then}
 use Rattle.rm_probe.proofs.RunLemmas.{run_begin, next_said, answer_stops, capture_finds, last_loud, last_said, quiet_foreign, read_failed, requests_find, requests_loud, requests_open, requests_stop, says_faultless, last_finds}
 use Rattle.rm_edge.proofs.Keeping.{quiet_then}
 use Rattle.rm_requests.specs.declared.fault.RequestsFault.TheVariants.{Read as ReadFailed}
@@ -34,14 +34,13 @@ loop-asked-init g c =
         file = λ lines is. subst (λ (p : Reached). HasTaken [] p lines) (sym reached) (taken_none lines);
         run = λ bytes frames stop is left none. run_begin settings bytes frames stop (progress_of c.args.self.now.capture) c.args.self.now.probe left none c.requires.first.stands;
       },
-      says_none g.K.Sink.content g.K.Sink.faults g.P.Post.sent g.P.Post.faults g.P.Post.peers g.P.Post.same g.met.P.Post.still c.args.out.now.sink.now c.args.out.now.post c.args.out.now.failed,
-      refl,
+      says_nothing g.O.Notes.since c.args.out.now,
       c.requires.output,
     )
 
 pub loop-asked-preserved : goal.loop-asked-preserved
 loop-asked-preserved g c =
-    let (said, i, says, same, well) = c.loop-asked.invariant in
+    let (said, i, says, well) = c.loop-asked.invariant in
     let (next, more, goes, response) = c.in-Ok.ensures.says in
     let takes = rw c.in-Ok-Some.field-0-is at c.in-Ok-Some.ensures.answers in
     let old = reached_of c.loop-asked.reader in
@@ -68,18 +67,13 @@ loop-asked-preserved g c =
             next_said (settings_of c.args.self.now.probe) bytes frames stop i.taken (progress_of c.loop-asked.self.capture) (progress_of c.write_answer.new.self.capture) c.loop-asked.self.probe c.write_answer.new.self.probe
             said next c.in-Ok-Some.asked.number request r (takes.number ∙ i.number) (rw i.settings_same at one);
       },
-      says_then g.K.Sink.content g.K.Sink.faults g.P.Post.sent g.P.Post.faults g.P.Post.peers g.P.Post.same g.met.P.Post.onward g.met.P.Post.kept c.args.out.now.sink.now c.loop-asked.out.sink.now c.write_answer.new.out.sink.now
-          c.args.out.now.post c.loop-asked.out.post c.write_answer.new.out.post c.args.out.now.failed c.loop-asked.out.failed c.write_answer.new.out.failed said next says more,
-      c.in-Ok.ensures.same_reference ∙ same,
+      says_both g.O.Notes.since c.args.out.now c.loop-asked.out c.write_answer.new.out _ _ says more,
       c.in-Ok.ensures.failed,
     )
 
-pub returns-in-Err-write_answer-clause-same_reference : goal.returns-in-Err-write_answer-clause-same_reference
-returns-in-Err-write_answer-clause-same_reference g c = c.in-Err-write_answer.ensures.same_reference ∙ c.loop-asked.invariant.3
-
 pub returns-in-Err-write_answer-clause-says : goal.returns-in-Err-write_answer-clause-says
 returns-in-Err-write_answer-clause-says g c =
-    let (said, i, says, same, well) = c.loop-asked.invariant in
+    let (said, i, says, well) = c.loop-asked.invariant in
     let (next, more, goes, response) = c.in-Err-write_answer.ensures.says in
     let takes = rw c.in-Ok-Some.field-0-is at c.in-Ok-Some.ensures.answers in
     let old = reached_of c.loop-asked.reader in
@@ -87,8 +81,7 @@ returns-in-Err-write_answer-clause-says g c =
     let settings = settings_of c.args.self.now.probe in
     let request : TimedDatagram = record { moment = c.in-Ok-Some.asked.moment; datagram = c.datagram.result.now } in (
       said ++ next,
-      says_then g.K.Sink.content g.K.Sink.faults g.P.Post.sent g.P.Post.faults g.P.Post.peers g.P.Post.same g.met.P.Post.onward g.met.P.Post.kept c.args.out.now.sink.now c.loop-asked.out.sink.now c.write_answer.new.out.sink.now
-          c.args.out.now.post c.loop-asked.out.post c.write_answer.new.out.post c.args.out.now.failed c.loop-asked.out.failed c.write_answer.new.out.failed said next says more,
+      says_both g.O.Notes.since c.args.out.now c.loop-asked.out c.write_answer.new.out _ _ says more c.args.out.now [] (g.met.O.Notes.none c.args.out.now),
       λ bytes lines frames stop asked is isr left none faultless are.
           let r = i.run bytes frames stop is left none in
           let has = i.file lines isr in
@@ -105,7 +98,7 @@ returns-in-Err-write_answer-clause-says g c =
 
 pub returns-in-Err-write_answer-clause-finds : goal.returns-in-Err-write_answer-clause-finds
 returns-in-Err-write_answer-clause-finds g c =
-    let (said, i, says, same, well) = c.loop-asked.invariant in
+    let (said, i, says, well) = c.loop-asked.invariant in
     let (next, more, goes, response) = c.in-Err-write_answer.ensures.says in
     capture_finds (g.F.Shelf.held c.args.shelf.now c.args.name.now) (progress_of c.args.self.now.capture) (IsNotRequests (g.F.Shelf.held c.args.shelf.now c.args.requests.now)) c.in-Err-write_answer.status c.in-Err-write_answer.ensures.loud
     (λ bytes frames stop is left none faultless.
@@ -117,55 +110,48 @@ returns-in-Err-write_answer-clause-finds g c =
 pub returns-in-Err-write_answer-clause-loud : goal.returns-in-Err-write_answer-clause-loud
 returns-in-Err-write_answer-clause-loud g c = λ quiet. c.in-Err-write_answer.ensures.loud (quiet_foreign c.in-Err-write_answer.status quiet)
 
-pub returns-in-Ok-None-clause-same_reference : goal.returns-in-Ok-None-clause-same_reference
-returns-in-Ok-None-clause-same_reference g c = c.write_last.ensures.same_reference ∙ c.loop-asked.invariant.3
-
 pub returns-in-Ok-None-clause-says : goal.returns-in-Ok-None-clause-says
 returns-in-Ok-None-clause-says g c =
-    let (said, i, says, same, well) = c.loop-asked.invariant in
+    let (said, i, says, well) = c.loop-asked.invariant in
     let (last, more, goes) = c.write_last.ensures.says in
     let (stays, gone) = rw c.in-Ok-None.field-0-is at c.in-Ok-None.ensures.answers in
     let settings = settings_of c.args.self.now.probe in (
       said ++ last,
-      says_then g.K.Sink.content g.K.Sink.faults g.P.Post.sent g.P.Post.faults g.P.Post.peers g.P.Post.same g.met.P.Post.onward g.met.P.Post.kept c.args.out.now.sink.now c.loop-asked.out.sink.now c.write_last.new.out.sink.now
-          c.args.out.now.post c.loop-asked.out.post c.write_last.new.out.post c.args.out.now.failed c.loop-asked.out.failed c.write_last.new.out.failed said last says more,
+      says_both g.O.Notes.since c.args.out.now c.loop-asked.out c.write_last.new.out _ _ says more c.args.out.now [] (g.met.O.Notes.none c.args.out.now),
       λ bytes lines frames stop asked is isr left none faultless are.
           let r = i.run bytes frames stop is left none in
           let has = i.file lines isr in
           let taken = taken_all i.taken (reached_of c.loop-asked.reader) lines has (gone lines (i.same c.args.requests.now ∙ isr) has.agrees) i.few in
           let all : asked ≡ i.taken = let e = sym are.are ∙ taken.are in cc in
-          let count : c.passed.result ≡ length i.taken = omega (arith, c.passed.ensures, stays.number, i.number) in
+          let count : (reached_of c.next.new.self).number - 1 ≡ length i.taken = omega (arith, stays.number, i.number) in
           let step = goes bytes r.left stop r.journal (c.in-Ok-None.ensures.shelf.constant c.args.name.now ∙ (i.same c.args.name.now ∙ is)) r.records_left r.stands in
           subst (λ (rs : List TimedDatagram). SaysRun settings frames stop rs (said ++ last) c.write_last.result) (sym all)
           (last_said settings c.something_said.ensures bytes frames stop i.taken (progress_of c.loop-asked.self.capture) c.loop-asked.self.probe said last r faultless c.write_last.result
           (subst (λ (n : ℕ). SaysNext (IsLastSaid settings (progress_of c.loop-asked.self.capture).reach.count n r.left stop r.journal) (HasBegun settings 4294967295 r.left r.journal) stop last c.write_last.result) count
-          (subst (λ (s : Settings). SaysNext (IsLastSaid s (progress_of c.loop-asked.self.capture).reach.count c.passed.result r.left stop r.journal) (HasBegun s 4294967295 r.left r.journal) stop last c.write_last.result) i.settings_same step))),
+          (subst (λ (s : Settings). SaysNext (IsLastSaid s (progress_of c.loop-asked.self.capture).reach.count ((reached_of c.next.new.self).number - 1) r.left stop r.journal) (HasBegun s 4294967295 r.left r.journal) stop last c.write_last.result) i.settings_same step))),
     )
 
 pub returns-in-Ok-None-clause-finds : goal.returns-in-Ok-None-clause-finds
 returns-in-Ok-None-clause-finds g c =
-    let (said, i, says, same, well) = c.loop-asked.invariant in
+    let (said, i, says, well) = c.loop-asked.invariant in
     let (last, more, goes) = c.write_last.ensures.says in
     last_finds (g.F.Shelf.held c.args.shelf.now c.args.name.now) (progress_of c.args.self.now.capture) (IsNotRequests (g.F.Shelf.held c.args.shelf.now c.args.requests.now)) c.write_last.result c.write_last.ensures.loud
     (λ bytes frames stop is left none faultless.
     let r = i.run bytes frames stop is left none in
-    says_faultless (IsLastSaid (settings_of c.loop-asked.self.probe) (progress_of c.loop-asked.self.capture).reach.count c.passed.result r.left stop r.journal) (HasBegun (settings_of c.loop-asked.self.probe) 4294967295 r.left r.journal) stop last faultless c.write_last.result
+    says_faultless (IsLastSaid (settings_of c.loop-asked.self.probe) (progress_of c.loop-asked.self.capture).reach.count ((reached_of c.next.new.self).number - 1) r.left stop r.journal) (HasBegun (settings_of c.loop-asked.self.probe) 4294967295 r.left r.journal) stop last faultless c.write_last.result
     (goes bytes r.left stop r.journal (c.in-Ok-None.ensures.shelf.constant c.args.name.now ∙ (i.same c.args.name.now ∙ is)) r.records_left r.stands))
 
 pub returns-in-Ok-None-clause-loud : goal.returns-in-Ok-None-clause-loud
 returns-in-Ok-None-clause-loud g c = last_loud c.write_last.result c.write_last.ensures.loud
 
-pub returns-in-Err-clause-same_reference : goal.returns-in-Err-clause-same_reference
-returns-in-Err-clause-same_reference g c = c.loop-asked.invariant.3
-
 pub returns-in-Err-clause-failed : goal.returns-in-Err-clause-failed
-returns-in-Err-clause-failed g c = rw c.of_requests.ensures (requests_open c.loop-asked.out.failed c.in-Err.fault)
+returns-in-Err-clause-failed g c = rw c.of_requests.ensures (requests_open (g.O.Outlet.failed c.loop-asked.out) c.in-Err.fault)
 
 pub returns-in-Err-clause-says : goal.returns-in-Err-clause-says
 returns-in-Err-clause-says g c =
-    let (said, i, says, same, well) = c.loop-asked.invariant in (
+    let (said, i, says, well) = c.loop-asked.invariant in (
       said,
-      says,
+      says c.args.out.now [] (g.met.O.Notes.none c.args.out.now),
       λ bytes lines frames stop asked is isr left none faultless are.
           let r = i.run bytes frames stop is left none in
           rw c.of_requests.ensures (requests_stop (settings_of c.args.self.now.probe) c.something_said.ensures bytes frames stop i.taken asked (progress_of c.loop-asked.self.capture) c.loop-asked.self.probe said

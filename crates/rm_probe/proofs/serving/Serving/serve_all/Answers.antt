@@ -5,6 +5,7 @@ use Rattle.rm_probe.specs.Probe.{settings_of}
 use Rattle.rm_probe.specs.Serving.{asking_of}
 use Rattle.rm_probe.specs.Turns.{HasServed}
 use Rattle.rm_probe.proofs.FrameLemmas.{keeps_begun}
+use Rattle.rm_probe.proofs.OutputLemmas.{says_none}
 use Rattle.rm_probe.proofs.RunLemmas.{capture_finds}
 use Rattle.rm_probe.proofs.ServingLemmas.{end_served, front_beside, put_beside, run_begins, run_more, served_last, stop_served, turn_finds, turn_stops}
 use Rattle.rm_probe.proofs.TurnLemmas.{on_done}
@@ -73,7 +74,8 @@ returns-in-Err-clause-finds g c =
 pub returns-clause-served : goal.returns-clause-served
 returns-clause-served g c =
     let (arrivals, said, i, whole, manager, within) = c.loop-number.invariant in
-    let (last, says, line, silent) = c.put_last.ensures.says in
+    let (last, more, line, silent) = c.put_last.ensures.says in
+    let says = more c.new-output.result [] (refl, says_none _ _ (λ post. tt) _ _) in
     let all : c.loop-number.number ≡ c.args.count = omega (arith, c.loop-number-test.false, within) in (
       arrivals,
       said ++ last,
@@ -84,8 +86,8 @@ returns-clause-served g c =
           c.args.out.now c.loop-number.out c.put_last.new.out.sink.now c.args.link.now c.loop-number.link c.loop-number.link c.args.clock.now c.loop-number.clock c.loop-number.clock
           (progress_of c.loop-number.self.replaying.capture) (progress_of c.loop-number.self.replaying.capture) c.loop-number.self.replaying.probe c.loop-number.self.replaying.probe c.loop-number.number c.loop-number.self.last arrivals said i
           last c.put_last.new.out.failed c.put_last.result silent
-          (rw c.new-output.ensures.sink at (put_beside _ _ (g.L.Link.sent c.loop-number.link) (g.L.Link.faults c.loop-number.link) last _ says.adds c.new-output.ensures.failed refl refl))
-          (rw c.new-output.ensures.sink at (front_beside (c.args.self.now.manager ∷ []) _ (asking_of arrivals) _ _ _ _ _ (g.L.Link.sent c.loop-number.link) last (says.order c.new-output.ensures.failed))) c.put_last.ensures.failed),
+          (rw c.new-output.ensures.sink at (put_beside _ _ (g.L.Link.sent c.loop-number.link) (g.L.Link.faults c.loop-number.link) last _ says.1.adds c.new-output.ensures.failed refl refl))
+          (rw c.new-output.ensures.sink at (front_beside (c.args.self.now.manager ∷ []) _ (asking_of arrivals) _ _ _ _ _ (g.L.Link.sent c.loop-number.link) last (says.1.order c.new-output.ensures.failed))) c.put_last.ensures.failed),
       omega (arith, all, i.number_is),
       on_done _ c.put_last.result (omega (arith, all, i.number_is)),
       λ bytes frames stop is left none faultless.

@@ -7,6 +7,7 @@ use Rattle.rm_probe.specs.Serving.{HaveCome, peers_of}
 use Rattle.rm_probe.specs.Steps.{Leaves}
 use Rattle.rm_probe.specs.Turns.{HasServed}
 use Rattle.rm_probe.specs.declared.status.Status.TheVariants.{LinkFault}
+use Rattle.rm_probe.proofs.OutputLemmas.{says_none}
 use Rattle.rm_probe.proofs.TurnLemmas.{moved, none_served, on_done, one_served, says_whole, read_of}
 use Rattle.rm_probe.proofs.serving.Serving.serve_one.Goals as goal
 
@@ -32,7 +33,8 @@ write_answer-requires-clause-later g c =
 pub returns-clause-served : goal.returns-clause-served
 returns-clause-served g c =
     let (arrival, come, peer, moment, count, octets) = c.in_ok-peer.ensures.receives in
-    let (said, says, goes, response) = c.write_answer.ensures.says in (
+    let (said, more, goes, response) = c.write_answer.ensures.says in
+    let says = more c.posting-output.result [] (refl, says_none _ _ (λ post. (refl, refl, refl, refl, refl)) _ _) in (
       arrival ∷ [],
       said,
       moved (λ (k : g.row.K.Denot) (l : g.row.L.Denot). HasServed c.args.self.now.manager (λ number. peers_of (arrival ∷ [])) c.args.self.now.last (sink_use g.K.Sink.content g.K.Sink.faults c.args.out.now k)
@@ -42,11 +44,11 @@ returns-clause-served g c =
           (link_use g.L.Link.bound g.L.Link.received g.L.Link.sent g.L.Link.faults c.args.link.now c.write_answer.new.out.post.link.now) (clock_use g.T.Clock.told c.args.clock.now c.receive.new.clock)
           (g.L.Link.sent c.receive.new.link) (g.L.Link.faults c.receive.new.link) arrival said c.write_answer.result c.write_answer.new.out.failed
           (subst (λ received. HaveCome (g.L.Link.received c.args.link.now) received (g.T.Clock.told c.args.clock.now) (g.T.Clock.told c.receive.new.clock) c.args.self.now.last (arrival ∷ []))
-          (sym (says.still.4 ∙ ap (λ post. g.L.Link.received post.link.now) c.posting-output.ensures.post)) come)
-          (says.still.3 ∙ ap (λ post. g.L.Link.bound post.link.now) c.posting-output.ensures.post ∙ c.in_ok-peer.ensures.bound)
+          (sym (says.1.still.4 ∙ ap (λ post. g.L.Link.received post.link.now) c.posting-output.ensures.post)) come)
+          (says.1.still.3 ∙ ap (λ post. g.L.Link.bound post.link.now) c.posting-output.ensures.post ∙ c.in_ok-peer.ensures.bound)
           c.in_ok-peer.ensures.sent c.in_ok-peer.ensures.later
-          (rw (c.posting-output.ensures.sink, c.posting-output.ensures.post, c.posting-output.ensures.failed, c.in_ok-peer.ensures.manager, ← peer) at says.adds)
-          (rw (c.posting-output.ensures.sink, c.posting-output.ensures.post, c.in_ok-peer.ensures.manager, ← peer) at (says.order c.posting-output.ensures.failed)) c.write_answer.ensures.failed),
+          (rw (c.posting-output.ensures.sink, c.posting-output.ensures.post, c.posting-output.ensures.failed, c.in_ok-peer.ensures.manager, ← peer) at says.1.adds)
+          (rw (c.posting-output.ensures.sink, c.posting-output.ensures.post, c.in_ok-peer.ensures.manager, ← peer) at (says.1.order c.posting-output.ensures.failed)) c.write_answer.ensures.failed),
       response,
       on_done _ c.write_answer.result (arrival, refl, moment),
       omega arith,
