@@ -7,7 +7,7 @@ ghost use Rattle.rm_acts.specs.Fired.{act_fires, fired};
 ghost use Rattle.rm_acts.specs.Recurring.{sampling};
 ghost use Rattle.rm_alarm.specs.Group.{due_in};
 ghost use Rattle.rm_alarm.specs.Watched.{number_read};
-ghost use Rattle.rm_agent.specs.Members.{events_of, alarms_of};
+ghost use Rattle.rm_agent.specs.Members.{alarms_of, events_of, sources, watched};
 ghost use Rattle.rm_agent.specs.Watched.{watched_cells};
 ghost use Rattle.rm_agent.specs.Groups.{GroupsStand, AreUnderWay, AreStocked, clock_of, frames_of, left_of, sample_in};
 
@@ -41,26 +41,46 @@ pub(crate) fn all_groups(alloc: Global) -> Result<Box<Groups>, NoMemory>
     Ok(groups)
 }
 
-// The groups before they take storage. They are made in a frame of its own, which is large.
+// The groups before they take storage. They are made in frames of their own, which are large, each of which has room for some of them.
 #[inline(never)]
 fn first_groups() -> Groups
     ensures stands { (settings : Counting) → settings.interfaces ≡ 1 → GroupsStand result (sampling watched_cells settings) [] }
     ensures clock { clock_of result ≡ 0 }
     ensures frames { frames_of result ≡ 0 }
 {
-    reads_cells::<Sources>();
     Both {
         first: System,
         second: Both {
             first: Events::new(),
-            second: Both {
-                first: Both {
-                    first: Ether::new(),
-                    second: History::new(),
-                },
-                second: Alarms::new(),
-            },
+            second: first_watched(),
         },
+    }
+}
+
+// The alarms, and the groups whose variables they sample.
+#[inline(never)]
+fn first_watched() -> Watched<Sources>
+    ensures stands { (settings : Counting) → settings.interfaces ≡ 1 → watched.stands result (sampling watched_cells settings) [] }
+    ensures clock { watched.clock result ≡ 0 }
+    ensures frames { watched.frames result ≡ 0 }
+{
+    reads_cells::<Sources>();
+    Both {
+        first: first_sources(),
+        second: Alarms::new(),
+    }
+}
+
+// The groups whose variables alarms sample.
+#[inline(never)]
+fn first_sources() -> Sources
+    ensures stands { (settings : Counting) → settings.interfaces ≡ 1 → sources.stands result settings [] }
+    ensures clock { sources.clock result ≡ 0 }
+    ensures frames { sources.frames result ≡ 0 }
+{
+    Both {
+        first: Ether::new(),
+        second: History::new(),
     }
 }
 

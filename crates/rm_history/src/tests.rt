@@ -6,7 +6,7 @@ mod walk;
 
 use crate::plan::Plan;
 use crate::run::Run;
-use rm_ether::Counter;
+use rm_ether::{Adding, Counter};
 use rm_pool::Part;
 use rm_proto::facts;
 use std::test::Fail;
@@ -21,7 +21,8 @@ const PLAN: Plan = Plan {
 #[test]
 fn a_frame_at_the_end_of_a_bucket(rt: HostRuntime) -> Result<(), Fail> {
     let alloc = rt.alloc();
-    let frame = facts(&[], 60, false);
+    let known = facts(&[], 60, false);
+    let frame = Adding::of(&known);
     let mut run = Run::spare(alloc)?;
     run.begin(1, PLAN);
     run.frame(&frame, 11999);
@@ -37,7 +38,8 @@ fn a_frame_at_the_end_of_a_bucket(rt: HostRuntime) -> Result<(), Fail> {
 #[test]
 fn empty_buckets_after_a_gap(rt: HostRuntime) -> Result<(), Fail> {
     let alloc = rt.alloc();
-    let frame = facts(&[], 60, false);
+    let known = facts(&[], 60, false);
+    let frame = Adding::of(&known);
     let mut run = Run::spare(alloc)?;
     run.begin(1, PLAN);
     run.frame(&frame, 2000);
@@ -53,7 +55,8 @@ fn empty_buckets_after_a_gap(rt: HostRuntime) -> Result<(), Fail> {
 #[test]
 fn a_bucket_is_kept_until_1024_are_closed_after_it(rt: HostRuntime) -> Result<(), Fail> {
     let alloc = rt.alloc();
-    let frame = facts(&[], 60, false);
+    let known = facts(&[], 60, false);
+    let frame = Adding::of(&known);
     for (last, left) in [(10_242_000, 1), (10_252_000, 0)] {
         let mut run = Run::spare(alloc)?;
         run.begin(1, PLAN);

@@ -1,4 +1,3 @@
-use Rattle.std.proofs.Common.{[]}
 use Rattle.rm_acts.specs.Recurring.{sampling}
 use Rattle.rm_agent.specs.Watched.{watched_cells}
 use Rattle.rm_agent.proofs.groups.first_groups.Goals as goal
@@ -9,11 +8,7 @@ returns-clause-stands c given one =
       first = tt;
       second = record {
         first = c.new.ensures.stands settings;
-        second = record {
-          first = record { first = c.new-2.ensures.stands settings one; second = c.new-3.ensures.stands settings; tied = tt };
-          second = record { stand = c.new-4.ensures.stands settings; based = c.new-4.ensures.based settings };
-          tied = c.reads_cells.ensures given;
-        };
+        second = c.first_watched.ensures.stands given one;
         tied = tt;
       };
       tied = tt;
