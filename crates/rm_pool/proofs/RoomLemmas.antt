@@ -4,12 +4,16 @@ use Rattle.std.specs.Prelude.{Option, IsTrue, Result, Ok, Err, IfErr}
 use Rattle.rm_val.specs.Val.{Val}
 use Rattle.rm_model.specs.ControlTable.{ControlTable, row_index}
 use Rattle.rm_model.specs.ControlRows.{Beginning, set_ask, next_state, is_valid}
-use Rattle.rm_model.specs.Judgement.{Bindings, count_below, name_at, place_of}
+use Rattle.rm_model.specs.Counting.{Counting}
+use Rattle.rm_model.specs.Journal.{Journal}
+use Rattle.rm_model.specs.Judgement.{Bindings, count_below, name_at, place_of, rows_after}
 use Rattle.rm_model.specs.Reserves.{makes_valid, activates_at, activates, count_valid, count_valid_after, Reserves}
 use Rattle.rm_model.specs.declared.place.Place.{Place}
 use Rattle.rm_model.specs.declared.place.Place.TheVariants.{Outside, Entry, Column, Cell}
 use Rattle.rm_status.specs.declared.row.Row.{Row}
+use Rattle.rm_group.specs.declared.denied.Denied.{Denied}
 use Rattle.rm_status.specs.Rows.{rows_before}
+use Rattle.rm_status.specs.RowsAfter.{AreRowsAfter}
 use Rattle.rm_status.proofs.RowsBefore.{valid_before}
 use Rattle.rm_pool.specs.declared.slot.Slot.{Slot}
 use Rattle.rm_pool.specs.Pools.{in_use, IsOfValid}
@@ -35,7 +39,7 @@ module _ (t : ControlTable) (before others : Beginning) (bs : Bindings) (same : 
   count_after_alike : count_valid_after t before bs ≡ count_valid_after t others bs
   count_after_alike = ap (λ p. count_below p (2 ^ 32)) (λ d row. ap (λ s. is_valid (next_state (set_ask t bs (row_index t row)) s)) (same row) d)
 
-  pub reserves_alike : (index : ℕ) → Reserves t before bs index → Reserves t others bs index
+  reserves_alike : (index : ℕ) → Reserves t before bs index → Reserves t others bs index
   reserves_alike index is = record {
     place = is.place;
     within = is.within;
@@ -45,6 +49,17 @@ module _ (t : ControlTable) (before others : Beginning) (bs : Bindings) (same : 
   }
 
 -- what holds of an error makes something else hold of it
-pub of_error : {A B : Type 0} (P Q : B → Type 0) → ((e : B) → P e → Q e) → (r : Result A B) → IfErr r P → IfErr r Q
+of_error : {A B : Type 0} (P Q : B → Type 0) → ((e : B) → P e → Q e) → (r : Result A B) → IfErr r P → IfErr r Q
 of_error P Q makes (Ok x) h = tt
 of_error P Q makes (Err e) h = makes e h
+
+-- what a Set reserves by the rows that are kept, it reserves by each journal after which they are the rows
+pub denied_after : {A C : Type 0} (t : ControlTable) (first : Beginning) (set_to : C → ℕ → Option Val) (rows : List (Row C)) (bs : Bindings) (stands : Counting → Journal → Type 0)
+    → ((settings : Counting) (journal : Journal) → stands settings journal → AreRowsAfter t first set_to rows journal)
+    → (r : Result A Denied) → IfErr r (λ denied. Reserves t (rows_before t set_to rows) bs denied.index)
+    → IfErr r (λ denied. (settings : Counting) (journal : Journal) → stands settings journal → Reserves t (rows_after t first journal) bs denied.index)
+denied_after t first set_to rows bs stands are r is =
+    of_error (λ (denied : Denied). Reserves t (rows_before t set_to rows) bs denied.index)
+    (λ (denied : Denied). (settings : Counting) (journal : Journal) → stands settings journal → Reserves t (rows_after t first journal) bs denied.index)
+    (λ denied is settings journal so. reserves_alike t (rows_before t set_to rows) (rows_after t first journal) bs (are settings journal so).alike.states denied.index is)
+    r is
