@@ -66,6 +66,7 @@ module _ {K V : Type 0} where
   -- and a gap in the one is one in the other
   pub gap_as : (cmp : K → K → Ordering) (t u : RecencyList K V) (xs : List Ptr) (h : K) (i : ℕ) → ((q : Ptr) → In q xs → row_at u q ≡ row_at t q) → IsGap cmp t xs h i → IsGap cmp u xs h i
   gap_as cmp t u xs h i same gap = record {
+    order = gap.order;
     within = gap.within;
     below = λ j q r lt got e. gap.below j q r lt got (sym (same q (at_in q xs j got)) ∙ e);
     above = λ j q r le got e. gap.above j q r le got (sym (same q (at_in q xs j got)) ∙ e);

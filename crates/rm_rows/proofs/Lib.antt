@@ -2,10 +2,11 @@ mod FindLemmas
 mod KeptLemmas
 mod MoveLemmas
 mod TouchLemmas
-mod ValueLemmas
+pub mod ValueLemmas
 mod RankLemmas
 mod WalkLemmas
 mod NextLemmas
+mod MadeUp
 pub mod Members
 pub mod RowsBy
 pub mod Steps

@@ -14,7 +14,8 @@ use Rattle.rm_recency.specs.Threads.{next_of, IsAt, row_at}
 use Rattle.rm_rows.specs.Stored.{In, Pairwise, rows_by, Has, Later, Before}
 use Rattle.rm_rows.proofs.Members.{of_some, compared, in_at, at_in, in_all, pair_at}
 use Rattle.rm_rows.proofs.Steps.{irreflexive}
-use Rattle.rm_rows.specs.Table.{IsAbove, IsNextKey, keys_of, from_mark}
+use Rattle.rm_rows.proofs.WalkLemmas.{from_mark-zero}
+use Rattle.rm_rows.specs.Table.{IsAbove, IsFirstKey, IsNextKey, keys_of, from_mark}
 use Rattle.rm_rows.specs.Index.{rows_in, IsGap, HasKey, IsCut, Kept}
 
 module _ {P K V : Type 0} (row : P → Option (Row K V)) (mark : ℕ) where
@@ -41,18 +42,20 @@ module _ {P K V : Type 0} (row : P → Option (Row K V)) (mark : ℕ) where
 
 module _ {K V : Type 0} (cmp : K → K → Ordering) (order : IsTotalOrder cmp) (t : RecencyList K V) (xs : List Ptr) where
   -- a gap is a cut, and the place after a key too
-  pub cut_none : IsCut cmp t xs None 0
-  cut_none = record { within = omega arith; below = λ k q r lt g e. absurd (omega arith); above = λ k q r le g e. tt }
+  pub cut_none : IsCut t xs (IsAbove cmp None) 0
+  cut_none = record { order = omega arith; within = omega arith; below = λ k q r lt g e. absurd (omega arith); above = λ k q r le g e. tt }
 
-  pub cut_gap : (h : K) (i : ℕ) → IsGap cmp t xs h i → IsCut cmp t xs (Some h) i
+  pub cut_gap : (h : K) (i : ℕ) → IsGap cmp t xs h i → IsCut t xs (IsAbove cmp (Some h)) i
   cut_gap h i gap = record {
+    order = gap.order;
     within = gap.within;
     below = λ k q r lt g e up. irreflexive cmp order h (order.trans h r.key h up (gap.below k q r lt g e));
     above = gap.above;
   }
 
-  pub cut_hit : (h : K) (i : ℕ) (p : Ptr) → Pairwise (Before (row_at t) cmp) xs → i < length xs → slice_get xs i ≡ Some p → HasKey cmp t p h → IsCut cmp t xs (Some h) (i + 1)
+  pub cut_hit : (h : K) (i : ℕ) (p : Ptr) → Pairwise (Before (row_at t) cmp) xs → i < length xs → slice_get xs i ≡ Some p → HasKey cmp t p h → IsCut t xs (IsAbove cmp (Some h)) (i + 1)
   cut_hit h i p sorted lt got has = record {
+    order = omega arith;
     within = omega arith;
     below = λ k q r le g e up. elim (compared k i) [
       | inl less ↦ irreflexive cmp order h (order.trans h r.key h up (subst (λ w. cmp r.key w ≡ Less) has.2 (pair_at (Before (row_at t) cmp) xs k i q p sorted less g got r has.0 e has.1)))
@@ -64,7 +67,7 @@ module _ {K V : Type 0} (cmp : K → K → Ordering) (order : IsTotalOrder cmp) 
     above = λ k q r le g e. subst (λ w. cmp w r.key ≡ Less) has.2 (pair_at (Before (row_at t) cmp) xs i k p q sorted (omega arith) got g has.0 r has.1 e);
   }
 
-  module _ (es : List Ptr) (k : Kept cmp t es xs) (mark : ℕ) (from : Option K) (first : ℕ) (cut : IsCut cmp t xs from first) where
+  module _ (es : List Ptr) (k : Kept cmp t es xs) (mark : ℕ) (IsSuch : K → Type 0) (first : ℕ) (cut : IsCut t xs IsSuch first) where
     abbrev ks : List K
     ks = keys_of (from_mark mark (rows_in t es))
 
@@ -72,21 +75,21 @@ module _ {K V : Type 0} (cmp : K → K → Ordering) (order : IsTotalOrder cmp) 
     abbrev pub IsPassed : ℕ → Type 0
     IsPassed i = (j : ℕ) (q : Ptr) (r : Row K V) → first ≤ j → j < i → slice_get xs j ≡ Some q → row_at t q ≡ Some r → ¬ (mark ≤ r.tick)
 
-    pub next_none : IsPassed (length xs) → IsNextKey cmp ks from None
-    next_none passed = (All-from_recursion (λ (j : K). ¬ (IsAbove cmp from j)) (keys_of (from_mark mark (rows_by (row_at t) es)))
-        (keys_all (row_at t) mark (λ (j : K). ¬ (IsAbove cmp from j)) es k.stored.has (λ q m s e le up.
+    pub next_none : IsPassed (length xs) → IsFirstKey cmp IsSuch ks None
+    next_none passed = (All-from_recursion (λ (j : K). ¬ (IsSuch j)) (keys_of (from_mark mark (rows_by (row_at t) es)))
+        (keys_all (row_at t) mark (λ (j : K). ¬ (IsSuch j)) es k.stored.has (λ q m s e le up.
         let at = in_at q xs (k.stored.index.there q m) in
         elim (compared at.0 first) [
           | inl lt ↦ cut.below at.0 q s lt at.2 e up
           | inr n ↦ passed at.0 q s (elim n [ inl z ↦ omega arith | inr z ↦ omega arith ]) at.1 at.2 e le
         ])))
 
-    pub next_some : (i : ℕ) (p : Ptr) (r : Row K V) → first ≤ i → slice_get xs i ≡ Some p → row_at t p ≡ Some r → mark ≤ r.tick → IsPassed i → IsNextKey cmp ks from (Some r.key)
+    pub next_some : (i : ℕ) (p : Ptr) (r : Row K V) → first ≤ i → slice_get xs i ≡ Some p → row_at t p ≡ Some r → mark ≤ r.tick → IsPassed i → IsFirstKey cmp IsSuch ks (Some r.key)
     next_some i p r after got e le passed = (
       (keys_in (row_at t) mark es p r k.stored.has (k.stored.index.back p (at_in p xs i got)) e le),
       cut.above i p r after got e,
-      (All-from_recursion (λ (j : K). IsAbove cmp from j → ¬ (cmp j r.key ≡ Less)) (keys_of (from_mark mark (rows_by (row_at t) es)))
-          (keys_all (row_at t) mark (λ (j : K). IsAbove cmp from j → ¬ (cmp j r.key ≡ Less)) es k.stored.has (λ q m s f up rises less.
+      (All-from_recursion (λ (j : K). IsSuch j → ¬ (cmp j r.key ≡ Less)) (keys_of (from_mark mark (rows_by (row_at t) es)))
+          (keys_all (row_at t) mark (λ (j : K). IsSuch j → ¬ (cmp j r.key ≡ Less)) es k.stored.has (λ q m s f up rises less.
           let at = in_at q xs (k.stored.index.there q m) in
           elim (compared at.0 i) [
             | inl lt ↦ elim (compared at.0 first) [
@@ -99,6 +102,18 @@ module _ {K V : Type 0} (cmp : K → K → Ordering) (order : IsTotalOrder cmp) 
             ]
           ]))),
     )
+
+  -- the first key of a cut, of all rows
+  module _ (es : List Ptr) (k : Kept cmp t es xs) (IsSuch : K → Type 0) (first : ℕ) (cut : IsCut t xs IsSuch first) where
+    pub first_none : length xs ≤ first → IsFirstKey cmp IsSuch (keys_of (rows_in t es)) None
+    first_none le =
+        subst (λ (rows : List (Row K V)). IsFirstKey cmp IsSuch (keys_of rows) None) (from_mark-zero (rows_in t es))
+        (next_none es k 0 IsSuch first cut (λ j q r a b g e up. omega arith))
+
+    pub first_some : (p : Ptr) (r : Row K V) → slice_get xs first ≡ Some p → row_at t p ≡ Some r → IsFirstKey cmp IsSuch (keys_of (rows_in t es)) (Some r.key)
+    first_some p r got e =
+        subst (λ (rows : List (Row K V)). IsFirstKey cmp IsSuch (keys_of rows) (Some r.key)) (from_mark-zero (rows_in t es))
+        (next_some es k 0 IsSuch first cut first p r (omega arith) got e (omega arith) (λ j q x a b g f up. omega arith))
 
 -- the first node by recency has the greatest tick
 module _ {K V : Type 0} (cmp : K → K → Ordering) (t : RecencyList K V) (es xs : List Ptr) (k : Kept cmp t es xs) where

@@ -26,7 +26,8 @@ use Rattle.rm_rows.specs.Index.{rows_in, HasKey, Kept, IsReserved}
 use Rattle.rm_rows.proofs.KeptLemmas.{member_at, same_place}
 use Rattle.rm_rows.proofs.TouchLemmas.{seek_some}
 
-unchanged : {X : Type 0} (test : X → Bool) (f : X → X) (xs : List X) → find test xs ≡ None → at_first test f xs ≡ xs
+-- a list in which none passes has none changed
+pub unchanged : {X : Type 0} (test : X → Bool) (f : X → X) (xs : List X) → find test xs ≡ None → at_first test f xs ≡ xs
 unchanged test f [] e = refl
 unchanged test f (x ∷ xs) e = elim (cases_Bool (test x)) [
   | inl a ↦ let n : Some x ≡ None = rw a at e in absurd (some_none n)

@@ -12,7 +12,6 @@ use Rattle.rm_evicting.specs.declared.Row.{Row}
 use Rattle.rm_evicting.specs.Row.{is_oldest, without_oldest}
 use Rattle.rm_recency.specs.declared.RecencyList.{RecencyList}
 use Rattle.rm_recency.specs.Threads.{Threaded, IsAt, row_at}
-use Rattle.rm_rows.specs.Table.{IsAbove}
 use Rattle.rm_rows.specs.Stored.{In, Pairwise, IsAfter, rows_by, Earlier, Before, Stored}
 
 -- ys is xs without p
@@ -40,6 +39,18 @@ module _ {K V : Type 0} where
       pub below : (k : ℕ) (q : Ptr) (r : Row K V) → k < low → slice_get es k ≡ Some q → row_at t q ≡ Some r → r.entry < entry
       pub above : (k : ℕ) (q : Ptr) (r : Row K V) → high ≤ k → slice_get es k ≡ Some q → row_at t q ≡ Some r → entry < r.entry
 
+  module _ (t : RecencyList K V) (xs : List Ptr) where
+    -- the keys before the place low are of one kind, and those from the place high on are of another
+    pub record IsParted (IsLow IsHigh : K → Type 0) (low high : ℕ) : Type 0 where
+      pub order : low ≤ high
+      pub within : high ≤ length xs
+      pub below : (k : ℕ) (q : Ptr) (r : Row K V) → k < low → slice_get xs k ≡ Some q → row_at t q ≡ Some r → IsLow r.key
+      pub above : (k : ℕ) (q : Ptr) (r : Row K V) → high ≤ k → slice_get xs k ≡ Some q → row_at t q ≡ Some r → IsHigh r.key
+
+    -- the keys from the place i on are those that are such
+    abbrev pub IsCut : (K → Type 0) → ℕ → Type 0
+    IsCut IsSuch i = IsParted (λ k. ¬ (IsSuch k)) IsSuch i i
+
   module _ (cmp : K → K → Ordering) (t : RecencyList K V) where
     -- links whose nodes' keys rise
     abbrev pub IsIndex : List Ptr → Type 0
@@ -49,24 +60,13 @@ module _ {K V : Type 0} where
     abbrev pub HasKey : Ptr → K → Type 0
     HasKey p h = (r : Row K V) × (row_at t p ≡ Some r) × (r.key ≡ h)
 
-    -- h belongs before the place i
-    pub record IsGap (xs : List Ptr) (h : K) (i : ℕ) : Type 0 where
-      pub within : i ≤ length xs
-      pub below : (k : ℕ) (q : Ptr) (r : Row K V) → k < i → slice_get xs k ≡ Some q → row_at t q ≡ Some r → cmp r.key h ≡ Less
-      pub above : (k : ℕ) (q : Ptr) (r : Row K V) → i ≤ k → slice_get xs k ≡ Some q → row_at t q ≡ Some r → cmp h r.key ≡ Less
-
-    -- the places from i on are those of keys above another
-    pub record IsCut (xs : List Ptr) (from : Option K) (i : ℕ) : Type 0 where
-      pub within : i ≤ length xs
-      pub below : (k : ℕ) (q : Ptr) (r : Row K V) → k < i → slice_get xs k ≡ Some q → row_at t q ≡ Some r → ¬ (IsAbove cmp from r.key)
-      pub above : (k : ℕ) (q : Ptr) (r : Row K V) → i ≤ k → slice_get xs k ≡ Some q → row_at t q ≡ Some r → IsAbove cmp from r.key
-
     -- h belongs between two places
-    pub record IsSearched (xs : List Ptr) (h : K) (low high : ℕ) : Type 0 where
-      pub order : low ≤ high
-      pub within : high ≤ length xs
-      pub below : (k : ℕ) (q : Ptr) (r : Row K V) → k < low → slice_get xs k ≡ Some q → row_at t q ≡ Some r → cmp r.key h ≡ Less
-      pub above : (k : ℕ) (q : Ptr) (r : Row K V) → high ≤ k → slice_get xs k ≡ Some q → row_at t q ≡ Some r → cmp h r.key ≡ Less
+    abbrev pub IsSearched : List Ptr → K → ℕ → ℕ → Type 0
+    IsSearched xs h low high = IsParted t xs (λ k. cmp k h ≡ Less) (λ k. cmp h k ≡ Less) low high
+
+    -- h belongs before the place i
+    abbrev pub IsGap : List Ptr → K → ℕ → Type 0
+    IsGap xs h i = IsSearched xs h i i
 
     -- what holds between two references: es are the links in order of entry, xs those in order of keys
     pub record Kept (es xs : List Ptr) : Type 0 where

@@ -1,5 +1,5 @@
 -- What contracts see of the rows of a table.
-use Rattle.std.specs.Prelude.{◌≡◌, ℕ, zero, suc, ◌+◌, ◌<◌, ◌≤◌, Bool, cond, List, [], ◌∷◌, length, map, filter, find, position, slice_get, nat_lt, Option, Some, None, All, Contains, ⊤, ◌⊎◌, nat_le}
+use Rattle.std.specs.Prelude.{◌≡◌, ℕ, zero, suc, ◌+◌, ◌<◌, ◌≤◌, Bool, true, cond, List, [], ◌∷◌, length, map, filter, find, position, slice_get, nat_lt, Option, Some, None, All, Contains, ⊤, ◌⊎◌, nat_le}
 use Rattle.std.specs.Borrow.{Bor}
 use Rattle.std.specs.Option.{option_map}
 use Rattle.std.specs.declared.cmp.Ordering.{Ordering}
@@ -83,10 +83,22 @@ module _ {K : Type 0} (cmp : K → K → Ordering) where
   IsBetter k None = ⊤
   IsBetter k (Some best) = cmp k best ≡ Less
 
+  -- the least of the keys that are such, if there is one
+  abbrev pub IsFirstKey : (K → Type 0) → List K → Option K → Type 0
+  IsFirstKey IsSuch ks None = All (λ k. ¬ (IsSuch k)) ks
+  IsFirstKey IsSuch ks (Some k) = Contains ks k × IsSuch k × All (λ j. IsSuch j → ¬ (cmp j k ≡ Less)) ks
+
   -- the least key above, if there is one
   abbrev pub IsNextKey : List K → Option K → Option K → Type 0
-  IsNextKey ks from None = All (λ k. ¬ (IsAbove from k)) ks
-  IsNextKey ks from (Some k) = Contains ks k × IsAbove from k × All (λ j. IsAbove from j → ¬ (cmp j k ≡ Less)) ks
+  IsNextKey ks from best = IsFirstKey (IsAbove from) ks best
+
+  -- where a key passes a test, those above it do
+  abbrev pub PassesUpward : (K → Bool) → Type 0
+  PassesUpward test = (one other : K) → test one ≡ true → cmp one other ≡ Less → test other ≡ true
+
+  -- the least key that passes a test, if there is one
+  abbrev pub IsFirstPassing : (K → Bool) → List K → Option K → Type 0
+  IsFirstPassing test ks best = IsFirstKey (λ k. test k ≡ true) ks best
 
   -- a mark and a key stand above others: the mark does, or the key at the same mark
   abbrev pub IsPairAbove : ℕ → Option K → ℕ → K → Type 0

@@ -1,6 +1,7 @@
 //! The rows of a table of bounded size, of which the one that was referred to least recently gives way to a new one.
 #![tactic(auto)]
 
+mod first;
 mod index;
 mod ranks;
 mod rows;
@@ -9,5 +10,6 @@ mod tests;
 mod touch;
 mod walk;
 
+pub use first::Above;
 pub use rows::{Blank, Rows};
 pub use touch::Touch;

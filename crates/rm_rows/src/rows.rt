@@ -5,6 +5,7 @@ ghost use Rattle.std.specs.Prelude.{IfSome, IfNone, Some, None};
 ghost use Rattle.std.specs.Borrow.{sem};
 ghost use Rattle.rm_evicting.specs.Row.{touched};
 
+use crate::first::{Above, first_row};
 use crate::index::{node_of, refer, seek};
 use crate::ranks::{nth, rank};
 use crate::touch::Touch;
@@ -51,7 +52,7 @@ impl<K: Key, V: Blank> Model for Rows<K, V> {
 
 impl<K: Key, V: Blank> Rows<K, V> {
     ghost use Rattle.rm_rows.specs.TableLending.{lends_value};
-    ghost use Rattle.rm_rows.specs.Table.{IsNextKey, IsNextMark, keys_of, pair_copied, order_of, key_at, entry_of, tick_of, touch_answer, row_of, value_of};
+    ghost use Rattle.rm_rows.specs.Table.{IsFirstPassing, PassesUpward, IsNextKey, IsNextMark, keys_of, pair_copied, order_of, key_at, entry_of, tick_of, touch_answer, row_of, value_of};
 
     /// A table without rows, of the capacity for which it reserves memory. NoMemory where there is none.
     pub fn new(alloc: Global, capacity: usize) -> Result<Rows<K, V>, NoMemory>
@@ -169,6 +170,17 @@ impl<K: Key, V: Blank> Rows<K, V> {
         }
     }
 
+    /// The least key above a point. None where there is none.
+    pub fn first<A: Above<K>>(&self, point: &A) -> Option<&K>
+        requires upward { PassesUpward K.cmp (A.is_above point.now) }
+        ensures { IsFirstPassing K.cmp (A.is_above point.now) (keys_of self.now.rows) (option_copied result) }
+    {
+        match first_row(&self.list, &self.index, point) {
+            Some(row) => Some(&row.key),
+            None => None,
+        }
+    }
+
     /// The least pair of a mark and a key above the given one, where each row stands at each mark up to its tick; from all keys of the
     /// mark on where no key is given (RFC 2021, TimeFilter). None where there is none.
     pub fn mark_after(&self, mark: u32, key: Option<&K>) -> Option<(u32, &K)>
@@ -185,7 +197,8 @@ impl<K: Key, V: Blank> Rows<K, V> {
 
     /// How many rows there are.
     pub fn len(&self) -> usize
-        ensures { result ≡ length self.now.rows }
+        ensures value { result ≡ length self.now.rows }
+        ensures within { result ≤ self.now.room }
     {
         self.index.len()
     }

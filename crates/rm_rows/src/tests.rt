@@ -1,4 +1,6 @@
-use crate::{Blank, Rows, Touch};
+ghost use Rattle.std.specs.Prelude.{nat_le, slice_index};
+
+use crate::{Above, Blank, Rows, Touch};
 use std::test::*;
 
 /// How often a key was seen.
@@ -12,6 +14,19 @@ impl Blank for Seen {
 
     fn blank() -> Seen {
         Seen { times: 0 }
+    }
+}
+
+/// The addresses whose first octet isn't below a number.
+struct FirstOctet {
+    least: u8,
+}
+
+impl Above<[u8; 4]> for FirstOctet {
+    ghost is_above = { λ s key. nat_le s.least (slice_index key 0) };
+
+    fn is_above(&self, key: &[u8; 4]) -> bool {
+        key[0] >= self.least
     }
 }
 
@@ -87,5 +102,19 @@ fn walks_go_by_key_and_by_mark(rt: HostRuntime) -> Result<(), Fail> {
     assert_eq!(rt; rows.mark_after(2, Some(&[10, 0, 0, 1])), None);
     rows.clear();
     assert_eq!(rt; rows.after(None), None);
+    Ok(())
+}
+
+#[test]
+#[tactic(auto, using(crate::proofs::MadeUp::octets_rise))]
+fn first_is_the_least_above(rt: HostRuntime) -> Result<(), Fail> {
+    let mut rows: Rows<[u8; 4], Seen> = Rows::new(rt.alloc(), 3)?;
+    assert_eq!(rt; rows.touch([20, 0, 0, 1], 1, 1), Touch::Fresh);
+    assert_eq!(rt; rows.touch([30, 0, 0, 1], 2, 2), Touch::Fresh);
+    assert_eq!(rt; rows.touch([10, 0, 0, 1], 3, 3), Touch::Fresh);
+    assert_eq!(rt; rows.first(&FirstOctet { least: 0 }), Some(&[10, 0, 0, 1]));
+    assert_eq!(rt; rows.first(&FirstOctet { least: 11 }), Some(&[20, 0, 0, 1]));
+    assert_eq!(rt; rows.first(&FirstOctet { least: 30 }), Some(&[30, 0, 0, 1]));
+    assert_eq!(rt; rows.first(&FirstOctet { least: 31 }), None);
     Ok(())
 }

@@ -5,7 +5,7 @@ ghost use denote.RawPtr.{Ptr};
 ghost use Rattle.rm_evicting.specs.declared.Row.{Row as RowOf};
 ghost use Rattle.rm_recency.specs.Threads.{row_at};
 ghost use Rattle.rm_rows.specs.Stored.{In};
-ghost use Rattle.rm_rows.specs.Table.{IsNextKey, key_of, keys_of, from_mark};
+ghost use Rattle.rm_rows.specs.Table.{IsAbove, IsNextKey, key_of, keys_of, from_mark};
 ghost use Rattle.rm_rows.specs.Index.{Kept, IsCut, rows_in};
 
 use crate::index::find;
@@ -15,7 +15,7 @@ use rm_recency::{Node, RecencyList};
 /// The place in the index of the first key above another, or of the first where there is no other.
 fn above<K: Key, V>(list: &RecencyList<K, V>, index: &Vec<*mut Node<K, V>>, key: Option<K>) -> usize
     requires { (es : List Ptr) × Kept K.cmp list.now es index.now.items }
-    ensures { IsCut K.cmp list.now index.now.items key result }
+    ensures { IsCut list.now index.now.items (IsAbove K.cmp key) result }
 {
     match key {
         None => 0,

@@ -1,6 +1,7 @@
 use Rattle.std.proofs.Common.{◌≡◌, ◌≤◌, sym, ap, ◌∙◌, subst, Some, slice_get, arith, inl, inr}
 use Rattle.std.proofs.lemmas.Option.{slice_get_read}
 use Rattle.rm_evicting.specs.declared.Row.{Row}
+use Rattle.rm_rows.specs.Table.{IsAbove}
 use Rattle.rm_rows.proofs.Members.{of_some, compared, at_in}
 use Rattle.rm_recency.specs.Threads.{row_at}
 use Rattle.std.proofs.lemmas.Bool.{both_ways}
@@ -18,7 +19,7 @@ pub returns-then-reaches-clause-next : goal.returns-then-reaches-clause-next
 returns-then-reaches-clause-next g c =
     let v = c.args.index.now in let i = c.loop-place.place in let p = c.index.result.now in
     let got : slice_get v.items i ≡ Some p = slice_get_read v.items v.len i p v.ok.0 (let a = c.loop-place-test.true in let b = c.len-place-end.ensures in omega arith) c.index.ensures in
-    λ es k. next_some g.K.Ord.cmp g.met.K.Ord.total c.args.list.now v.items es k c.args.mark c.args.key c.above-first.result c.above-first.ensures i p c.row-row.result.now (let a = c.loop-place.auto.place in omega arith) got c.row-row.ensures (c.reaches.ensures.reaches.0 c.if-reaches.true) c.loop-place.invariant
+    λ es k. next_some g.K.Ord.cmp g.met.K.Ord.total c.args.list.now v.items es k c.args.mark (IsAbove g.K.Ord.cmp c.args.key) c.above-first.result c.above-first.ensures i p c.row-row.result.now (let a = c.loop-place.auto.place in omega arith) got c.row-row.ensures (c.reaches.ensures.reaches.0 c.if-reaches.true) c.loop-place.invariant
 
 pub loop-place-preserved : goal.loop-place-preserved
 loop-place-preserved g c =
@@ -35,7 +36,7 @@ loop-place-preserved g c =
 pub returns-clause-next : goal.returns-clause-next
 returns-clause-next g c =
     let v = c.args.index.now in
-    λ es k. next_none g.K.Ord.cmp g.met.K.Ord.total c.args.list.now v.items es k c.args.mark c.args.key c.above-first.result c.above-first.ensures
+    λ es k. next_none g.K.Ord.cmp g.met.K.Ord.total c.args.list.now v.items es k c.args.mark (IsAbove g.K.Ord.cmp c.args.key) c.above-first.result c.above-first.ensures
     (λ j q r le lt got e up. c.loop-place.invariant j q r le (let a = c.loop-place-test.false in let b = c.len-place-end.ensures in let d = v.ok.0 in omega arith) got e up)
 
 pub returns-then-is_past-clause-next : goal.returns-then-is_past-clause-next
