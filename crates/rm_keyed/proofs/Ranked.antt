@@ -1,0 +1,27 @@
+-- The ranks that rows have.
+use Rattle.std.proofs.Common.{◌≡◌, ℕ, zero, suc, true, false, ◌&&◌, List, [], ◌∷◌, length, refl, ◌∙◌, nat_le, slice_get, option_map, arith}
+use Rattle.std.specs.Prelude.{is_some}
+use Rattle.std.proofs.lemmas.Bool.Decides.{nat_tests}
+use Rattle.rm_evicting.specs.declared.Row.{Row}
+use Rattle.rm_rows.specs.Table.{key_at, key_of}
+use Rattle.rm_keyed.specs.Indexes.{is_rank}
+
+none_above : (i : ℕ) → false ≡ (nat_le 1 (suc i) && nat_le (suc i) 0)
+none_above i = grind (arith, nat_tests)
+
+first_within : (n : ℕ) → true ≡ (nat_le 1 1 && nat_le 1 (suc n))
+first_within n = grind (arith, nat_tests)
+
+next_within : (i n : ℕ) → (nat_le 1 (suc i) && nat_le (suc i) n) ≡ (nat_le 1 (suc (suc i)) && nat_le (suc (suc i)) (suc n))
+next_within i n = grind (arith, nat_tests)
+
+-- there is a row of each rank from 1 to their number
+module _ {K V : Type 0} where
+  some_there : (i : ℕ) (rows : List (Row K V)) → is_some (option_map key_of (slice_get rows i)) ≡ is_rank (length rows) (suc i)
+  some_there i [] = none_above i
+  some_there zero (row ∷ rows) = first_within (length rows)
+  some_there (suc i) (row ∷ rows) = some_there i rows ∙ next_within i (length rows)
+
+  pub some_at : (rank : ℕ) (rows : List (Row K V)) → is_some (key_at rank rows) ≡ is_rank (length rows) rank
+  some_at zero rows = refl
+  some_at (suc i) rows = some_there i rows

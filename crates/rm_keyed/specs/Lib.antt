@@ -1,0 +1,5 @@
+pub mod Entered
+pub mod Mentions
+pub mod Held
+pub mod Indexes
+pub mod PairLaws

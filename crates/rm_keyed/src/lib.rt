@@ -1,0 +1,18 @@
+//! The rows that frames enter into one table of a control row, by a key of theirs: what each has gained, and when the last one gave way.
+#![tactic(auto)]
+
+mod above;
+mod address_pair;
+mod counts;
+mod held;
+mod indexed;
+mod keyed;
+#[cfg(test)]
+mod tests;
+mod walk;
+
+pub use address_pair::AddressPair;
+pub use counts::Counts;
+pub use indexed::{Indexed, compare_index, index_of};
+pub use keyed::{Keyed, MOST_ROWS};
+pub use walk::{key_above, key_at, rank_above};

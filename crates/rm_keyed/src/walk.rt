@@ -1,0 +1,60 @@
+// Walks of the rows by their indexes.
+ghost use Rattle.std.specs.Prelude.{◌≡◌, ◌≤◌, length, drop, true, false, IfSome, IfNone};
+ghost use Rattle.rm_model.specs.Names.{IsLeastAbove};
+ghost use Rattle.rm_model.specs.Numbers.{IsNumberAbove};
+ghost use Rattle.rm_evicting.specs.Row.{holds};
+ghost use Rattle.rm_keyed.specs.Indexes.{is_index_of, is_rank, is_rank_of};
+
+use crate::above::{FromIndex, OverIndex};
+use crate::counts::Counts;
+use crate::indexed::{Indexed, compare_index, index_of};
+use crate::keyed::Keyed;
+use rm_evicting::Key;
+use rm_nested::{first_number, one_number_above};
+use rm_rows::{Blank, Rows};
+use rm_val::Oid;
+
+/// The least index of a row above some numbers. None where there is none.
+pub fn key_above<K: Indexed, V: Blank>(rows: &Rows<K, V>, numbers: &Oid) -> Option<Oid>
+    ensures least { IsLeastAbove (is_index_of K.index rows.now.rows) numbers.now result }
+    ensures fits { IfSome result (λ index. length index ≤ K.width) }
+{
+    match rows.first(&OverIndex { numbers }) {
+        Some(key) => Some(index_of(key)),
+        None => None,
+    }
+}
+
+/// The key of the row whose index is the numbers of a name from a place on. None where there is none.
+pub fn key_at<'a, K: Indexed, V: Blank>(
+    rows: &'a Rows<K, V>,
+    numbers: &Oid,
+    from: usize,
+) -> Option<&'a K>
+    ensures index { IfSome result (λ key. K.index key.now ≡ drop from numbers.now) }
+    ensures held { IfSome result (λ key. holds K.eq key.now rows.now.rows ≡ true) }
+    ensures none { IfNone result (is_index_of K.index rows.now.rows (drop from numbers.now) ≡ false) }
+{
+    let key = rows.first(&FromIndex { numbers, from })?;
+    if compare_index(key, numbers, from).is_eq() {
+        Some(key)
+    } else {
+        None
+    }
+}
+
+/// The least rank of a row above the first of some numbers, as an index. None where there is none.
+pub fn rank_above<K: Key, V: Counts>(keyed: &Keyed<K, V>, numbers: &Oid) -> Option<Oid>
+    ensures least { IsLeastAbove (is_rank_of (length keyed.now.rows.rows)) numbers.now result }
+    ensures fits { IfSome result (λ index. length index ≤ 1) }
+{
+    let rows = keyed.rows().len() as u32;
+    one_number_above(numbers, rank_after(rows, first_number(numbers)))
+}
+
+// The least rank above a number, where there are so many rows.
+fn rank_after(rows: u32, rank: u32) -> Option<u32>
+    ensures { IsNumberAbove (is_rank rows) rank result }
+{
+    if rank < rows { Some(rank + 1) } else { None }
+}
