@@ -1,23 +1,56 @@
-"""Writes a capture to standard output: so many records of one frame of 60 octets, so many milliseconds apart.
+"""Writes a capture to standard output: so many records, so many milliseconds apart.
 
-    make_capture.py RECORDS APART
+    make_capture.py RECORDS APART [mixed]
+
+Each is one frame of 60 octets. With `mixed` the frames have 60 to 1514 octets and go to and fro among 64 hosts, the same ones
+each time.
 """
 
+import random
 import struct
 import sys
 
 FIRST_SECOND = 1_700_000_000
+LEAST, GREATEST = 60, 1514
+HOSTS = 64
 
 # Magic number for microseconds, version 2.4, zone, accuracy, greatest length, Ethernet.
 FILE_HEADER = struct.pack("<IHHiIII", 0xA1B2C3D4, 2, 4, 0, 0, 262_144, 1)
 
-# Destination, source, the EtherType for local experiments, and an empty payload.
-FRAME = bytes.fromhex("020000000001" "02000000000a" "88b5") + bytes(46)
+# The EtherType for local experiments.
+TYPE = bytes.fromhex("88b5")
 
-records, apart = map(int, sys.argv[1:])
-out = sys.stdout.buffer
-out.write(FILE_HEADER)
-for number in range(records):
-    seconds, milliseconds = divmod(number * apart, 1000)
-    out.write(struct.pack("<IIII", FIRST_SECOND + seconds, milliseconds * 1000, len(FRAME), len(FRAME)))
-    out.write(FRAME)
+
+def frame(dest, source, octets):
+    """A frame from one host to another, with an empty payload."""
+    addresses = b"".join(bytes.fromhex("02") + host.to_bytes(5, "big") for host in (dest, source))
+    return (addresses + TYPE).ljust(octets, b"\0")
+
+
+def mixed_frames():
+    """Frames of all lengths among the hosts, the same ones each time."""
+    chosen = random.Random(1)
+    while True:
+        dest, source = chosen.sample(range(1, HOSTS + 1), 2)
+        yield frame(dest, source, chosen.randint(LEAST, GREATEST))
+
+
+def small_frames():
+    """The same frame again and again."""
+    while True:
+        yield frame(1, 10, LEAST)
+
+
+def main():
+    records, apart = map(int, sys.argv[1:3])
+    frames = mixed_frames() if sys.argv[3:] == ["mixed"] else small_frames()
+    out = sys.stdout.buffer
+    out.write(FILE_HEADER)
+    for number in range(records):
+        seconds, milliseconds = divmod(number * apart, 1000)
+        octets = next(frames)
+        out.write(struct.pack("<IIII", FIRST_SECOND + seconds, milliseconds * 1000, len(octets), len(octets)))
+        out.write(octets)
+
+
+main()
