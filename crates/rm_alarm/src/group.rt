@@ -12,8 +12,9 @@ use crate::cell::LastValue;
 use crate::columns::ALARM_OBJECTS;
 use crate::judging::judge_variables;
 use crate::laws::frames_pass;
-use rm_acts::Firing;
-use rm_group::{Assigns, Denied, Group, Look, Passing, Steps, TableObjects, Tables, lower_verdict};
+use rm_group::{
+    Assigns, Denied, Group, Look, Passing, TableObjects, Tables, Unfired, lower_verdict,
+};
 use rm_model::Verdict;
 use rm_val::{Oid, Value};
 use std::alloc::Global;
@@ -106,17 +107,8 @@ impl Tables for Alarms {
     ghost refuses_listed = { control_listed alarm_table alarm_columns };
 }
 
-// Alarms take part in an act as it begins: a frame makes no difference to them, and no firing does.
-impl Steps for Alarms {
-    ghost use Rattle.std.specs.Prelude.{◌∷◌};
-
-    ghost under_way = { λ s settings act earlier some. AreWhole s settings (act ∷ earlier) };
-
-    fn pass(&mut self, _passing: &Passing<'_>) {
+impl Unfired for Alarms {
+    fn take_frame(&mut self, _passing: &Passing<'_>) {
         frames_pass();
     }
-
-    fn take(&mut self, _firing: &Firing, _moment: u32) {}
-
-    ghost ends = { λ s settings act earlier under. under };
 }

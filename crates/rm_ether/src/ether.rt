@@ -4,10 +4,9 @@ ghost use Rattle.std.specs.Prelude.{◌≡◌, ◌+◌, ◌<◌, ◌≤◌, [], 
 use crate::cell::Counters;
 use crate::change::{Adding, Resting};
 use crate::row::{ETHER_OBJECTS, StatisticsRow};
-use rm_acts::Firing;
 use rm_group::{
-    Assigns, Commits, Denied, Group, Look, MOST_FRAMES, NeverDue, Passing, Readable, Steps,
-    TableObjects, Tables, Unsampled,
+    Assigns, Commits, Denied, Group, Look, MOST_FRAMES, NeverDue, Passing, Readable, TableObjects,
+    Tables, Unfired, Unsampled,
 };
 use rm_model::{State, Verdict};
 use rm_proto::Facts;
@@ -185,19 +184,10 @@ impl Readable for Ether {
     ghost recurring = { λ settings one other journal alike now name. refl };
 }
 
-// Firings make no difference: the group stands for the longer journal as soon as an act begins.
-impl Steps for Ether {
-    ghost use Rattle.rm_ether.specs.Group.{Stands};
-
-    ghost under_way = { λ s settings act earlier some. Stands s settings (act ∷ earlier) };
-
-    fn pass(&mut self, passing: &Passing<'_>) {
+impl Unfired for Ether {
+    fn take_frame(&mut self, passing: &Passing<'_>) {
         self.frame(&passing.facts, passing.moment);
     }
-
-    fn take(&mut self, _firing: &Firing, _moment: u32) {}
-
-    ghost ends = { λ s settings act earlier under. under };
 }
 
 impl Unsampled for Ether {

@@ -47,6 +47,35 @@ pub trait Steps: Group {
         → under_way s settings act earlier (act_fires settings act earlier (fired settings earlier)) → Self.Group.stands s settings (act ∷ earlier) };
 }
 
+/// A group to which firings make no difference: once an act has begun, it stands for the journal with that act. What implements it is
+/// in `Steps` too.
+pub trait Unfired: Group {
+    /// Takes a frame that passes, whose moment isn't below that of the last act. Fewer than `MOST_FRAMES` frames were given before.
+    fn take_frame(&mut self, passing: &Passing<'_>)
+        requires later { Self.Group.clock self.old ≤ passing.now.moment }
+        requires room { Self.Group.frames self.old < MOST_FRAMES }
+        requires length { passing.now.facts.length ≤ MOST_OCTETS }
+        ensures stands { (settings : Counting) (earlier : Journal) (frame : Frame)
+            → IsOf settings frame passing.now.facts passing.now.octets.now passing.now.number passing.now.moment
+            → Self.Group.stands self.old settings earlier → last_moment earlier ≤ passing.now.moment
+            → Self.Group.stands self.new settings (passes frame ∷ earlier) }
+        ensures clock { Self.Group.clock self.new ≤ passing.now.moment }
+        ensures frames { Self.Group.frames self.new ≤ Self.Group.frames self.old + 1 }
+        ensures stocked { Self.Group.stocked self.old → Self.Group.stocked self.new };
+}
+
+impl<G: Unfired> Steps for G {
+    ghost under_way = { λ s settings act earlier some. G.stands s settings (act ∷ earlier) };
+
+    fn pass(&mut self, passing: &Passing<'_>) {
+        self.take_frame(passing);
+    }
+
+    fn take(&mut self, _firing: &Firing, _moment: u32) {}
+
+    ghost ends = { λ s settings act earlier under. under };
+}
+
 /// A group in which the sample of an alarm begins without a call, where its moment isn't below that of the last act. What the sample
 /// reads and crosses makes no difference to it; the firings that come of it may.
 pub trait Unsampled: Steps {
@@ -56,14 +85,8 @@ pub trait Unsampled: Steps {
         → Self.Steps.under_way s settings (samples moment alarm reading) earlier [] };
 }
 
-impl Steps for System {
-    ghost under_way = { λ s settings act earlier some. Unit {0} };
-
-    fn pass(&mut self, _passing: &Passing<'_>) {}
-
-    fn take(&mut self, _firing: &Firing, _moment: u32) {}
-
-    ghost ends = { λ s settings act earlier under. tt };
+impl Unfired for System {
+    fn take_frame(&mut self, _passing: &Passing<'_>) {}
 }
 
 impl Unsampled for System {

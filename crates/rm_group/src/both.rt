@@ -34,50 +34,6 @@ pub struct Both<G, H> {
     pub second: H,
 }
 
-impl<G: Group, H: Beside<G>> Both<G, H> {
-    // What `after` finds. The first group is asked first.
-    fn after_first(&self, name: &Oid, now: u32, out: &mut Oid) -> Option<Value<'_>>
-        ensures next { (settings : Counting) (journal : Journal) → G.stands self.now.first settings journal → H.stands self.now.second settings journal
-            → last_moment journal ≤ now → G.askable self.now.first now → H.askable self.now.second now
-            → IsNext (λ asked. option_or (G.cells settings journal now asked) (H.cells settings journal now asked)) name.now (option_map val_of result) out.new }
-        ensures stays { IfNone result (out.new ≡ out.old) }
-        ensures name_spelling { OnSome result (IsSpellable out.new) }
-        ensures spelling { IfSome result (λ value. HasSpelling (val_of value)) }
-    {
-        let Some(value) = self.first.after(name, now, out) else {
-            return self.second.after(name, now, out);
-        };
-        if is_under(out, H::least()) {
-            return Some(value);
-        }
-        let mut other = Oid::new();
-        let other_value = self.second.after(name, now, &mut other);
-        choose_nearer(Some(value), out, other_value, other)
-    }
-
-    // The same. The second group is asked first.
-    fn after_second(&self, name: &Oid, now: u32, out: &mut Oid) -> Option<Value<'_>>
-        ensures next { (settings : Counting) (journal : Journal) → G.stands self.now.first settings journal → H.stands self.now.second settings journal
-            → last_moment journal ≤ now → G.askable self.now.first now → H.askable self.now.second now
-            → IsNext (λ asked. option_or (G.cells settings journal now asked) (H.cells settings journal now asked)) name.now (option_map val_of result) out.new }
-        ensures stays { IfNone result (out.new ≡ out.old) }
-        ensures name_spelling { OnSome result (IsSpellable out.new) }
-        ensures spelling { IfSome result (λ value. HasSpelling (val_of value)) }
-    {
-        let Some(value) = self.second.after(name, now, out) else {
-            return self.first.after(name, now, out);
-        };
-        if is_under(out, G::least()) {
-            return Some(value);
-        }
-        let mut nearest = Oid::new();
-        let first = self.first.after(name, now, &mut nearest);
-        let nearer = choose_nearer(first, &mut nearest, Some(value), out.copied());
-        *out = nearest;
-        nearer
-    }
-}
-
 impl<G: Group, H: Beside<G>> Group for Both<G, H> {
     ghost stands = { λ s settings journal. StandAsOne (G.stands s.first settings journal) (H.stands s.second settings journal) (H.tied settings) };
 
@@ -120,9 +76,27 @@ impl<G: Group, H: Beside<G>> Group for Both<G, H> {
 
     fn after(&self, name: &Oid, now: u32, out: &mut Oid) -> Option<Value<'_>> {
         if is_before(H::least(), G::least()) {
-            self.after_second(name, now, out)
+            let Some(value) = self.second.after(name, now, out) else {
+                return self.first.after(name, now, out);
+            };
+            if is_under(out, G::least()) {
+                return Some(value);
+            }
+            let mut nearest = Oid::new();
+            let first = self.first.after(name, now, &mut nearest);
+            let nearer = choose_nearer(first, &mut nearest, Some(value), out.copied());
+            *out = nearest;
+            nearer
         } else {
-            self.after_first(name, now, out)
+            let Some(value) = self.first.after(name, now, out) else {
+                return self.second.after(name, now, out);
+            };
+            if is_under(out, H::least()) {
+                return Some(value);
+            }
+            let mut other = Oid::new();
+            let other_value = self.second.after(name, now, &mut other);
+            choose_nearer(Some(value), out, other_value, other)
         }
     }
 
