@@ -15,5 +15,5 @@ pub use laws::{
     one_value, value_or_none, values_are_spellable, values_read_back,
 };
 pub use reader::{Bad, Reader};
-pub use sizes::{length_size, name_size, size};
+pub use sizes::{integer_element_size, length_size, name_size, octets_element_size, size};
 pub use writer::{Room, Writer};

@@ -1,11 +1,10 @@
 // How many octets elements take (X.690, 8.1.3, 8.3 and 8.19; RFC 1905, section 3).
 ghost use Rattle.std.specs.Prelude.{◌≡◌, ◌+◌, ◌^◌, ◌<◌, ◌≤◌, length};
-ghost use Rattle.rm_val.specs.Val.{val_of};
+ghost use Rattle.rm_val.specs.Val.{val_of, int, octets};
 ghost use Rattle.rm_val.specs.Spellable.{IsSpellable, HasSpelling};
-ghost use Rattle.rm_ber.specs.Element.{length_octets, number_size, integer_size, value_element};
+ghost use Rattle.rm_ber.specs.Element.{length_octets, number_size, integer_size, group_octets, name_octets, value_element};
 ghost use Rattle.rm_ber.specs.Canonical.{name_value, HasLength};
 
-use crate::writer::content::name_content;
 use rm_val::{Oid, Value};
 
 /// How many octets the canonical element of a value takes, its tag and its length among them (X.690, 8.1). The slice
@@ -24,7 +23,26 @@ pub fn name_size(name: &Oid) -> usize
     requires { IsSpellable name.now }
     ensures { result ≡ length (value_element (name_value name.now)) }
 {
-    element_size(name_content(name).len())
+    element_size(name_content_size(name))
+}
+
+/// How many octets the canonical element of a signed number takes, its tag and its length among them (X.690, 8.3).
+#[tactic(auto, unfolding(crate::specs::Element::element, crate::specs::Element::integer_octets))]
+pub fn integer_element_size(number: i32) -> usize
+    ensures value { result ≡ length (value_element (int number)) }
+    ensures short { result ≤ 6 }
+{
+    element_size(integer_size(number))
+}
+
+/// How many octets the canonical element of an OCTET STRING takes, its tag and its length among them (X.690, 8.7). It has at
+/// most 4294967295 octets of content.
+#[tactic(auto, unfolding(crate::specs::Element::element))]
+pub fn octets_element_size(bytes: &[u8]) -> usize
+    requires { length bytes.now ≤ 4294967295 }
+    ensures { result ≡ length (value_element (octets bytes.now)) }
+{
+    element_size(bytes.len())
 }
 
 // How many octets an element with so many octets of content takes.
@@ -59,13 +77,40 @@ fn content_size(value: &Value<'_>) -> usize
     match value {
         Value::Int(number) => integer_size(*number),
         Value::Octets(octets) | Value::Opaque(octets) => octets.len(),
-        Value::Name(name) => name_content(name).len(),
+        Value::Name(name) => name_content_size(name),
         Value::Ip(octets) => octets.as_slice().len(),
         Value::Counter(number) | Value::Gauge(number) | Value::Ticks(number) => {
             number_size(u64::from(*number))
         }
         Value::Big(number) => number_size(*number),
         Value::Null | Value::NoObject | Value::NoInstance | Value::EndOfView => 0,
+    }
+}
+
+// How many octets of content the element of a name has.
+fn name_content_size(name: &Oid) -> usize
+    requires { IsSpellable name.now }
+    ensures value { result ≡ length (name_octets name.now) }
+    ensures fits { result ≤ 635 }
+{
+    let mut size = group_size(40 * name.at(0) + name.at(1));
+    for place in 2..name.len() {
+        size += group_size(name.at(place));
+    }
+    size
+}
+
+// How many octets a number takes in base 128.
+fn group_size(number: u32) -> usize
+    ensures value { result ≡ length (group_octets number) }
+    ensures most { result ≤ 5 }
+{
+    match number {
+        0..=0x7f => 1,
+        0x80..=0x3fff => 2,
+        0x4000..=0x1f_ffff => 3,
+        0x20_0000..=0xfff_ffff => 4,
+        _ => 5,
     }
 }
 

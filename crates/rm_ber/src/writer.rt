@@ -2,7 +2,7 @@
 pub(crate) mod content;
 
 ghost use Rattle.std.specs.Prelude.{◌≡◌, ◌≤◌, ◌↔◌, ◌+◌, ◌<◌, List, ℕ, [], ◌∷◌, ◌++◌, length, IsOk, OnOk, OnErr};
-ghost use Rattle.rm_val.specs.Val.{val_of};
+ghost use Rattle.rm_val.specs.Val.{val_of, int, octets};
 ghost use Rattle.rm_val.specs.Spellable.{IsSpellable, HasSpelling};
 ghost use Rattle.rm_ber.specs.Element.{length_octets, element, number_octets, value_element};
 ghost use Rattle.rm_ber.specs.Canonical.{name_value, IsAccepted};
@@ -91,8 +91,8 @@ impl Writer {
         ensures err { OnErr result (self.new ≡ self.old) }
     {
         match value {
-            Value::Int(number) => self.put_element(INTEGER, &integer_content(*number)),
-            Value::Octets(octets) => self.put_element(OCTET_STRING, octets),
+            Value::Int(number) => self.put_integer(*number),
+            Value::Octets(octets) => self.put_octets(octets),
             Value::Null => self.put_element(NULL, &[]),
             Value::Name(name) => self.put_name(name),
             Value::Ip(octets) => self.put_element(IP_ADDRESS, octets),
@@ -118,6 +118,26 @@ impl Writer {
         ensures err { OnErr result (self.new ≡ self.old) }
     {
         self.put_element(OBJECT_IDENTIFIER, &name_content(name))
+    }
+
+    /// Appends the canonical element of a signed number (X.690, 8.3). Room where the whole element doesn't fit; the octets are
+    /// then as before.
+    pub fn put_integer(&mut self, number: i32) -> Result<(), Room>
+        ensures room { IsOk result ↔ (length self.old + length (value_element (int number)) ≤ 1472) }
+        ensures ok { OnOk result (self.new ≡ self.old ++ value_element (int number)) }
+        ensures err { OnErr result (self.new ≡ self.old) }
+    {
+        self.put_element(INTEGER, &integer_content(number))
+    }
+
+    /// Appends the canonical element of an OCTET STRING (X.690, 8.7). Room where the whole element doesn't fit; the octets are
+    /// then as before.
+    pub fn put_octets(&mut self, bytes: &[u8]) -> Result<(), Room>
+        ensures room { IsOk result ↔ (length self.old + length (value_element (octets bytes.now)) ≤ 1472) }
+        ensures ok { OnOk result (self.new ≡ self.old ++ value_element (octets bytes.now)) }
+        ensures err { OnErr result (self.new ≡ self.old) }
+    {
+        self.put_element(OCTET_STRING, bytes)
     }
 
     // Appends the element with that tag and content.

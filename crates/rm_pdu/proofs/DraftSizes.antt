@@ -1,13 +1,15 @@
 -- How many octets a message takes.
-use Rattle.std.proofs.Common.{◌≡◌, ℕ, zero, suc, ◌+◌, ◌≤◌, ℤ, pos, negsuc, List, [], ◌∷◌, ◌++◌, length, flat_map, refl, sym, ap, ◌∙◌, append_assoc, length-append, arith}
+use Rattle.std.proofs.Common.{◌≡◌, ℕ, zero, suc, ◌+◌, ◌≤◌, ℤ, pos, negsuc, List, [], ◌∷◌, ◌++◌, length, take, drop, flat_map, refl, sym, ap, ◌∙◌, append_assoc, length-append, arith}
 use Rattle.std.proofs.lemmas.Bool.Decides.{nat_tests}
 use Rattle.std.proofs.lemmas.Grind.{flat_map-append}
 use Rattle.std.proofs.lemmas.List.{append-nil}
+use Rattle.std.proofs.lemmas.Slice.{drop-append-drop}
+use Rattle.std.proofs.Math.Seq.{take-append_seam}
 use Rattle.std.specs.Int.{bytes_high_first}
-use Rattle.rm_val.specs.Val.{Val, int, octets}
+use Rattle.rm_val.specs.Val.{Val, int, octets, name}
 use Rattle.rm_ber.specs.Element.{length_octets, element, number_size, integer_size, integer_octets, value_element}
 use Rattle.rm_pdu.specs.Message.{kind_tag, Message, binding_octets, message_octets}
-use Rattle.rm_pdu.specs.Draft.{Drafted, drafted, binding_of, and_binding}
+use Rattle.rm_pdu.specs.Draft.{Drafted, drafted, binding_of, and_binding, retold}
 use Rattle.rm_pdu.specs.DraftParts.{header, header_size, element_size, pdu_size, content_size, message_size, front_octets}
 
 -- an element's octets are counted by those of its content
@@ -99,6 +101,23 @@ element_is : (tag n : ℕ) (content : List ℕ) → length content ≡ n → ele
 unfolding element header
 element_is tag n content e = ap (λ (k : ℕ). tag ∷ length_octets k ++ content) e
 
+-- a binding takes as many octets as its size says
+pub binding_size : (numbers : List ℕ) (v : Val)
+    → length (binding_octets (binding_of numbers v)) ≡ element_size (length (value_element (name numbers)) + length (value_element v))
+binding_size numbers v =
+    length-element 0x30 (value_element (name numbers) ++ value_element v) ∙ ap element_size (length-append (value_element (name numbers)) (value_element v))
+
+parted : (a b c d : List ℕ) → a ++ b ++ c ++ d ≡ a ++ (b ++ (c ++ d))
+parted a b c d = simp append_assoc refl
+
+-- the header of a binding, its name and its value are its octets
+pub binding_written : (list new numbers : List ℕ) (v : Val) (content : ℕ) → content ≡ length (value_element (name numbers)) + length (value_element v)
+    → new ≡ list ++ header 0x30 content ++ value_element (name numbers) ++ value_element v → new ≡ list ++ binding_octets (binding_of numbers v)
+binding_written list new numbers v content size is =
+    let inside = value_element (name numbers) ++ value_element v in
+    let opens = element_is 0x30 content inside (length-append (value_element (name numbers)) (value_element v) ∙ sym size) in
+    is ∙ parted list (header 0x30 content) (value_element (name numbers)) (value_element v) ∙ ap (λ (x : List ℕ). list ++ x) (sym opens)
+
 joined : (a b c d e f g h list : List ℕ) → a ++ b ++ c ++ d ++ e ++ f ++ g ++ h ++ list ≡ a ++ (b ++ c ++ (d ++ (e ++ f ++ g ++ (h ++ list))))
 joined a b c d e f g h list = simp append_assoc refl
 
@@ -150,3 +169,27 @@ length-and d m numbers v is =
     let bytes = ap length (drafted-and-list m numbers v) ∙ length-append (drafted m).list (binding_octets (binding_of numbers v)) in
     length-message (and_binding m numbers v) ∙ ap (message_size (drafted m)) bytes
     ∙ ap (λ (x : Drafted). message_size x (length x.list + length (binding_octets (binding_of numbers v)))) (sym is)
+
+-- a draft with another error-status and error-index is the draft of the message that tells them
+pub told : (d : Drafted) (m : Message) (first second : ℤ) → d ≡ drafted m → record d { first = first; second = second } ≡ drafted (retold m first second)
+unfolding drafted
+told d m first second is = ap (λ (x : Drafted). record x { first = first; second = second }) is
+
+-- and it has as many octets
+pub told_short : (d : Drafted) (m : Message) (first second : ℤ) → d ≡ drafted m → length (message_octets (retold m first second)) ≤ 1472
+    → message_size (record d { first = first; second = second }) (length d.list) ≤ 1472
+unfolding drafted
+told_short d m first second is short =
+    let size = ap (λ (x : Drafted). message_size x (length x.list)) (told d m first second is) in
+    let whole = length-message (retold m first second) in
+    omega (arith, size, whole, short)
+
+-- octets that are put in the place of others, and more behind them
+pub placed : (front list old first last : List ℕ) (from to : ℕ) → first ≡ take 0 old ++ front ++ drop from old → from ≡ 0 + length front
+    → last ≡ take from first ++ list ++ drop to first → to ≡ from + length list → last ≡ front ++ list ++ drop to old
+placed front list old first last from to is size_is end to_is =
+    let size : from ≡ length front = omega arith in
+    let head : first ≡ front ++ drop from old = is in
+    let start : take from first ≡ front = ap (take from) head ∙ ap (λ (n : ℕ). take n (front ++ drop from old)) size ∙ take-append_seam front (drop from old) in
+    let rest : drop to first ≡ drop to old = ap (drop to) head ∙ drop-append-drop from old front to (omega arith) (sym size) in
+    end ∙ (λ i. start i ++ list ++ rest i)

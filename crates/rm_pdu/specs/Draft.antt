@@ -40,6 +40,10 @@ empty_message community kind id first second =
 abbrev pub and_binding : Message → List ℕ → Val → Message
 and_binding m numbers v = record m { bindings = m.bindings ++ binding_of numbers v ∷ [] }
 
+-- the message with this error-status and this error-index in place of its own
+abbrev pub retold : Message → ℤ → ℤ → Message
+retold m first second = record m { first = first; second = second }
+
 -- the name and the value of a binding have a spelling, and their numbers are in the ranges of their types
 pub record IsWritableBinding (binding : Binding) : Type 0 where
   pub spellable : IsSpellable binding.name

@@ -1,17 +1,21 @@
 // Writing a message.
-ghost use Rattle.std.specs.Prelude.{◌≡◌, ◌≤◌, ◌↔◌, ◌+◌, ◌++◌, length, drop, IsOk, OnOk, OnErr, IfOk};
+ghost use Rattle.std.specs.Prelude.{◌≡◌, ◌≤◌, ◌<◌, ◌↔◌, ◌+◌, ◌++◌, length, take, drop, IsTrue, false, IsOk, OnOk, OnErr, IfOk};
 ghost use Rattle.rm_val.specs.Val.{val_of, int, octets};
 ghost use Rattle.rm_val.specs.Spellable.{IsSpellable, HasSpelling};
 ghost use Rattle.rm_ber.specs.Element.{value_element};
+ghost use Rattle.rm_ber.specs.Canonical.{name_value, HasLength};
 ghost use Rattle.rm_pdu.specs.Message.{Message, binding_octets, message_octets};
 ghost use Rattle.rm_pdu.specs.Spells.{Spells};
-ghost use Rattle.rm_pdu.specs.Draft.{drafted, empty_message, binding_of, and_binding, IsWritable};
+ghost use Rattle.rm_pdu.specs.Draft.{drafted, empty_message, binding_of, and_binding, retold, IsWritable};
 ghost use Rattle.rm_pdu.specs.DraftParts.{header, header_size, element_size, pdu_size, content_size, message_size, front_octets};
 
 use crate::kind::Kind;
 use crate::layout::{SEQUENCE, VERSION};
 use arrayvec::ArrayVec;
-use rm_ber::{Room, Writer, elements_read_back, length_size, size, values_read_back};
+use rm_ber::{
+    Room, Writer, elements_read_back, integer_element_size, length_size, name_size,
+    octets_element_size, size, values_read_back,
+};
 use rm_val::{Oid, Value};
 use std::marker::Model;
 
@@ -30,7 +34,7 @@ pub struct Draft {
     status: i32,
     index: i32,
     // the canonical octets of the bindings
-    list: ArrayVec<u8, MOST_OCTETS>,
+    list: Writer,
 }
 
 impl Model for Draft {
@@ -40,9 +44,9 @@ impl Model for Draft {
 
     ghost Value = { Drafted };
 
-    ghost view = { λ d. record { community = d.community.items; kind = d.kind; id = d.id; first = d.status; second = d.index; list = d.list.items } };
+    ghost view = { λ d. record { community = d.community.items; kind = d.kind; id = d.id; first = d.status; second = d.index; list = d.list } };
 
-    ghost invariant = { λ d. message_size (record { community = d.community.items; kind = d.kind; id = d.id; first = d.status; second = d.index; list = d.list.items }) (length d.list.items) ≤ 1472 };
+    ghost invariant = { λ d. message_size (record { community = d.community.items; kind = d.kind; id = d.id; first = d.status; second = d.index; list = d.list }) (length d.list) ≤ 1472 };
 }
 
 impl Draft {
@@ -62,7 +66,7 @@ impl Draft {
             id,
             status,
             index,
-            list: ArrayVec::new(),
+            list: Writer::new(),
         }
     }
 
@@ -77,12 +81,24 @@ impl Draft {
             → OnOk result (self.new ≡ drafted (and_binding m name.now (val_of value.now))) }
         ensures err { OnErr result (self.new ≡ self.old) }
     {
-        let binding = binding_octets(name, value)?;
-        if self.size_with(self.list.len() + binding.len()) > MOST_OCTETS {
+        let content = binding_content_size(name, value)?;
+        if self.size_with(self.list.len() + element_size(content)) > MOST_OCTETS {
             return Err(Room);
         }
-        append(&mut self.list, binding.bytes());
+        put_header(&mut self.list, SEQUENCE, content);
+        put_name(&mut self.list, name);
+        put(&mut self.list, value);
         Ok(())
+    }
+
+    /// Tells this error-status and this error-index in place of those before, with which the whole message has at most 1472
+    /// octets.
+    pub fn tell(&mut self, status: i32, index: i32)
+        requires { (m : Message) × (self.old ≡ drafted m) × (length (message_octets (retold m status index)) ≤ 1472) }
+        ensures { (m : Message) → self.old ≡ drafted m → self.new ≡ drafted (retold m status index) }
+    {
+        self.status = status;
+        self.index = index;
     }
 
     /// Writes the message to the front of `out`, each length and each integer in the fewest octets (RFC 1901,
@@ -92,20 +108,9 @@ impl Draft {
         ensures written { (m : Message) → self ≡ drafted m → out.new ≡ message_octets m ++ drop result out.old }
         ensures fits { result ≤ 1472 }
     {
-        let octets = self.octets();
-        out[..octets.len()].copy_from_slice(octets.as_slice());
-        octets.len()
-    }
-
-    // The octets of the message.
-    #[tactic(auto, using(crate::proofs::DraftSizes::whole))]
-    fn octets(&self) -> ArrayVec<u8, MOST_OCTETS>
-        ensures { (m : Message) → self.now ≡ drafted m → result.items ≡ message_octets m }
-    {
-        let mut octets = ArrayVec::new();
-        append(&mut octets, self.front().bytes());
-        append(&mut octets, &self.list);
-        octets
+        let front = self.front();
+        let after_front = place_at(out, 0, front.bytes());
+        place_at(out, after_front, self.list.bytes())
     }
 
     // The octets of the message before those of its bindings.
@@ -117,12 +122,12 @@ impl Draft {
         let list = self.list.len();
         let mut front = Writer::new();
         put_header(&mut front, SEQUENCE, self.content_size(list));
-        put(&mut front, &Value::Int(VERSION));
-        put(&mut front, &Value::Octets(&self.community));
+        put_integer(&mut front, VERSION);
+        put_octets(&mut front, &self.community);
         put_header(&mut front, self.kind.tag(), self.pdu_size(list));
-        put(&mut front, &Value::Int(self.id));
-        put(&mut front, &Value::Int(self.status));
-        put(&mut front, &Value::Int(self.index));
+        put_integer(&mut front, self.id);
+        put_integer(&mut front, self.status);
+        put_integer(&mut front, self.index);
         put_header(&mut front, SEQUENCE, list);
         front
     }
@@ -136,12 +141,15 @@ impl Draft {
     }
 
     // How many octets the content of the message has.
+    #[tactic(auto, using(crate::proofs::DraftSizes::octets_short))]
     fn content_size(&self, list: usize) -> usize
         requires { list ≤ 2944 }
         ensures value { result ≡ content_size self.now list }
         ensures short { result ≤ 3200 }
     {
-        integer_size(VERSION) + community_size(&self.community) + element_size(self.pdu_size(list))
+        integer_element_size(VERSION)
+            + octets_element_size(&self.community)
+            + element_size(self.pdu_size(list))
     }
 
     // How many octets the content of the PDU has.
@@ -150,30 +158,11 @@ impl Draft {
         ensures value { result ≡ pdu_size self.now list }
         ensures short { result ≤ 3000 }
     {
-        integer_size(self.id)
-            + integer_size(self.status)
-            + integer_size(self.index)
+        integer_element_size(self.id)
+            + integer_element_size(self.status)
+            + integer_element_size(self.index)
             + element_size(list)
     }
-}
-
-// How many octets the element of a number takes.
-#[tactic(auto, using(crate::proofs::DraftSizes::integer_short))]
-fn integer_size(number: i32) -> usize
-    ensures value { result ≡ length (value_element (int number)) }
-    ensures short { result ≤ 11 }
-{
-    size(&Value::Int(number))
-}
-
-// How many octets the element of a community takes.
-#[tactic(auto, using(crate::proofs::DraftSizes::octets_short))]
-fn community_size(community: &[u8]) -> usize
-    requires { length community.now ≤ 127 }
-    ensures value { result ≡ length (value_element (octets community.now)) }
-    ensures short { result ≤ 129 }
-{
-    size(&Value::Octets(community))
 }
 
 // How many octets an element takes, given those of its content.
@@ -194,22 +183,36 @@ fn header_size(content: usize) -> usize
     1 + length_size(content)
 }
 
-// The octets of a binding. Room where there are more than 1472.
-#[tactic(auto, unfolding(rm_ber::specs::Element::element))]
-fn binding_octets(name: &Oid, value: &Value<'_>) -> Result<Writer, Room>
+// How many octets the content of a binding takes. Room where its element takes more than 1472.
+#[tactic(auto, using(crate::proofs::DraftSizes::binding_size))]
+fn binding_content_size(name: &Oid, value: &Value<'_>) -> Result<usize, Room>
     requires name { IsSpellable name.now }
     requires value { HasSpelling (val_of value.now) }
     ensures room { IsOk result ↔ (length (binding_octets (binding_of name.now (val_of value.now))) ≤ 1472) }
-    ensures ok { IfOk result (λ written. written ≡ binding_octets (binding_of name.now (val_of value.now))) }
+    ensures ok { IfOk result (λ content. content ≡ length (value_element (name_value name.now)) + length (value_element (val_of value.now))) }
+    ensures few { IfOk result (λ content. element_size content ≤ 1472) }
 {
-    let mut content = Writer::new();
-    content.put_name(name)?;
-    content.put(value)?;
-    let mut binding = Writer::new();
-    binding.put_header(SEQUENCE, content.len())?;
-    binding.put_name(name)?;
-    binding.put(value)?;
-    Ok(binding)
+    if !is_short(value) {
+        return Err(Room);
+    }
+    let name = name_size(name);
+    let value = size(value);
+    if name > MOST_OCTETS || value > MOST_OCTETS || element_size(name + value) > MOST_OCTETS {
+        return Err(Room);
+    }
+    Ok(name + value)
+}
+
+// Whether the octets of a value are no more than a message has.
+#[tactic(auto, unfolding(rm_ber::specs::Element::element))]
+fn is_short(value: &Value<'_>) -> bool
+    ensures short { IsTrue result → HasLength (val_of value.now) }
+    ensures long { result ≡ false → 1472 < length (value_element (val_of value.now)) }
+{
+    match value {
+        Value::Octets(octets) | Value::Opaque(octets) => octets.len() <= MOST_OCTETS,
+        _ => true,
+    }
 }
 
 // Appends the tag and the length of an element. There is room for them.
@@ -231,6 +234,45 @@ fn put(out: &mut Writer, value: &Value<'_>)
     ensures size { length out.new ≡ length out.old + length (value_element (val_of value.now)) }
 {
     out.put(value).unwrap()
+}
+
+// Appends the element of a name. There is room for it.
+fn put_name(out: &mut Writer, name: &Oid)
+    requires spelling { IsSpellable name.now }
+    requires room { length out.old + length (value_element (name_value name.now)) ≤ 1472 }
+    ensures octets { out.new ≡ out.old ++ value_element (name_value name.now) }
+    ensures size { length out.new ≡ length out.old + length (value_element (name_value name.now)) }
+{
+    out.put_name(name).unwrap()
+}
+
+// Appends the element of a number. There is room for it.
+fn put_integer(out: &mut Writer, number: i32)
+    requires room { length out.old + length (value_element (int number)) ≤ 1472 }
+    ensures octets { out.new ≡ out.old ++ value_element (int number) }
+    ensures size { length out.new ≡ length out.old + length (value_element (int number)) }
+{
+    out.put_integer(number).unwrap()
+}
+
+// Appends the element of octets. There is room for it.
+fn put_octets(out: &mut Writer, bytes: &[u8])
+    requires room { length out.old + length (value_element (octets bytes.now)) ≤ 1472 }
+    ensures octets { out.new ≡ out.old ++ value_element (octets bytes.now) }
+    ensures size { length out.new ≡ length out.old + length (value_element (octets bytes.now)) }
+{
+    out.put_octets(bytes).unwrap()
+}
+
+// Puts octets in the place of those that stand from there on, and answers where they end.
+fn place_at(out: &mut [u8; 1472], from: usize, octets: &[u8]) -> usize
+    requires { from + length octets.now ≤ 1472 }
+    ensures value { out.new ≡ take from out.old ++ octets.now ++ drop result out.old }
+    ensures end { result ≡ from + length octets.now }
+{
+    let to = from + octets.len();
+    out[from..to].copy_from_slice(octets);
+    to
 }
 
 fn append<const N: usize>(out: &mut ArrayVec<u8, N>, octets: &[u8])

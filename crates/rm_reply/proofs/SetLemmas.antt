@@ -1,6 +1,6 @@
 -- How the bindings of a SetRequest are read and returned.
 use Rattle.std.proofs.Common.{◌≡◌, ◌+◌, ◌≤◌, ◌<◌, ℕ, suc, pos, Bool, true, false, List, [], ◌∷◌, ◌++◌, length, take, drop, Option, refl, ⊎_elim, sym, ap, subst, ◌∙◌, lit≤, arith}
-use Rattle.std.specs.Prelude.{slice_get, IfSome, IsTrue, ◌↔◌, ◌||◌, ◌&&◌, not, nat_lt}
+use Rattle.std.specs.Prelude.{slice_get, IfSome, IsTrue, ◌↔◌, ◌||◌, not, nat_lt}
 use Rattle.std.proofs.lemmas.Bool.Decides.{nat_tests, leb_tells}
 use Rattle.std.proofs.lemmas.List.{take-append-drop, map-append, take_all, length-map}
 use Rattle.rm_val.specs.Val.{Val}

@@ -1,5 +1,5 @@
 -- How a SetRequest is answered (RFC 1905, section 4.2.5). Which refusals there are, and their order, is said in docs/DECISIONS.md.
-use Rattle.std.specs.Prelude.{◌≡◌, ℕ, Bool, ◌&&◌, ◌||◌, not, nat_lt, MatchBool, List, ◌∷◌, map, length, Option}
+use Rattle.std.specs.Prelude.{◌≡◌, ◌≤◌, ℕ, Bool, ◌&&◌, ◌||◌, not, nat_lt, MatchBool, List, ◌∷◌, map, length, Option}
 use Rattle.std.specs.Option.{option_or}
 use Rattle.rm_val.specs.Val.{Val}
 use Rattle.rm_val.specs.declared.error.ErrorStatus.{ErrorStatus}
@@ -11,6 +11,7 @@ use Rattle.rm_model.specs.Judgement.{Bindings, IsFirstFault, unless}
 use Rattle.rm_model.specs.Accepted.{assignments_of}
 use Rattle.rm_group.specs.Alone.{alone_at, AreFineAlone}
 use Rattle.rm_pdu.specs.Message.{Binding, Message, message_octets}
+use Rattle.rm_pdu.specs.Draft.{Drafted, drafted}
 use Rattle.rm_group.specs.Assignments.{giving}
 use Rattle.rm_reply.specs.Replies.{response_to, too_big}
 
@@ -30,6 +31,11 @@ returning request status index = response_to request status index request.bindin
 -- which a response is longest.
 abbrev pub is_too_much : Message → Bool
 is_too_much request = nat_lt 128 (length request.bindings) || nat_lt 1472 (length (message_octets (returning request NoError 128)))
+
+-- a draft is of the response with the request's own bindings that is longest, and that fits
+pub record IsReturned (request : Message) (draft : Drafted) : Type 0 where
+  pub is : draft ≡ drafted (returning request NoError 128)
+  pub short : length (message_octets (returning request NoError 128)) ≤ 1472
 
 -- whether a request gives a value to a variable, where its community may write or may not
 abbrev pub is_barred : (may_write : Bool) → Message → Bool

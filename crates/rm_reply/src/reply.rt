@@ -1,5 +1,5 @@
 // The replies to requests.
-ghost use Rattle.std.specs.Prelude.{◌≡◌, ◌≤◌, List, length, drop, All, IfSome, is_some};
+ghost use Rattle.std.specs.Prelude.{◌≡◌, ◌≤◌, ◌+◌, List, length, drop, All, IfSome, is_some};
 ghost use Rattle.rm_val.specs.Spellable.{IsSpellable};
 ghost use Rattle.rm_pdu.specs.Message.{Binding, Message};
 ghost use Rattle.rm_reply.specs.Answered.{IsNextBinding};
@@ -15,8 +15,10 @@ use rm_group::{Group, Objects};
 use rm_pdu::{Draft, Kind, bindings_lengthen};
 use rm_val::ErrorStatus;
 
-// How many repeated names are few. A list of as many is made faster.
+// How many repeated names are few, and how many are some. A list of as many is made faster, and takes less of the stack.
 const FEW_NAMES: usize = 4;
+
+const SOME_NAMES: usize = 32;
 
 /// The reply to a request at a moment in milliseconds (RFC 1905, section 4.2). None for a SetRequest.
 pub(crate) fn reply<G: Group + Objects>(
@@ -80,19 +82,20 @@ fn repeat_asked<G: Group + Objects>(
     ensures { OfCells (G.stands groups.now) (G.askable groups.now) G.cells now (λ cells. (m : Message) (list : List Binding) → IsAsked request.now m → IsDrafted m list draft.old
         → PutsLongest (AreRepetitions (IsNextBinding cells) (counting m.second) (drop from (names_of m.bindings))) m list draft.new) }
 {
-    let count = request.count();
     let most = request.repetitions();
-    if count - from <= FEW_NAMES {
-        let mut few = request.names::<FEW_NAMES>(from, count);
-        repeat(groups, &mut few, most, now, draft);
-        return;
+    let count = request.count() - from;
+    if count <= FEW_NAMES {
+        return repeat_listed::<G, FEW_NAMES>(groups, request, most, from, now, draft);
     }
-    repeat_many(groups, request, most, from, now, draft);
+    if count <= SOME_NAMES {
+        return repeat_listed::<G, SOME_NAMES>(groups, request, most, from, now, draft);
+    }
+    repeat_listed::<G, MOST_BINDINGS>(groups, request, most, from, now, draft)
 }
 
-// Puts so many repetitions at most for these names. Their list has room for all of them, in a frame of its own.
+// Puts so many repetitions at most for these names. Their list has room for that many, in a frame of its own.
 #[inline(never)]
-fn repeat_many<G: Group + Objects>(
+fn repeat_listed<G: Group + Objects, const MOST: usize>(
     groups: &G,
     request: &Request<'_>,
     most: u32,
@@ -100,11 +103,13 @@ fn repeat_many<G: Group + Objects>(
     now: u32,
     draft: &mut Draft,
 )
-    requires { (m : Message) × IsAsked request.now m × (length m.bindings ≤ 128) × (from ≤ length m.bindings) }
+    requires asked { (m : Message) × IsAsked request.now m × (length m.bindings ≤ 128) × (from ≤ length m.bindings) × (length m.bindings ≤ from + MOST) }
+    requires small { MOST ≤ 128 }
     ensures { OfCells (G.stands groups.now) (G.askable groups.now) G.cells now (λ cells. (m : Message) (list : List Binding) → IsAsked request.now m → IsDrafted m list draft.old
         → PutsLongest (AreRepetitions (IsNextBinding cells) most (drop from (names_of m.bindings))) m list draft.new) }
 {
-    let mut names = request.names::<MOST_BINDINGS>(from, request.count());
+    let mut names = Names::<MOST>::new();
+    request.put_names(from, request.count(), &mut names);
     repeat(groups, &mut names, most, now, draft);
 }
 

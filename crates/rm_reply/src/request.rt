@@ -1,11 +1,11 @@
 // A request, and the drafts of its replies.
-ghost use Rattle.std.specs.Prelude.{◌≡◌, ◌≤◌, ◌<◌, ◌+◌, ◌↔◌, IsTrue, [], length, All, slice_range, MatchResult, false, nat_lt};
+ghost use Rattle.std.specs.Prelude.{◌≡◌, ◌≤◌, ◌<◌, ◌+◌, ◌↔◌, IsTrue, IfSome, IfNone, true, false, [], length, All, slice_range, MatchResult};
 ghost use Rattle.rm_reply.specs.Replies.{counting};
 
 use crate::names::Names;
 use rm_ber::Room;
 use rm_group::Assignments;
-use rm_pdu::{Draft, Kind, Message, Places, bindings_lengthen, index_128_is_longest};
+use rm_pdu::{Draft, Kind, Message, Places, bindings_lengthen};
 use rm_val::ErrorStatus;
 
 /// The most octets of a reply.
@@ -31,7 +31,7 @@ impl<'a> Request<'a> {
     ghost use Rattle.rm_pdu.specs.Draft.{drafted};
     ghost use Rattle.rm_reply.specs.Replies.{names_of, response_to, non_repeaters};
     ghost use Rattle.rm_reply.specs.Drafting.{IsAsked};
-    ghost use Rattle.rm_reply.specs.Sets.{given_by, returning, is_too_much};
+    ghost use Rattle.rm_reply.specs.Sets.{given_by, returning, is_too_much, IsReturned};
 
     /// Whether it has more bindings than are answered.
     pub(crate) fn is_long(&self) -> bool
@@ -96,54 +96,39 @@ impl<'a> Request<'a> {
         Ok(draft)
     }
 
-    /// Whether there is too much for such a response, with any index.
-    pub(crate) fn is_too_much(&self) -> bool
+    /// The response with the request's own bindings and the greatest index, which is longest. None where there is too much for it.
+    pub(crate) fn longest(&self) -> Option<Draft>
         requires { (m : Whole) × IsAsked self.now m }
-        ensures { (m : Whole) → IsAsked self.now m → result ≡ is_too_much m }
+        ensures some { (m : Whole) → IsAsked self.now m → IfSome result (λ draft. (is_too_much m ≡ false) × IsReturned m draft) }
+        ensures none { (m : Whole) → IsAsked self.now m → IfNone result (is_too_much m ≡ true) }
     {
-        self.is_long() || self.has_no_room()
-    }
-
-    // Whether there is no room for it with the greatest index.
-    fn has_no_room(&self) -> bool
-        requires { (m : Whole) × IsAsked self.now m × (length m.bindings ≤ 128) }
-        ensures { (m : Whole) → IsAsked self.now m → result ≡ nat_lt MOST_REPLY (length (message_octets (returning m ErrorStatus.NoError 128))) }
-    {
+        if self.is_long() {
+            return None;
+        }
         match self.returning(ErrorStatus::NoError, 128) {
-            Ok(_) => false,
-            Err(_) => true,
+            Ok(draft) => Some(draft),
+            Err(_) => None,
         }
     }
 
-    /// The same response, where there isn't too much for it.
-    pub(crate) fn telling(&self, status: ErrorStatus, index: u32) -> Draft
-        requires asked { (m : Whole) × IsAsked self.now m × (length m.bindings ≤ 128) }
-        requires index { index ≤ 128 }
-        requires room { (m : Whole) → IsAsked self.now m → is_too_much m ≡ false }
-        ensures { (m : Whole) → IsAsked self.now m → result ≡ drafted (returning m status index) }
-    {
-        index_128_is_longest();
-        match self.returning(status, index) {
-            Ok(draft) => draft,
-            // It has room.
-            Err(_) => self.begin(ErrorStatus::TooBig, 0),
-        }
-    }
-
-    /// The names of the bindings from one place to before another.
-    pub(crate) fn names<const MOST: usize>(&self, from: usize, to: usize) -> Names<MOST>
+    /// Puts the names of the bindings from one place to before another into an empty list.
+    pub(crate) fn put_names<const MOST: usize>(
+        &self,
+        from: usize,
+        to: usize,
+        names: &mut Names<MOST>,
+    )
         requires asked { (m : Whole) × IsAsked self.now m × (to ≤ length m.bindings) }
         requires order { from ≤ to }
         requires few { to ≤ 128 }
         requires room { to ≤ from + MOST }
-        ensures names { (m : Whole) → IsAsked self.now m → result ≡ slice_range (names_of m.bindings) from to }
-        ensures spelling { All IsSpellable result }
+        requires empty { names.old ≡ [] }
+        ensures names { (m : Whole) → IsAsked self.now m → names.new ≡ slice_range (names_of m.bindings) from to }
+        ensures spelling { All IsSpellable names.new }
     {
-        let mut names = Names::new();
         for place in from..to {
             names.push(self.bindings.name(self.octets, place));
         }
-        names
     }
 
     /// How many of the first names of a GetBulkRequest aren't repeated.

@@ -1,12 +1,12 @@
 // The replies to SetRequests.
-ghost use Rattle.std.specs.Prelude.{◌≡◌, ◌≤◌, length, false};
+ghost use Rattle.std.specs.Prelude.{◌≡◌, ◌≤◌, length};
 ghost use Rattle.rm_pdu.specs.Message.{Message};
 ghost use Rattle.rm_model.specs.Judgement.{IsFirstFault, unless};
 ghost use Rattle.rm_val.specs.declared.error.ErrorStatus.TheVariants.{NotWritable};
 ghost use Rattle.rm_group.specs.Alone.{alone_at, AreFineAlone, IsWithin};
 ghost use Rattle.rm_pdu.specs.Draft.{drafted};
 ghost use Rattle.rm_reply.specs.Drafting.{LeadsOn, IsAsked, DraftsOne};
-ghost use Rattle.rm_reply.specs.Sets.{alone_among, given_by, is_too_much, is_barred, telling, Judges, IsSetReply};
+ghost use Rattle.rm_reply.specs.Sets.{alone_among, given_by, is_barred, returning, telling, IsReturned, Judges, IsSetReply};
 ghost use Rattle.rm_model.specs.Readings.{nothing_read};
 
 use crate::request::{MOST_BINDINGS, Request};
@@ -15,12 +15,14 @@ use rm_group::{
     Assignments, Assigns, Commits, Group, Objects, lower_verdict, order_does_not_matter,
 };
 use rm_model::Verdict;
-use rm_pdu::Draft;
+use rm_pdu::{Draft, index_128_is_longest};
 use rm_val::ErrorStatus;
 use std::alloc::Global;
 
-// How many bindings are few. A list of as many is made faster.
+// How many bindings are few, and how many are some. A list of as many is made faster, and takes less of the stack.
 const FEW_BINDINGS: usize = 8;
+
+const SOME_BINDINGS: usize = 64;
 
 /// Answers a SetRequest at a moment in milliseconds, at which the groups may be asked, where its community may write or may not
 /// (RFC 1905, section 4.2.5).
@@ -41,20 +43,14 @@ pub(crate) fn set<G: Commits + Objects>(
     ensures frames { G.frames groups.new ≡ G.frames groups.old }
     ensures stocked { G.stocked groups.new }
 {
-    if request.is_too_much() {
+    let Some(draft) = request.longest() else {
         return request.begin(ErrorStatus::TooBig, 0);
-    }
+    };
     if is_barred(may_write, request) {
-        return request.telling(ErrorStatus::NoAccess, 1);
+        return telling(draft, ErrorStatus::NoAccess, 1);
     }
-    if request.count() <= FEW_BINDINGS {
-        let mut given = Assignments::<FEW_BINDINGS>::new();
-        request.give(&mut given);
-        let verdict = perform(groups, alloc, &given, now);
-        return told(request, verdict);
-    }
-    let verdict = perform_many(groups, alloc, request, now);
-    told(request, verdict)
+    let verdict = perform_asked(groups, alloc, request, now);
+    told(draft, verdict)
 }
 
 // Whether a request gives a value to a variable, where its community may write or may not.
@@ -65,22 +61,31 @@ fn is_barred(may_write: bool, request: &Request<'_>) -> bool
     !may_write && request.count() > 0
 }
 
-// The response that tells a verdict, where there isn't too much for it.
-fn told(request: &Request<'_>, verdict: Verdict) -> Draft
-    requires asked { (m : Message) × IsAsked request.now m × (length m.bindings ≤ 128) }
+// The response that tells a verdict, from that with the greatest index.
+fn told(draft: Draft, verdict: Verdict) -> Draft
+    requires returned { (m : Message) × IsReturned m draft }
     requires within { IsWithin 128 verdict }
-    requires room { (m : Message) → IsAsked request.now m → is_too_much m ≡ false }
-    ensures { (m : Message) → IsAsked request.now m → result ≡ drafted (telling m verdict) }
+    ensures { (m : Message) → IsReturned m draft → result ≡ drafted (telling m verdict) }
 {
     match verdict {
-        Verdict::Fine => request.telling(ErrorStatus::NoError, 0),
-        Verdict::Wrong { status, index } => request.telling(status, index),
+        Verdict::Fine => telling(draft, ErrorStatus::NoError, 0),
+        Verdict::Wrong { status, index } => telling(draft, status, index),
     }
 }
 
-// Performs what the bindings of a request give. The list has room for all of them, in a frame of its own.
-#[inline(never)]
-fn perform_many<G: Commits + Objects>(
+// The response with this status and this index, from that with the greatest index.
+fn telling(mut draft: Draft, status: ErrorStatus, index: u32) -> Draft
+    requires returned { (m : Message) × IsReturned m draft }
+    requires index { index ≤ 128 }
+    ensures { (m : Message) → IsReturned m draft → result ≡ drafted (returning m status index) }
+{
+    index_128_is_longest();
+    draft.tell(status.number(), index as i32);
+    draft
+}
+
+// Performs what the bindings of a request give, from a list that has not much more room than they need.
+fn perform_asked<G: Commits + Objects>(
     groups: &mut G,
     alloc: Global,
     request: &Request<'_>,
@@ -96,7 +101,36 @@ fn perform_many<G: Commits + Objects>(
     ensures frames { G.frames groups.new ≡ G.frames groups.old }
     ensures stocked { G.stocked groups.new }
 {
-    let mut given = Assignments::<MOST_BINDINGS>::new();
+    let count = request.count();
+    if count <= FEW_BINDINGS {
+        return perform_listed::<G, FEW_BINDINGS>(groups, alloc, request, now);
+    }
+    if count <= SOME_BINDINGS {
+        return perform_listed::<G, SOME_BINDINGS>(groups, alloc, request, now);
+    }
+    perform_listed::<G, MOST_BINDINGS>(groups, alloc, request, now)
+}
+
+// Performs what the bindings of a request give. Their list has room for that many, in a frame of its own.
+#[inline(never)]
+fn perform_listed<G: Commits + Objects, const MOST: usize>(
+    groups: &mut G,
+    alloc: Global,
+    request: &Request<'_>,
+    now: u32,
+) -> Verdict
+    requires asked { (m : Message) × IsAsked request.now m × (length m.bindings ≤ 128) × (length m.bindings ≤ MOST) }
+    requires small { MOST ≤ 128 }
+    requires later { G.clock groups.old ≤ now }
+    requires stocked { G.stocked groups.old }
+    ensures judged { (m : Message) → IsAsked request.now m → LeadsOn (G.stands groups.old) (G.stands groups.new) (G.askable groups.old now) now (λ settings journal after.
+        Judges (alone_among G.objects G.alone) (G.together settings journal now nothing_read) (G.reserves settings journal) now journal (given_by m.bindings) result after) }
+    ensures within { IsWithin 128 result }
+    ensures clock { G.clock groups.new ≤ now }
+    ensures frames { G.frames groups.new ≡ G.frames groups.old }
+    ensures stocked { G.stocked groups.new }
+{
+    let mut given = Assignments::<MOST>::new();
     request.give(&mut given);
     perform(groups, alloc, &given, now)
 }

@@ -74,10 +74,10 @@ fn group_at(octets: &[u8]) -> Option<(u32, &[u8])>
     None
 }
 
-// The name with the numbers of the groups at its end.
-fn with_groups(mut name: Oid, groups: &[u8]) -> Option<Oid>
-    requires { length name ≤ 128 }
-    ensures { result ≡ extended name (groups_within (length groups.now) groups.now) }
+// Appends the numbers of the groups to a name. None where there is no room, or where they are no groups.
+fn put_groups(name: &mut Oid, groups: &[u8]) -> Option<()>
+    requires { length name.old ≤ 128 }
+    ensures { option_map (λ done. name.new) result ≡ extended name.old (groups_within (length groups.now) groups.now) }
 {
     let mut rest = groups;
     while !rest.is_empty() {
@@ -85,7 +85,7 @@ fn with_groups(mut name: Oid, groups: &[u8]) -> Option<Oid>
         name.push(number).ok()?;
         rest = more;
     }
-    Some(name)
+    Some(())
 }
 
 // The first two numbers of a name, from its first group (X.690, 8.19.4).
@@ -105,8 +105,12 @@ pub(crate) fn read_name(content: &[u8]) -> Option<Oid>
     ensures { result ≡ name_in content.now }
 {
     let (group, rest) = group_at(content)?;
-    let name = Oid::from_slice(&first_numbers(group)).ok()?;
-    with_groups(name, rest)
+    let [first, second] = first_numbers(group);
+    let mut name = Oid::new();
+    name.push(first).ok()?;
+    name.push(second).ok()?;
+    put_groups(&mut name, rest)?;
+    Some(name)
 }
 
 // The value of a kind that has no content.

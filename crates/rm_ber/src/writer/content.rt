@@ -36,11 +36,24 @@ pub(crate) fn name_content(name: &Oid) -> ArrayVec<u8, NAME_OCTETS>
     ensures fit { All (λ n. n < 2 ^ 32) name.now }
 {
     let mut content = ArrayVec::new();
-    append(&mut content, group(40 * name.at(0) + name.at(1)).as_slice());
+    put_group(&mut content, 40 * name.at(0) + name.at(1));
     for place in 2..name.len() {
-        append(&mut content, group(name.at(place)).as_slice());
+        put_group(&mut content, name.at(place));
     }
     content
+}
+
+// Appends a number in base 128, for which there is room.
+fn put_group<const N: usize>(out: &mut ArrayVec<u8, N>, number: u32)
+    requires { length out.old.items + 5 ≤ N }
+    ensures value { out.new.items ≡ out.old.items ++ group_octets number }
+    ensures few { length (group_octets number) ≤ 5 }
+{
+    if number < 0x80 {
+        out.push(number as u8);
+    } else {
+        append(out, group(number).as_slice());
+    }
 }
 
 // A number in base 128, the highest digit first, and the high bit set in each octet but the last.

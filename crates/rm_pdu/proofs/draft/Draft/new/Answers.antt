@@ -8,7 +8,7 @@ use Rattle.rm_pdu.proofs.draft.Draft.new.Goals as goal
 
 pub invariant_of-result : goal.invariant_of-result
 invariant_of-result c =
-    new_short (record { community = c.append.new.out.items; kind = c.args.kind; id = _; first = _; second = _; list = c.new.result.items })
+    new_short (record { community = c.append.new.out.items; kind = c.args.kind; id = _; first = _; second = _; list = c.new.result })
     (grind (arith, common_steps)) (grind (arith, common_steps))
 
 pub returns-clause-fits : goal.returns-clause-fits

@@ -1,6 +1,6 @@
 use Rattle.std.proofs.Common.{rules}
 use Rattle.rm_ber.proofs.GrammarNames.{group_shorter, groups_end, groups_more, groups_full, groups_broken}
-use Rattle.rm_ber.proofs.reader.content.with_groups.Goals as goal
+use Rattle.rm_ber.proofs.reader.content.put_groups.Goals as goal
 
 pub returns-in_err-number : goal.returns-in_err-number
 returns-in_err-number c =

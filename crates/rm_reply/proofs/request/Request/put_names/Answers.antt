@@ -3,7 +3,7 @@ use Rattle.std.proofs.lemmas.List.{length-append}
 use Rattle.std.proofs.lemmas.List.Elements.{All-push, All-same}
 use Rattle.rm_val.specs.Spellable.{IsSpellable}
 use Rattle.rm_reply.proofs.NameLemmas.{names_more}
-use Rattle.rm_reply.proofs.request.Request.names.Goals as goal
+use Rattle.rm_reply.proofs.request.Request.put_names.Goals as goal
 
 -- src/request.rt:61:9
 pub loop-place-preserved : goal.loop-place-preserved

@@ -1,7 +1,7 @@
 use Rattle.rm_model.specs.Readings.{nothing_read}
 use Rattle.rm_reply.specs.Sets.{alone_among}
 use Rattle.rm_reply.proofs.SetLemmas.{judges_asked, within_asked}
-use Rattle.rm_reply.proofs.set.perform_many.Goals as goal
+use Rattle.rm_reply.proofs.set.perform_listed.Goals as goal
 
 pub returns-clause-judged : goal.returns-clause-judged
 returns-clause-judged g c m asked settings journal stands later askable =
@@ -14,5 +14,5 @@ returns-clause-judged g c m asked settings journal stands later askable =
 
 pub returns-clause-within : goal.returns-clause-within
 returns-clause-within g c =
-    let (m, asked, few) = c.requires.asked in
+    let (m, asked, few, room) = c.requires.asked in
     within_asked m c.give.new.given c.perform.result (c.give.ensures m asked) few c.perform.ensures.within

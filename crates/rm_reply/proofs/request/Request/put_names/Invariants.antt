@@ -4,7 +4,7 @@ use Rattle.rm_val.specs.Spellable.{IsSpellable}
 use Rattle.rm_pdu.specs.Message.{Message as Whole}
 use Rattle.rm_reply.specs.Replies.{names_of}
 use Rattle.rm_reply.specs.Drafting.{IsAsked}
-use Rattle.rm_reply.proofs.request.Request.names.Given as goal
+use Rattle.rm_reply.proofs.request.Request.put_names.Given as goal
 
 abbrev pub invariant-loop-place : goal.invariant-loop-place
 invariant-loop-place g l =
