@@ -3,3 +3,4 @@ pub mod Mentions
 pub mod Held
 pub mod Indexes
 pub mod PairLaws
+pub mod TwoTables

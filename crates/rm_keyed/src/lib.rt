@@ -9,10 +9,12 @@ mod indexed;
 mod keyed;
 #[cfg(test)]
 mod tests;
+mod two_tables;
 mod walk;
 
 pub use address_pair::AddressPair;
 pub use counts::Counts;
 pub use indexed::{Indexed, compare_index, index_of};
 pub use keyed::{Keyed, MOST_ROWS};
+pub use two_tables::{cell_of_all, next_of_all};
 pub use walk::{key_above, key_at, rank_above};

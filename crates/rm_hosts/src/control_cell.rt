@@ -1,0 +1,52 @@
+// What the columns of hostControl show that can't be set.
+ghost use Rattle.std.specs.Prelude.{◌≡◌, ◌≤◌};
+ghost use Rattle.std.specs.Option.{option_copied};
+ghost use Rattle.rm_keyed.specs.declared.keyed.TheConstants.{MOST_ROWS};
+ghost use Rattle.rm_hosts.specs.Shown.{kept_other, size_in, deleted_in};
+
+use crate::control_columns::ControlColumns;
+use crate::host_table::HostTable;
+use rm_pool::Pool;
+use rm_status::{OtherColumns, Row};
+use rm_val::Value;
+
+/// hostControlTableSize and hostControlLastDeleteTime.
+#[derive(Clone, Copy, Drop)]
+pub(crate) struct Sizes<'a> {
+    /// The hosts of the rows.
+    pub tables: &'a Pool<HostTable>,
+}
+
+impl OtherColumns<ControlColumns> for Sizes<'_> {
+    ghost others = { λ s rows. kept_other s.tables.now };
+
+    fn other(&self, index: u32, _row: &Row<ControlColumns>, column: u32) -> Value<'static> {
+        let table = self.tables.get(index);
+        if column == 3 {
+            Value::Int(size_of(table) as i32)
+        } else {
+            Value::Ticks(deleted_at(table))
+        }
+    }
+}
+
+// How many hosts a row holds.
+fn size_of(table: Option<&HostTable>) -> usize
+    ensures value { result ≡ size_in (option_copied table.entry) }
+    ensures most { result ≤ MOST_ROWS }
+{
+    match table {
+        Some(table) => table.keyed.rows().len(),
+        None => 0,
+    }
+}
+
+// When a host of a row last gave way to another, in hundredths of a second; 0 before.
+fn deleted_at(table: Option<&HostTable>) -> u32
+    ensures { result ≡ deleted_in (option_copied table.entry) }
+{
+    match table {
+        Some(table) => table.keyed.last_delete(),
+        None => 0,
+    }
+}
