@@ -4,7 +4,7 @@ use Rattle.hex.specs.Hex.{decode_of}
 use Rattle.rm_edge.specs.Outside.{Adds, AddsFront, Rose}
 use Rattle.rm_pdu.specs.Parse.{Parse, IsParse}
 use Rattle.rm_decode.specs.Text.{text_of}
-use Rattle.rm_agent.specs.declared.settings.Settings.{Settings}
+use Rattle.rm_settings.specs.declared.settings.Settings.{Settings}
 use Rattle.rm_probe.specs.Capture.{status_of}
 use Rattle.rm_probe.specs.Ends.{Ends, IsComplete, IsExact}
 use Rattle.rm_probe.specs.Serving.{Serves, ServesExactly, local_port}

@@ -11,10 +11,10 @@ ghost use Rattle.rm_probe.specs.Serving.{IsIdle, ServesExactly};
 ghost use Rattle.rm_probe.specs.declared.status.Status.TheVariants.{Done, LinkFault, NoMemory, ReadFault, Usage};
 ghost use Rattle.rm_cmd.specs.Commands.{AreSet, AreUnused, Decodes, Does, EndsWith, HasPort, HavePort, IsFileOf, OfDecode, OfReplay, OfServe, OfSummary, Reads, ServesWith, Summarizes};
 
-use rm_agent::Settings;
 use rm_decode::Unwritten;
 use rm_edge::{Clock, Link, Shelf, Sink, Words};
 use rm_probe::Status;
+use rm_settings::Settings;
 use rm_summary::SummaryFault;
 use rm_words::{Command, RunOptions, one_command, read_command};
 use std::alloc::Global;
@@ -160,7 +160,7 @@ fn run_replay<F: Shelf, K: Sink>(
     ensures command { (result ≢ Usage) × (result ≢ LinkFault) }
 {
     let lead = options.lead;
-    let settings = settings_of(options);
+    let settings = options.settings;
     rm_probe::replay(alloc, settings, lead, capture, requests, shelf, out)
 }
 
@@ -189,7 +189,7 @@ fn run_serve<F: Shelf, K: Sink, L: Link, T: Clock>(
     ensures command { result ≢ Usage }
 {
     let lead = options.lead;
-    let settings = settings_of(options);
+    let settings = options.settings;
     rm_probe::serve(
         alloc, settings, lead, capture, port, count, trap_port, shelf, out, link, clock,
     )
@@ -233,19 +233,5 @@ fn run_decode<K: Sink>(alloc: Global, digits: &str, out: &mut K) -> Status
         Ok(()) => Status::Done,
         Err(Unwritten::Failed) => Status::WriteFault,
         Err(Unwritten::NoMemory) => Status::NoMemory,
-    }
-}
-
-// What the probe is set to by the options of a run.
-fn settings_of(options: RunOptions) -> Settings
-    ensures { AreSet result (options_of options) }
-{
-    Settings {
-        hosts: options.hosts,
-        pairs: options.pairs,
-        upper: options.upper,
-        keep_short: options.keep_short,
-        read: options.read,
-        write: options.write,
     }
 }

@@ -2,7 +2,7 @@
 use Rattle.std.proofs.Common.{◌≡◌, ℕ, true, List, refl, sym, ap}
 use Rattle.rm_model.specs.Journal.{Journal}
 use Rattle.rm_pdu.specs.Parse.{Parse, IsParse}
-use Rattle.rm_agent.specs.declared.settings.Settings.{Settings}
+use Rattle.rm_settings.specs.declared.settings.Settings.{Settings}
 use Rattle.rm_agent.specs.declared.answer.Answer.{Answer}
 use Rattle.rm_agent.specs.declared.answer.Answer.TheVariants.{Reply, Drop}
 use Rattle.rm_agent.specs.Answers.{reason_for, reason_in, IsReplied}

@@ -9,7 +9,7 @@ use Rattle.rm_pcap.specs.Calls.{BeginsAs, IsFirstFault}
 use Rattle.rm_pcap.specs.declared.form.Form.{Form}
 use Rattle.rm_pcap.specs.declared.fault.PcapFault.{PcapFault}
 use Rattle.rm_pcap.specs.declared.fault.PcapFault.TheVariants.{Magic, Version, LinkType, Read, NoMemory as OutOfMemory}
-use Rattle.rm_agent.specs.declared.settings.Settings.{Settings}
+use Rattle.rm_settings.specs.declared.settings.Settings.{Settings}
 use Rattle.rm_probe.specs.Capture.{IsFaultless, IsCapture, IsCaptureFile, IsBroken, CallsFor, status_of}
 use Rattle.rm_requests.specs.Lines.{TimedDatagram, requests_of, AreRequests, HasTooManyLines, IsRequestFile, IsWrongAt}
 use Rattle.rm_requests.specs.declared.fault.RequestsFault.{RequestsFault}

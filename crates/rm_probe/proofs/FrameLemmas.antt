@@ -14,7 +14,7 @@ use Rattle.rm_pcap.specs.declared.frame.Step.TheVariants.{Next}
 use Rattle.rm_pcap.specs.declared.fault.PcapFault.{PcapFault}
 use Rattle.rm_pcap.specs.declared.fault.PcapFault.TheVariants.{Magic, Version, LinkType, Included, Original, Late, TooMany, Read, NoMemory}
 use Rattle.rm_pcap.specs.declared.reach.Reach.{Reach}
-use Rattle.rm_agent.specs.declared.settings.Settings.{Settings}
+use Rattle.rm_settings.specs.declared.settings.Settings.{Settings}
 use Rattle.rm_probe.specs.Advance.{IsAdvanced}
 use Rattle.rm_probe.specs.Events.{is_by, frames_after}
 use Rattle.rm_probe.specs.Probe.{settings_of, last_given, frames_given, Stands}

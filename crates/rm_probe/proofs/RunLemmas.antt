@@ -18,7 +18,7 @@ use Rattle.rm_probe.specs.declared.status.Status.TheVariants.{Done, Usage, BadCa
 use Rattle.rm_probe.specs.Events.{Event, Asks, is_by, frames_after, events, events_by, frames_left, comings}
 use Rattle.rm_probe.specs.Said.{Said, Notified, Last}
 use Rattle.rm_probe.specs.Text.{AreSaid, IsRun}
-use Rattle.rm_agent.specs.declared.settings.Settings.{Settings}
+use Rattle.rm_settings.specs.declared.settings.Settings.{Settings}
 use Rattle.rm_agent.specs.Orderly.{IsOrderly}
 use Rattle.rm_probe.specs.Probe.{settings_of, last_given, Stands}
 use Rattle.rm_probe.specs.Steps.{FailsBy, FindsAnother, HasBegun, IsForeign, IsLastSaid, IsNextSaid, IsNotLeft, IsNotRequests, IsQuiet, Keeps, Leaves, SaysNext, SaysRun, ends_by}

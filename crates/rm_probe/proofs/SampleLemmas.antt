@@ -4,7 +4,7 @@ use mathlib.Core.List.{map-append}
 use Rattle.rm_model.specs.Journal.{Journal}
 use Rattle.rm_acts.specs.Alarms.{due_of, IsNextDue}
 use Rattle.rm_pdu.specs.Message.{Message, message_octets}
-use Rattle.rm_agent.specs.declared.settings.Settings.{Settings}
+use Rattle.rm_settings.specs.declared.settings.Settings.{Settings}
 use Rattle.rm_agent.specs.Orderly.{NoneIsDue}
 use Rattle.rm_agent.specs.Agent.{sample_of, IsWritten}
 use Rattle.rm_agent.specs.Advance.{sent_at, notifications_of, none_due, one_due}

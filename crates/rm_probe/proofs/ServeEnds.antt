@@ -12,7 +12,7 @@ use Rattle.rm_pcap.specs.declared.fault.PcapFault.TheVariants.{Magic, Version, L
 use Rattle.rm_pcap.specs.Calls.{IsFirstFault}
 use Rattle.rm_pcap.specs.Progress.{Progress, begun}
 use Rattle.rm_pcap.specs.declared.form.Form.{Form}
-use Rattle.rm_agent.specs.declared.settings.Settings.{Settings}
+use Rattle.rm_settings.specs.declared.settings.Settings.{Settings}
 use Rattle.rm_probe.specs.Capture.{IsCapture, IsCaptureFile, CallsFor, status_of}
 use Rattle.rm_probe.specs.Events.{events_by, frames_left}
 use Rattle.rm_probe.specs.Output.{HasAdded, IsSaidFront, front_none}

@@ -9,7 +9,7 @@ use Rattle.rm_edge.specs.declared.outside.link.Peer.{Peer}
 use Rattle.rm_model.specs.Journal.{Frame, Journal}
 use Rattle.rm_pcap.specs.Records.{Stop}
 use Rattle.rm_pcap.specs.Progress.{Progress}
-use Rattle.rm_agent.specs.declared.settings.Settings.{Settings}
+use Rattle.rm_settings.specs.declared.settings.Settings.{Settings}
 use Rattle.rm_requests.specs.Lines.{TimedDatagram}
 use Rattle.rm_probe.specs.Capture.{IsFaultless}
 use Rattle.rm_probe.specs.Events.{Event, Asks, comings, events_by, frames_left, is_by}

@@ -9,7 +9,7 @@ use Rattle.rm_pcap.specs.Records.{Stop, Ended, CutAt, Broken, Found, Stops as St
 use Rattle.rm_pcap.specs.Progress.{Progress, Shows, next_in}
 use Rattle.rm_pcap.specs.declared.frame.Step.{Step}
 use Rattle.rm_pcap.specs.declared.frame.Step.TheVariants.{Next, End, Cut}
-use Rattle.rm_agent.specs.declared.settings.Settings.{Settings}
+use Rattle.rm_settings.specs.declared.settings.Settings.{Settings}
 use Rattle.rm_probe.specs.Advance.{IsAdvanced}
 use Rattle.rm_probe.specs.Events.{Event, Asks, comings, frames_after, is_by}
 use Rattle.rm_requests.specs.Lines.{TimedDatagram}

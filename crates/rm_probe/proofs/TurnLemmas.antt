@@ -11,7 +11,7 @@ use Rattle.rm_model.specs.Journal.{Frame, Journal, passes}
 use Rattle.rm_pcap.specs.Records.{Stop}
 use Rattle.rm_pcap.specs.Progress.{Progress}
 use Rattle.rm_pdu.specs.Parse.{Parse, too_long, malformed, other_version, not_request, message, IsParse}
-use Rattle.rm_agent.specs.declared.settings.Settings.{Settings}
+use Rattle.rm_settings.specs.declared.settings.Settings.{Settings}
 use Rattle.rm_probe.specs.Events.{Event, Asks, Comes, comings, is_by}
 use Rattle.rm_probe.specs.Notes.{Note}
 use Rattle.rm_probe.specs.Output.{HasAdded, IsSaidFront, Shown, front_none, grown_none}

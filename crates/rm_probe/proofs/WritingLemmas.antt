@@ -5,7 +5,7 @@ use Rattle.rm_edge.specs.Link.{Datagram}
 use Rattle.rm_model.specs.Journal.{Frame}
 use Rattle.rm_pcap.specs.Records.{Stop}
 use Rattle.rm_requests.specs.Lines.{TimedDatagram}
-use Rattle.rm_agent.specs.declared.settings.Settings.{Settings}
+use Rattle.rm_settings.specs.declared.settings.Settings.{Settings}
 use Rattle.rm_probe.specs.Said.{Said, lines}
 use Rattle.rm_probe.specs.Text.{IsRun, IsText}
 use Rattle.rm_probe.specs.Output.{HasAdded, Shown}

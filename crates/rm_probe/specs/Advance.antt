@@ -2,7 +2,7 @@
 use Rattle.std.specs.Prelude.{◌≡◌, ℕ, List, map}
 use Rattle.rm_model.specs.Journal.{Journal}
 use Rattle.rm_pdu.specs.Message.{message_octets}
-use Rattle.rm_agent.specs.declared.settings.Settings.{Settings}
+use Rattle.rm_settings.specs.declared.settings.Settings.{Settings}
 use Rattle.rm_agent.specs.Advance.{Notification, notifications_of, IsAdvanced as AgentIsAdvanced}
 use Rattle.rm_probe.specs.Notes.{Note}
 

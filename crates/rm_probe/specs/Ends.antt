@@ -10,7 +10,7 @@ use Rattle.rm_requests.specs.Reading.{beginning, reached_of}
 use Rattle.rm_requests.specs.declared.requests.Requests.{Requests}
 use Rattle.rm_probe.specs.Text.{IsText}
 use Rattle.rm_edge.specs.Uses.{FileUse, SinkUse, HasReadFault, HasPutFault, IsUntouched}
-use Rattle.rm_agent.specs.declared.settings.Settings.{Settings}
+use Rattle.rm_settings.specs.declared.settings.Settings.{Settings}
 use Rattle.rm_probe.specs.declared.status.Status.{Status}
 use Rattle.rm_probe.specs.declared.status.Status.TheVariants.{Done, Usage, BadCapture, BadRequests, ReadFault, WriteFault, NoMemory, LinkFault, TooLong}
 

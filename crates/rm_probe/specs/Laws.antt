@@ -5,7 +5,7 @@ use Rattle.rm_pdu.specs.declared.kind.Kind.TheVariants.{Set}
 use Rattle.rm_pdu.specs.Message.{Message}
 use Rattle.rm_pdu.specs.Parse.{Parse, IsParse}
 use Rattle.rm_reply.specs.Sets.{given_by}
-use Rattle.rm_agent.specs.declared.settings.Settings.{Settings}
+use Rattle.rm_settings.specs.declared.settings.Settings.{Settings}
 use Rattle.rm_agent.specs.Advance.{Notification, IsAdvanced as AgentIsAdvanced}
 use Rattle.rm_agent.specs.Answers.{IsReplyAfter}
 use Rattle.rm_agent.specs.Groups.{Reserves}

@@ -1,7 +1,7 @@
 -- The probe, as its callers see it.
 use Rattle.std.specs.Prelude.{◌≡◌, ℕ, []}
 use Rattle.rm_model.specs.Journal.{Journal}
-use Rattle.rm_agent.specs.declared.settings.Settings.{Settings}
+use Rattle.rm_settings.specs.declared.settings.Settings.{Settings}
 use Rattle.rm_agent.specs.Agent.{settings_of as agent_settings, last_given as agent_last, frames_given as agent_frames, Stands as AgentStands}
 use Rattle.rm_probe.specs.declared.probe.Probe.{Probe}
 

@@ -5,7 +5,7 @@ use Rattle.rm_edge.specs.declared.outside.link.Peer.{Peer}
 use Rattle.rm_model.specs.Journal.{Frame}
 use Rattle.rm_pcap.specs.Records.{Stop}
 use Rattle.rm_pcap.specs.View.{progress_of}
-use Rattle.rm_agent.specs.declared.settings.Settings.{Settings}
+use Rattle.rm_settings.specs.declared.settings.Settings.{Settings}
 use Rattle.rm_probe.specs.Capture.{IsCapture}
 use Rattle.rm_probe.specs.Probe.{IsFresh, settings_of}
 use Rattle.rm_probe.specs.Steps.{Keeps, Leaves}

@@ -21,7 +21,7 @@ use Rattle.rm_probe.specs.declared.output.OutputFault.{OutputFault}
 use Rattle.rm_probe.specs.declared.output.OutputFault.TheVariants.{Put, Send}
 use Rattle.rm_probe.specs.Probe.{settings_of, last_given, frames_given, Stands}
 use Rattle.rm_probe.specs.declared.probe.Probe.{Probe}
-use Rattle.rm_agent.specs.declared.settings.Settings.{Settings}
+use Rattle.rm_settings.specs.declared.settings.Settings.{Settings}
 use Rattle.rm_probe.specs.declared.status.Status.{Status}
 use Rattle.rm_probe.specs.declared.status.Status.TheVariants.{Done, Usage, BadCapture, BadRequests, ReadFault, WriteFault, NoMemory, LinkFault, TooLong}
 

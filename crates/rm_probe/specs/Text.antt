@@ -5,7 +5,7 @@ use Rattle.rm_pcap.specs.Records.{Stop}
 use Rattle.rm_pdu.specs.declared.kind.Kind.TheVariants.{Set}
 use Rattle.rm_pdu.specs.Message.{Message, message_octets}
 use Rattle.rm_pdu.specs.Parse.{Parse, message, IsParse}
-use Rattle.rm_agent.specs.declared.settings.Settings.{Settings}
+use Rattle.rm_settings.specs.declared.settings.Settings.{Settings}
 use Rattle.rm_agent.specs.declared.answer.Reason.{Reason}
 use Rattle.rm_agent.specs.Answers.{reason_for, IsReplyAfter}
 use Rattle.rm_reply.specs.Sets.{given_by}

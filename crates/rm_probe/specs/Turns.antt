@@ -6,7 +6,7 @@ use Rattle.rm_edge.specs.declared.outside.link.Peer.{Peer}
 use Rattle.rm_model.specs.Journal.{Frame, Journal}
 use Rattle.rm_pcap.specs.Records.{Stop}
 use Rattle.rm_pcap.specs.Progress.{Progress}
-use Rattle.rm_agent.specs.declared.settings.Settings.{Settings}
+use Rattle.rm_settings.specs.declared.settings.Settings.{Settings}
 use Rattle.rm_probe.specs.Notes.{Note}
 use Rattle.rm_probe.specs.Output.{HasAdded, IsSaidFront, Shown}
 use Rattle.rm_probe.specs.Said.{Notified, Said, lines, messages}

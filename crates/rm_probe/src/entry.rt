@@ -9,9 +9,9 @@ use crate::judging::judge;
 use crate::probe::Probe;
 use crate::replaying::write_run;
 use crate::status::Status;
-use rm_agent::Settings;
 use rm_edge::{Shelf, Sink};
 use rm_pcap::one_reading;
+use rm_settings::Settings;
 use std::alloc::Global;
 
 /// Replays a capture, whose first frame stands at the moment `lead` in milliseconds, against the datagrams of a request

@@ -2,7 +2,7 @@
 ghost use Rattle.std.specs.Prelude.{List};
 ghost use Rattle.rm_model.specs.Journal.{Frame, Journal};
 ghost use Rattle.rm_pcap.specs.Records.{Stop};
-ghost use Rattle.rm_agent.specs.declared.settings.Settings.{Settings};
+ghost use Rattle.rm_settings.specs.declared.settings.Settings.{Settings};
 ghost use Rattle.rm_agent.specs.Orderly.{IsOrderly};
 ghost use Rattle.rm_requests.specs.Lines.{TimedDatagram};
 ghost use Rattle.rm_probe.specs.Events.{Event, events, events_by};

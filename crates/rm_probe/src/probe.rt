@@ -10,8 +10,9 @@ ghost use Rattle.rm_probe.specs.Notes.{Note};
 ghost use Rattle.rm_probe.specs.Said.{Notified, SaysMore};
 
 use crate::notes::Notes;
-use rm_agent::{Agent, Answer, MOST_FRAMES, MOST_REPLY, Settings, advance_is_orderly};
+use rm_agent::{Agent, Answer, MOST_FRAMES, MOST_REPLY, advance_is_orderly};
 use rm_pcap::Frame;
+use rm_settings::Settings;
 use rm_val::NoMemory;
 use std::alloc::Global;
 

@@ -22,9 +22,9 @@ use crate::post::Posted;
 use crate::probe::Probe;
 use crate::replaying::{NumberedDatagram, Replaying, ended};
 use crate::status::Status;
-use rm_agent::Settings;
 use rm_edge::{Clock, Link, Peer, Shelf, Sink};
 use rm_pcap::{Capture, one_reading};
+use rm_settings::Settings;
 use std::alloc::Global;
 
 // One octet more than is read of a datagram: a longer one is too long whatever follows.

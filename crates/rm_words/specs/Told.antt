@@ -10,13 +10,13 @@ use Rattle.rm_words.specs.declared.command.Command.TheVariants.{Replay, Serve, S
 
 abbrev pub options_of : RunOptions → Options
 options_of options = record {
-  hosts = options.hosts;
-  pairs = options.pairs;
-  upper = options.upper;
+  hosts = options.settings.hosts;
+  pairs = options.settings.pairs;
+  upper = options.settings.upper;
   lead = options.lead;
-  keep_short = options.keep_short;
-  read = options.read.items;
-  write = options.write.items;
+  keep_short = options.settings.keep_short;
+  read = options.settings.read.items;
+  write = options.settings.write.items;
 }
 
 abbrev pub command_of : code.Command → Command

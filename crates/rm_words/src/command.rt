@@ -13,6 +13,7 @@ use crate::options::RunOptions;
 use crate::scan::{are_whole, community_of, is_given, number_of, operand};
 use crate::values::{is_hex, number, port};
 use rm_edge::Words;
+use rm_settings::Settings;
 
 /// A command, with its operands and options.
 #[derive(Drop)]
@@ -208,13 +209,14 @@ fn run_options(words: &Words) -> Option<RunOptions>
     ensures { MatchOption result ((options : Options) → AreOptions (pieces_from Any (drop 1 words.now)) options → ⊥)
         (λ found. AreOptions (pieces_from Any (drop 1 words.now)) (options_of found)) }
 {
-    Some(RunOptions {
+    let settings = Settings {
         hosts: number_of(words, OptionName::Hosts, 2, 4096, 1024)?,
         pairs: number_of(words, OptionName::Pairs, 2, 4096, 1024)?,
         upper: number_of(words, OptionName::Upper, 2, 1024, 1024)?,
-        lead: lead_of(words)?,
         keep_short: is_given(words, OptionName::KeepShort)?,
         read: community_of(words, OptionName::Read, b"public")?,
         write: community_of(words, OptionName::Write, b"private")?,
-    })
+    };
+    let lead = lead_of(words)?;
+    Some(RunOptions { settings, lead })
 }

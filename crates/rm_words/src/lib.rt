@@ -14,4 +14,3 @@ mod values;
 pub use command::{Command, read_command};
 pub use laws::one_command;
 pub use options::RunOptions;
-pub use values::Community;

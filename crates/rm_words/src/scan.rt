@@ -7,8 +7,9 @@ ghost use Rattle.rm_words.specs.declared.parts.Expected.TheVariants.{Any};
 
 use crate::names::{CommandName, OptionName};
 use crate::parts::Expected;
-use crate::values::{Community, community, kept, number};
+use crate::values::{community, kept, number};
 use rm_edge::Words;
+use rm_settings::Community;
 
 /// What an option is given.
 pub enum Given<'a> {

@@ -17,13 +17,13 @@ fn words_of(alloc: Global, text: &str) -> Result<Words, Fail> {
 fn told_options(alloc: Global, options: &RunOptions) -> Result<String, Fail> {
     Ok(format!(in alloc;
         "{} {} {} {} {} {} {}",
-        options.hosts,
-        options.pairs,
-        options.upper,
+        options.settings.hosts,
+        options.settings.pairs,
+        options.settings.upper,
         options.lead,
-        options.keep_short,
-        str::from_utf8(&options.read)?,
-        str::from_utf8(&options.write)?
+        options.settings.keep_short,
+        str::from_utf8(&options.settings.read)?,
+        str::from_utf8(&options.settings.write)?
     )?)
 }
 

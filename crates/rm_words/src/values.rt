@@ -6,9 +6,7 @@ ghost use Rattle.rm_words.specs.Grammar.{number_within, port_of, community_of, i
 
 use arrayvec::ArrayVec;
 use rm_edge::read_number;
-
-/// A community, of 1 to 64 octets.
-pub type Community = ArrayVec<u8, 64>;
+use rm_settings::Community;
 
 /// The number that one to ten decimal digits are, if it is within a range.
 #[tactic(auto, unfolding(crate::specs::Grammar::number_within, rm_edge::specs::Digits::number_in))]

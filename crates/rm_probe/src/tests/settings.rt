@@ -5,9 +5,10 @@ ghost use Rattle.rm_probe.specs.Probe.{last_given, frames_given};
 use super::{PACKETS, PACKETS_REPLY, capture_of, shelf_of, sink_of};
 use crate::{Output, Probe, Status, Unsent, replay};
 use arrayvec::ArrayVec;
-use rm_agent::{Answer, MOST_REPLY, Settings};
+use rm_agent::{Answer, MOST_REPLY};
 use rm_edge::MemSink;
 use rm_pcap::Frame;
+use rm_settings::Settings;
 use std::alloc::Global;
 use std::test::Fail;
 

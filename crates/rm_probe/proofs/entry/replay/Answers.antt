@@ -1,5 +1,5 @@
 use Rattle.std.proofs.Common.{◌≡◌, ◌∙◌, arith, inl, inr, refl, subst}
-use Rattle.rm_agent.specs.declared.settings.Settings.{Settings}
+use Rattle.rm_settings.specs.declared.settings.Settings.{Settings}
 use Rattle.rm_probe.specs.Steps.{Writes}
 use Rattle.rm_edge.specs.Uses.{file_use, sink_use}
 use Rattle.rm_probe.proofs.EndLemmas.{written, refused, is_exact, is_complete}

@@ -3,7 +3,7 @@ use Rattle.std.proofs.Common.{◌≡◌, [], ◌++◌, Some, Ok, refl, sym, ap, 
 use Rattle.rm_pcap.specs.View.{progress_of}
 use Rattle.rm_pcap.specs.Calls.{Steps}
 use Rattle.rm_pcap.specs.Progress.{Progress, frame_of}
-use Rattle.rm_agent.specs.declared.settings.Settings.{Settings}
+use Rattle.rm_settings.specs.declared.settings.Settings.{Settings}
 use Rattle.rm_probe.specs.Probe.{settings_of}
 use Rattle.rm_probe.specs.Steps.{Advanced, HasBegun}
 use Rattle.rm_pcap.specs.Records.{Found}

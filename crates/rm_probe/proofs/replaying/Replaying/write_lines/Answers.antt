@@ -3,7 +3,7 @@ use Rattle.rm_edge.specs.Outside.{Held}
 use Rattle.rm_pcap.specs.View.{progress_of}
 use Rattle.rm_requests.specs.Lines.{TimedDatagram}
 use Rattle.rm_requests.specs.Reading.{Answers, Reached, Passes, reached_of, datagram_in}
-use Rattle.rm_agent.specs.declared.settings.Settings.{Settings}
+use Rattle.rm_settings.specs.declared.settings.Settings.{Settings}
 use Rattle.rm_probe.specs.Probe.{settings_of}
 use Rattle.rm_probe.specs.Steps.{HasBegun, IsLastSaid, IsNextSaid, IsNotRequests, SaysNext, SaysRun}
 use Rattle.rm_probe.proofs.SayingLemmas.{says_both, says_nothing}
