@@ -3,7 +3,7 @@ ghost use Rattle.std.specs.Prelude.{◌≤◌, ◌↔◌, IfOk, IsTrue, length};
 
 use arrayvec::ArrayVec;
 use case_text::{Trouble, first_word, number, word_octets};
-use rm_agent::Settings;
+use rm_settings::Settings;
 use std::alloc::Global;
 
 /// The settings that a case gives, and the moment of its first frame. What it doesn't give is as `rm_cmd::run` has it.

@@ -16,7 +16,7 @@ use Rattle.rm_model.proofs.Rows.{row_listed}
 use Rattle.rm_alarm.specs.Group.{nothing_begins}
 use Rattle.rm_alarm.specs.Left.{sum_below, span_to}
 use Rattle.rm_alarm.specs.Watched.{number_read}
-use Rattle.rm_agent.specs.declared.settings.Settings.{Settings}
+use Rattle.rm_settings.specs.declared.settings.Settings.{Settings}
 use Rattle.rm_agent.specs.Known.{counting_by}
 use Rattle.rm_agent.specs.Orderly.{NoneIsDue, IsOrderly}
 use Rattle.rm_agent.specs.Agent.{sample_of}

@@ -13,7 +13,8 @@ module _ (groups : Groups) where
   sample_only due (inl never) = absurd never
   sample_only due (inr (inl never)) = absurd never
   sample_only due (inr (inr (inl (inl never)))) = absurd never
-  sample_only due (inr (inr (inl (inr never)))) = absurd never
+  sample_only due (inr (inr (inl (inr (inl never))))) = absurd never
+  sample_only due (inr (inr (inl (inr (inr never))))) = absurd never
   sample_only due (inr (inr (inr is))) = is
 
   abbrev sample_at : (moment alarm : ℕ) → Due

@@ -3,9 +3,9 @@ use Rattle.std.proofs.Common.{◌≡◌, ◌≤◌, ℕ, Bool, true, false, ◌|
 use Rattle.std.proofs.lemmas.Slice.Eq.{bytes_eq-Decides}
 use Rattle.rm_pdu.specs.Message.{Message}
 use Rattle.rm_pdu.specs.Parse.{message}
-use Rattle.rm_agent.specs.declared.settings.Settings.{Settings}
+use Rattle.rm_settings.specs.declared.settings.Settings.{Settings}
 use Rattle.rm_agent.specs.declared.answer.Reason.TheVariants.{Community}
-use Rattle.rm_agent.specs.Known.{is_known}
+use Rattle.rm_settings.specs.Communities.{is_known}
 use Rattle.rm_agent.specs.Answers.{reason_for}
 
 known_short : (settings : Settings) (community : List ℕ) → is_known settings community ≡ true → length community ≤ 64

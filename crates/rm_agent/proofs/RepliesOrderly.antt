@@ -8,7 +8,7 @@ use Rattle.rm_model.specs.ControlRows.{Beginning, no_rows}
 use Rattle.rm_acts.specs.Alarms.{alarm_table}
 use Rattle.rm_pdu.specs.declared.kind.Kind.{Kind}
 use Rattle.rm_pdu.specs.Message.{Message}
-use Rattle.rm_agent.specs.declared.settings.Settings.{Settings}
+use Rattle.rm_settings.specs.declared.settings.Settings.{Settings}
 use Rattle.rm_reply.specs.Responses.{IsReplyBy}
 use Rattle.rm_agent.specs.Groups.{cells, objects, alone, together, Reserves}
 use Rattle.rm_reply.specs.Sets.{alone_among}
@@ -18,14 +18,11 @@ use Rattle.rm_model.specs.Cells.{is_of_column}
 use Rattle.rm_model.specs.Judgement.{unless}
 use Rattle.rm_group.specs.Alone.{read_only}
 use Rattle.rm_group.specs.System.{system_entry, system_columns}
-use Rattle.rm_ether.specs.EtherStats.{ether_stats, ether_beginning}
-use Rattle.rm_ether.specs.Group.{ether_alone}
-use Rattle.rm_history.specs.HistoryControl.{history_control}
-use Rattle.rm_history.specs.Group.{history_alone}
 use Rattle.rm_event.specs.EventTable.{event_table}
 use Rattle.rm_event.specs.Group.{event_alone}
 use Rattle.rm_alarm.specs.Group.{alarm_alone, alarm_together, variable_fault}
 use Rattle.rm_agent.specs.Known.{counting_by}
+use Rattle.rm_agent.specs.Members.{sources}
 use Rattle.rm_agent.specs.Orderly.{NoneIsDue, IsOrderly}
 use Rattle.rm_agent.proofs.Leaving.{leaves}
 use Rattle.rm_agent.proofs.OrderlyLemmas.{orderly_assigns}
@@ -43,18 +40,17 @@ module _ (settings : Settings) (journal : Journal) (now : ℕ) (orderly : IsOrde
   alone_fine : (numbers : List ℕ) (value : Val) → alone_among objects alone numbers value ≡ None → alarm_alone numbers value ≡ None
   alone_fine numbers value fine =
       let here : alone numbers value ≡ None = no_second (unless (objects numbers) NotWritable) (alone numbers value) fine in
-      let others : option_or (event_alone numbers value) (option_or (option_or (ether_alone numbers value) (history_alone numbers value)) (alarm_alone numbers value)) ≡ None =
+      let others : option_or (event_alone numbers value) (option_or (sources.alone numbers value) (alarm_alone numbers value)) ≡ None =
       no_second (read_only (is_of_column system_entry system_columns) numbers value) _ here in
-      no_second (option_or (ether_alone numbers value) (history_alone numbers value)) (alarm_alone numbers value) (no_second (event_alone numbers value) _ others)
+      no_second (sources.alone numbers value) (alarm_alone numbers value) (no_second (event_alone numbers value) _ others)
 
   together_fine : (bindings : Bindings) (k : ℕ) → together settings journal now bindings k ≡ None → second_pass alarm_table (rows_after alarm_table no_rows journal) bindings k ≡ None
   together_fine bindings k fine =
       let before : Beginning = rows_after alarm_table no_rows journal in
-      let sampling : option_or (option_or (second_pass ether_stats (rows_after ether_stats (ether_beginning (counting_by settings)) journal) bindings k) (second_pass history_control (rows_after history_control no_rows journal) bindings k))
-      (alarm_together ((counting_by settings).readings journal now) before bindings k) ≡ None =
+      let sampling : option_or (sources.together (counting_by settings) journal now bindings k) (alarm_together ((counting_by settings).readings journal now) before bindings k) ≡ None =
       no_second (second_pass event_table (rows_after event_table no_rows journal) bindings k) _ fine in
       no_first (second_pass alarm_table before bindings k) (variable_fault ((counting_by settings).readings journal now) before bindings k)
-      (no_second (option_or (second_pass ether_stats (rows_after ether_stats (ether_beginning (counting_by settings)) journal) bindings k) (second_pass history_control (rows_after history_control no_rows journal) bindings k)) _ sampling)
+      (no_second (sources.together (counting_by settings) journal now bindings k) _ sampling)
 
   pub reply_orderly : (kind : Kind) (may_write : Bool) (request reply : Message) (after : Journal) → IsReplyBy (cells settings journal now) objects alone (together settings journal now) (Reserves journal) may_write now journal kind request reply after → IsOrderly after
   reply_orderly kind may_write =

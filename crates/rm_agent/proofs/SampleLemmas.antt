@@ -16,7 +16,7 @@ use Rattle.rm_event.specs.declared.fired.Fired.TheVariants as became
 use Rattle.rm_acts.specs.Events.{event_asked}
 use Rattle.rm_event.specs.Standing.{fired_of}
 use Rattle.rm_alarm.specs.Watched.{number_read}
-use Rattle.rm_agent.specs.declared.settings.Settings.{Settings}
+use Rattle.rm_settings.specs.declared.settings.Settings.{Settings}
 use Rattle.rm_agent.specs.declared.agent.Agent.{Agent}
 use Rattle.rm_agent.specs.Known.{counting_by}
 use Rattle.rm_agent.specs.Groups.{GroupsStand}

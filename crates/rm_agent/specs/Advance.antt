@@ -3,7 +3,7 @@ use Rattle.std.specs.Prelude.{◌≤◌, ℕ, List, [], ◌∷◌, ◌++◌, Opt
 use Rattle.rm_model.specs.Journal.{Journal}
 use Rattle.rm_acts.specs.Alarms.{due_of, IsNextDue}
 use Rattle.rm_pdu.specs.Message.{Message}
-use Rattle.rm_agent.specs.declared.settings.Settings.{Settings}
+use Rattle.rm_settings.specs.declared.settings.Settings.{Settings}
 use Rattle.rm_agent.specs.Agent.{sample_of}
 use Rattle.rm_agent.specs.Known.{counting_by}
 use Rattle.rm_agent.specs.Notifications.{notification_of}

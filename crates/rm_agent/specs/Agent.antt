@@ -7,7 +7,7 @@ use Rattle.rm_acts.specs.Channels.{HasNoChannel}
 use Rattle.rm_alarm.specs.Group.{due_in}
 use Rattle.rm_alarm.specs.Watched.{number_read}
 use Rattle.rm_pdu.specs.Message.{Message, message_octets}
-use Rattle.rm_agent.specs.declared.settings.Settings.{Settings}
+use Rattle.rm_settings.specs.declared.settings.Settings.{Settings}
 use Rattle.rm_agent.specs.declared.agent.Agent.{Agent}
 use Rattle.rm_agent.specs.Known.{counting_by}
 use Rattle.rm_agent.specs.Members.{alarms_of}

@@ -5,12 +5,12 @@ use Rattle.rm_pdu.specs.Message.{Message, message_octets}
 use Rattle.rm_pdu.specs.Parse.{Parse, too_long, malformed, other_version, not_request, message, IsParse}
 use Rattle.rm_pdu.specs.declared.message.Fault.{Fault}
 use Rattle.rm_pdu.specs.declared.message.Fault.TheVariants.{TooLong as LongFault, Malformed as MalformedFault, Version as VersionFault, NotRequest as OtherFault}
-use Rattle.rm_agent.specs.declared.settings.Settings.{Settings}
+use Rattle.rm_settings.specs.declared.settings.Settings.{Settings}
 use Rattle.rm_agent.specs.declared.answer.Reason.{Reason}
 use Rattle.rm_agent.specs.declared.answer.Reason.TheVariants.{TooLong, Malformed, Version, NotRequest, Community}
 use Rattle.rm_agent.specs.declared.answer.Answer.{Answer}
 use Rattle.rm_agent.specs.declared.answer.Answer.TheVariants.{Reply, Drop}
-use Rattle.rm_agent.specs.Known.{is_known, may_write}
+use Rattle.rm_settings.specs.Communities.{is_known, may_write}
 use Rattle.rm_reply.specs.Responses.{IsReplyBy}
 use Rattle.rm_agent.specs.Groups.{cells, objects, alone, together, Reserves}
 

@@ -10,7 +10,7 @@ use Rattle.rm_model.specs.Judgement.{Bindings}
 use Rattle.rm_group.specs.declared.due.Due.{Due}
 use Rattle.rm_event.specs.Firings.{is_set}
 use Rattle.rm_event.specs.Standing.{IsUnderWay as EventsUnderWay}
-use Rattle.rm_agent.specs.declared.settings.Settings.{Settings}
+use Rattle.rm_settings.specs.declared.settings.Settings.{Settings}
 use Rattle.rm_agent.specs.Members.{Groups, events_of, watched_of, watched, all_groups}
 use Rattle.rm_agent.specs.Known.{counting_by}
 
@@ -31,7 +31,7 @@ abbrev pub together : Settings → Journal → ℕ → Bindings → ℕ → Opti
 together settings = all_groups.together (counting_by settings)
 
 -- After a journal there may be no memory for the row that the binding with that number, from 1, makes valid: it is one of
--- eventTable or of historyControl, and not the only valid one of its table.
+-- eventTable, of historyControl or of hostControl, and not the only valid one of its table.
 abbrev pub Reserves : Journal → Bindings → ℕ → Type 0
 Reserves = all_groups.reserves
 

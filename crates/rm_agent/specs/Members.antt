@@ -1,5 +1,5 @@
--- The groups of objects that the agent answers for: the system group, the events, etherStats, the history, and the alarms that
--- sample variables of these two. What holds of a group is a record; two groups are one, and their record is made of both.
+-- The groups of objects that the agent answers for: the system group, the events, etherStats, the history, the hosts, and the
+-- alarms that sample variables of these three. What holds of a group is a record; two groups are one, and their record is made of both.
 use Rattle.std.specs.Prelude.{◌||◌, ◌⊎◌, ℕ, ◌+◌, List, Bool, max, Option, None}
 use Rattle.std.specs.Option.{option_or}
 use Rattle.rm_val.specs.Val.{Val}
@@ -26,6 +26,10 @@ use Rattle.rm_history.specs.HistoryControl.{history_control, control_table}
 use Rattle.rm_history.specs.EtherHistory.{sample_table}
 use Rattle.rm_history.specs.Group.{Stands as HistoryStands, IsStocked as IsHistoryStocked, frames_given as history_frames, last_given as history_last, history_tables, history_alone}
 use Rattle.rm_history.specs.declared.history.History.{History}
+use Rattle.rm_hosts.specs.Control.{host_control}
+use Rattle.rm_hosts.specs.HostCells.{host_cells}
+use Rattle.rm_hosts.specs.Group.{Stands as HostsStand, IsStocked as AreHostsStocked, frames_given as hosts_frames, last_given as hosts_last, host_tables, hosts_alone}
+use Rattle.rm_hosts.specs.declared.hosts.Hosts.{Hosts}
 use Rattle.rm_alarm.specs.AlarmTable.{alarms_table}
 use Rattle.rm_alarm.specs.Group.{alarm_tables, alarm_alone, alarm_together}
 use Rattle.rm_alarm.specs.Left.{IsSampleDue, samples_left}
@@ -38,8 +42,11 @@ use Rattle.rm_event.specs.Standing.{Stands as EventsStand}
 use Rattle.rm_event.specs.declared.events.Events.{Events}
 
 -- The groups as they stand in one another: a pair is a group, and the alarms stand beside the groups whose variables they sample.
+abbrev pub Collectors : Type 0
+Collectors = Both History Hosts
+
 abbrev pub Sources : Type 0
-Sources = Both Ether History
+Sources = Both Ether Collectors
 
 abbrev pub Watched : Type 0
 Watched = Both Sources Alarms
@@ -172,6 +179,23 @@ history = record {
   reserves = λ journal. ReservesRow history_control (rows_after history_control no_rows journal);
 }
 
+abbrev pub hosts : OfObjects Hosts
+hosts = record {
+  stands = HostsStand;
+  tied = λ settings. Unit {0};
+  clock = hosts_last;
+  askable = λ keeps moment. Unit {0};
+  frames = hosts_frames;
+  stocked = AreHostsStocked;
+  falls_due = λ keeps due. ⊥;
+  left = λ keeps latest. 0;
+  cells = λ settings journal now. host_cells settings journal;
+  objects = is_listed host_tables;
+  alone = hosts_alone;
+  together = λ settings journal now. second_pass host_control (rows_after host_control no_rows journal);
+  reserves = λ journal. ReservesRow host_control (rows_after host_control no_rows journal);
+}
+
 -- Alarms that sample variables among these cells. An alarm that becomes valid is judged by what its variable reads then.
 abbrev pub alarms : Sampleable → OfObjects Alarms
 alarms sampleable = record {
@@ -190,9 +214,13 @@ alarms sampleable = record {
   reserves = λ journal bindings index. ⊥;
 }
 
+-- those whose control rows take storage for what they collect of frames
+abbrev pub collectors : OfObjects Collectors
+collectors = both history hosts
+
 -- those whose variables alarms may sample
 abbrev pub sources : OfObjects Sources
-sources = both ether history
+sources = both ether collectors
 
 -- these, and the alarms beside them
 abbrev pub watched : OfObjects Watched

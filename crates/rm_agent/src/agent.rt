@@ -7,12 +7,12 @@ use crate::answer::{Answer, Reason};
 use crate::groups::{Groups, all_groups, next_due};
 use crate::notification::notification;
 use crate::sampling::take;
-use crate::settings::Settings;
 use rm_group::{Due, MOST_FRAMES, Passing, pass_whole};
 use rm_pcap::Frame;
 use rm_pdu::{Places, read_message};
 use rm_proto::facts;
 use rm_reply::{MOST_REPLY, Request, respond};
+use rm_settings::Settings;
 use rm_val::NoMemory;
 use std::alloc::Global;
 
@@ -54,8 +54,8 @@ impl Agent {
         ensures frames { IfOk result (λ agent. frames_given agent ≡ 0) }
     {
         Ok(Agent {
+            groups: all_groups(alloc, settings.hosts)?,
             settings,
-            groups: all_groups(alloc)?,
             last: 0,
             frames: 0,
             notifications: 0,

@@ -3,7 +3,7 @@ ghost use Rattle.std.specs.Prelude.{◌≡◌, ℕ, true, List, ◌∷◌, None}
 ghost use Rattle.rm_model.specs.Journal.{Frame, Journal, passes};
 ghost use Rattle.rm_pdu.specs.Message.{Message};
 ghost use Rattle.rm_pdu.specs.Parse.{IsParse, message};
-ghost use Rattle.rm_agent.specs.declared.settings.Settings.{Settings};
+ghost use Rattle.rm_settings.specs.declared.settings.Settings.{Settings};
 ghost use Rattle.rm_agent.specs.Answers.{reason_for, IsReplyAfter};
 ghost use Rattle.rm_reply.specs.Sets.{given_by};
 ghost use Rattle.rm_agent.specs.Groups.{Reserves};

@@ -7,7 +7,6 @@ mod groups;
 mod laws;
 mod notification;
 mod sampling;
-mod settings;
 #[cfg(test)]
 mod tests;
 mod told;
@@ -21,4 +20,3 @@ pub use laws::{
 };
 pub use rm_group::MOST_FRAMES;
 pub use rm_reply::MOST_REPLY;
-pub use settings::Settings;

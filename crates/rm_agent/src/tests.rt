@@ -3,9 +3,10 @@
 ghost use Rattle.std.specs.Prelude.{◌≤◌, IfOk};
 ghost use Rattle.rm_agent.specs.Agent.{last_given};
 
-use crate::{Agent, Answer, MOST_REPLY, Settings};
+use crate::{Agent, Answer, MOST_REPLY};
 use arrayvec::ArrayVec;
 use rm_pcap::Frame;
+use rm_settings::Settings;
 use std::alloc::Global;
 use std::process::Abort;
 use std::test::Fail;

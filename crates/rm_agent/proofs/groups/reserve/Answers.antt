@@ -2,18 +2,18 @@ use Rattle.std.proofs.Common.{[]}
 use Rattle.rm_group.specs.Both.{StandAsOne}
 use Rattle.rm_agent.proofs.groups.reserve.Goals as goal
 
--- the groups stand where the events and the histories do, and the others did
-with_storage : {System Events Ether History Alarms Reserved Kept Tied Watching Firing All : Type 0}
-    → StandAsOne System (StandAsOne Events (StandAsOne (StandAsOne Ether History Tied) Alarms Watching) Firing) All → Reserved → Kept
+-- the groups stand where the events and those that collect do, and the others did
+with_storage : {System Events Ether Collectors Alarms Reserved Kept Tied Watching Firing All : Type 0}
+    → StandAsOne System (StandAsOne Events (StandAsOne (StandAsOne Ether Collectors Tied) Alarms Watching) Firing) All → Reserved → Kept
     → StandAsOne System (StandAsOne Reserved (StandAsOne (StandAsOne Ether Kept Tied) Alarms Watching) Firing) All
-with_storage stands events history =
+with_storage stands events collectors =
     let watched = stands.second.second in
     record {
       first = stands.first;
       second = record {
         first = events;
         second = record {
-          first = record { first = watched.first.first; second = history; tied = watched.first.tied };
+          first = record { first = watched.first.first; second = collectors; tied = watched.first.tied };
           second = watched.second;
           tied = watched.tied;
         };
@@ -26,10 +26,6 @@ pub returns-in_err-reserve-clause-stands : goal.returns-in_err-reserve-clause-st
 returns-in_err-reserve-clause-stands c settings stands =
     with_storage stands (c.reserve.ensures.stands settings [] stands.second.first) stands.second.second.first.second
 
-pub returns-in_err-reserve-2-clause-stands : goal.returns-in_err-reserve-2-clause-stands
-returns-in_err-reserve-2-clause-stands c settings stands =
-    with_storage stands (c.reserve.ensures.stands settings [] stands.second.first) (c.reserve-2.ensures.stands settings [] stands.second.second.first.second)
-
 pub returns-clause-stands : goal.returns-clause-stands
 returns-clause-stands c settings stands =
-    with_storage stands (c.reserve.ensures.stands settings [] stands.second.first) (c.reserve-2.ensures.stands settings [] stands.second.second.first.second)
+    with_storage stands (c.reserve.ensures.stands settings [] stands.second.first) (c.reserve_collectors.ensures.stands settings stands.second.second.first.second)

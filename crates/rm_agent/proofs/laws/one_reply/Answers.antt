@@ -1,4 +1,5 @@
-use Rattle.rm_agent.specs.Known.{counting_by, may_write}
+use Rattle.rm_settings.specs.Communities.{may_write}
+use Rattle.rm_agent.specs.Known.{counting_by}
 use Rattle.rm_agent.proofs.laws.one_reply.Goals as goal
 
 pub returns : goal.returns

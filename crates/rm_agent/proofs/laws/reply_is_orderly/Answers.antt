@@ -1,4 +1,4 @@
-use Rattle.rm_agent.specs.Known.{may_write}
+use Rattle.rm_settings.specs.Communities.{may_write}
 use Rattle.rm_agent.proofs.RepliesOrderly.{reply_orderly}
 use Rattle.rm_agent.proofs.laws.reply_is_orderly.Goals as goal
 

@@ -3,7 +3,8 @@ use Rattle.rm_pdu.specs.Message.{message_octets}
 use Rattle.rm_pdu.specs.Parse.{message}
 use Rattle.rm_agent.specs.declared.answer.Reason.{Reason}
 use Rattle.rm_agent.specs.declared.answer.Reason.TheVariants.{Community}
-use Rattle.rm_agent.specs.Known.{counting_by, is_known, may_write}
+use Rattle.rm_settings.specs.Communities.{is_known, may_write}
+use Rattle.rm_agent.specs.Known.{counting_by}
 use Rattle.rm_agent.specs.Groups.{cells, objects, alone, together, Reserves}
 use Rattle.rm_reply.specs.Responses.{IsReplyBy}
 use Rattle.rm_agent.specs.Answers.{reason_for}

@@ -5,7 +5,7 @@ use Rattle.rm_agent.proofs.agent.Agent.new.Goals as goal
 
 pub returns-clause-stands : goal.returns-clause-stands
 returns-clause-stands c = record {
-  groups = c.in_ok-all_groups.ensures.stands (known_to_groups c.args.settings) refl;
+  groups = c.in_ok-all_groups.ensures.stands (known_to_groups c.args.settings) refl refl;
   last = omega arith;
   orderly = orderly_begins;
   channels = refl;
