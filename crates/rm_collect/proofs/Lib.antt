@@ -1,0 +1,6 @@
+mod Standing
+mod Becoming
+mod InRange
+mod AfterSets
+mod Assigned
+mod Nearest

@@ -1,0 +1,33 @@
+-- Where each row has the part that it had, nothing changes for a caller.
+use Rattle.std.proofs.Common.{◌≡◌, ℕ, List, sym, ap, subst, ◌∙◌}
+use Rattle.std.specs.Prelude.{is_some}
+use Rattle.rm_model.specs.Counting.{Counting}
+use Rattle.rm_model.specs.Journal.{Journal}
+use Rattle.rm_columns.specs.RowForm.{RowForm}
+use Rattle.rm_pool.specs.declared.slot.Slot.{Slot}
+use Rattle.rm_pool.specs.Slots.{part_in}
+use Rattle.rm_pool.specs.Pools.{Allowed}
+use Rattle.rm_collect.specs.Rows.{IsKept}
+use Rattle.rm_collect.specs.Collection.{Collection}
+use Rattle.rm_collect.specs.Held.{Held}
+use Rattle.rm_collect.specs.WellHeld.{IsWellHeld}
+use Rattle.rm_collect.specs.Group.{Stands}
+
+module _ {C P S : Type 0} (form : RowForm C) (collection : Collection C P S) (held : Held C P S) (parts : List (Slot P)) (same : (row : ℕ) → part_in parts row ≡ part_in held.parts row) where
+  abbrev with_parts : Held C P S
+  with_parts = record held { parts = parts }
+
+  pub still_stands : (settings : Counting) (journal : Journal) → Stands form collection held settings journal → Stands form collection with_parts settings journal
+  still_stands settings journal stands = record {
+    suits = stands.suits;
+    given = stands.given;
+    rows = stands.rows;
+    parts = λ row. subst (IsKept form.table collection.is_of settings journal row) (sym (same row)) (stands.parts row);
+  }
+
+  pub still_well_held : IsWellHeld collection held → IsWellHeld collection with_parts
+  still_well_held well = record {
+    in_range = well.in_range;
+    fits = λ row. subst (Allowed (collection.fits held.last held.frames)) (sym (same row)) (well.fits row);
+    of_valid = λ row. ap is_some (same row) ∙ well.of_valid row;
+  }

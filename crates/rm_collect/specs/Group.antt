@@ -1,0 +1,53 @@
+-- A control table whose valid rows collect, as a caller sees it.
+use Rattle.std.specs.Prelude.{◌≡◌, ℕ, ◌≤◌, max, length}
+use Rattle.rm_model.specs.Counting.{Counting}
+use Rattle.rm_model.specs.Journal.{Journal, frames_in}
+use Rattle.rm_model.specs.ControlRows.{no_rows}
+use Rattle.rm_model.specs.Judgement.{Bindings, second_pass, IsFirstFault}
+use Rattle.rm_model.specs.Reserves.{count_valid, count_valid_after}
+use Rattle.rm_model.specs.declared.verdict.Verdict.TheVariants.{Fine}
+use Rattle.rm_group.specs.Alone.{AreFineAlone}
+use Rattle.rm_columns.specs.RowForm.{RowForm}
+use Rattle.rm_status.specs.Rows.{rows_before}
+use Rattle.rm_status.specs.RowsAfter.{AreRowsAfter}
+use Rattle.rm_pool.specs.Slots.{part_in}
+use Rattle.rm_collect.specs.Rows.{IsKept}
+use Rattle.rm_collect.specs.Collection.{Collection, alone}
+use Rattle.rm_collect.specs.Held.{Held}
+
+module _ {C P S : Type 0} where
+  -- how many frames it was given
+  abbrev pub frames_given : Held C P S → ℕ
+  frames_given held = held.frames
+
+  -- the moment of the frame or the Set that it was given last, 0 before the first
+  abbrev pub last_given : Held C P S → ℕ
+  last_given held = held.last
+
+  -- there is the storage of one row, whether it is spare or not
+  abbrev pub IsStocked : Held C P S → Type 0
+  IsStocked held = 1 ≤ length held.parts
+
+module _ {C P S : Type 0} (form : RowForm C) where
+  -- there is storage for the valid rows only, or for one row where none is valid
+  abbrev pub IsReleased : Held C P S → Type 0
+  IsReleased held = length held.parts ≤ max 1 (count_valid form.table (rows_before form.table form.set_to held.rows))
+
+module _ {C P S : Type 0} (form : RowForm C) (collection : Collection C P S) where
+  -- It stands for a journal: what the rows share is what the probe was set to, it was given the frames of the journal, its rows are those
+  -- after it, and exactly the valid ones have what they have collected.
+  pub record Stands (held : Held C P S) (settings : Counting) (journal : Journal) : Type 0 where
+    pub suits : collection.suits held.shared settings
+    pub given : held.frames ≡ length (frames_in journal)
+    pub rows : AreRowsAfter form.table no_rows form.set_to held.rows journal
+    pub parts : (row : ℕ) → IsKept form.table collection.is_of settings journal row (part_in held.parts row)
+
+  -- both passes find nothing wrong with a Set, by the rows that are held
+  pub record AreFine (held : Held C P S) (bindings : Bindings) : Type 0 where
+    pub each : AreFineAlone (alone form collection) bindings
+    pub together : IsFirstFault (length bindings) (second_pass form.table (rows_before form.table form.set_to held.rows) bindings) Fine
+
+  -- nothing is wrong with a Set, and there is storage for each row that is valid after it
+  pub record IsPrepared (held : Held C P S) (bindings : Bindings) : Type 0 where
+    pub fine : AreFine held bindings
+    pub enough : count_valid_after form.table (rows_before form.table form.set_to held.rows) bindings ≤ length held.parts

@@ -1,0 +1,9 @@
+pub mod Rows
+pub mod Collection
+pub mod Held
+pub mod WellHeld
+pub mod Group
+pub mod Begun
+pub mod Sampled
+pub mod MadeUp
+pub mod MadeUpLaws

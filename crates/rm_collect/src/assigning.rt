@@ -1,0 +1,47 @@
+// What a Set makes of the rows and of what they collect.
+ghost use Rattle.std.specs.Prelude.{◌≡◌, ℕ, ◌≤◌, List, ◌∷◌};
+ghost use Rattle.rm_model.specs.Counting.{Counting};
+ghost use Rattle.rm_model.specs.Journal.{Assignments, Journal, assigns, last_moment, value_given};
+ghost use Rattle.rm_collect.specs.Group.{Stands, IsPrepared, IsReleased, IsStocked, frames_given, last_given};
+
+use crate::collected::Collected;
+use crate::collecting::Collecting;
+use rm_group::Assigns;
+
+impl<P: Collected> Collecting<P> {
+    /// Does a Set, for which all was made ready, at a moment in milliseconds. A row that becomes valid begins to collect at that
+    /// moment, and one that isn't valid any more loses what it has. No memory is taken.
+    pub fn assign<A: Assigns>(&mut self, set: &A, now: u32)
+        requires later { last_given self.old ≤ now }
+        requires ready { IsPrepared P.Columns.form P.collection self.old (A.bindings set.now) }
+        requires stocked { IsStocked self.old }
+        ensures last { last_given self.new ≡ now }
+        ensures frames { frames_given self.new ≡ frames_given self.old }
+        ensures stocked { IsStocked self.new }
+        ensures stands { (settings : Counting) (journal : Journal) (values : Assignments) → Stands P.Columns.form P.collection self.old settings journal
+            → last_moment journal ≤ now
+            → ((name : List ℕ) → value_given values name ≡ value_given (A.bindings set.now) name)
+            → Stands P.Columns.form P.collection self.new settings (assigns now values ∷ journal) }
+        ensures released { IsReleased P.Columns.form self.new }
+    {
+        prove!(self.table.rows.len() <= 32);
+        self.table.rows.commit(set);
+        prove!(self.table.rows.len() <= 32);
+        self.table.last = now;
+        let table = &self.table;
+        self.parts.follow(&table.rows, table);
+        self.give_back();
+    }
+
+    /// Gives storage back that no valid row needs, but for that of one row. No variable changes.
+    pub(crate) fn give_back(&mut self)
+        ensures last { last_given self.new ≡ last_given self.old }
+        ensures frames { frames_given self.new ≡ frames_given self.old }
+        ensures stocked { IsStocked self.old → IsStocked self.new }
+        ensures stands { (settings : Counting) (journal : Journal) → Stands P.Columns.form P.collection self.old settings journal
+            → Stands P.Columns.form P.collection self.new settings journal }
+        ensures released { IsReleased P.Columns.form self.new }
+    {
+        self.parts.give_back(&self.table.rows);
+    }
+}

@@ -1,0 +1,99 @@
+// A control table, and what its valid rows collect.
+ghost use Rattle.std.specs.Prelude.{◌≡◌, ℕ, ◌+◌, ◌<◌, ◌≤◌, [], ◌∷◌, OnOk};
+ghost use Rattle.std.specs.Option.{option_copied};
+ghost use Rattle.rm_model.specs.Counting.{Counting};
+ghost use Rattle.rm_model.specs.Journal.{Journal, Frame, passes};
+ghost use Rattle.rm_model.specs.FrameFacts.{frame_facts};
+ghost use Rattle.rm_group.specs.declared.bounds.TheConstants.{MOST_FRAMES, MOST_OCTETS};
+ghost use Rattle.rm_pool.specs.Slots.{part_in};
+ghost use Rattle.rm_collect.specs.Rows.{IsKept};
+ghost use Rattle.rm_collect.specs.Group.{Stands, IsStocked, frames_given, last_given};
+
+use crate::collected::Collected;
+use crate::table::Table;
+use rm_group::{MOST_FRAMES, MOST_OCTETS};
+use rm_pool::Pool;
+use rm_proto::Facts;
+use rm_status::Controls;
+use rm_val::NoMemory;
+use std::alloc::Global;
+use std::marker::Model;
+
+/// A control table, and what each of its valid rows collects, each in storage of its own; other storage may be spare.
+#[derive(Drop)]
+pub struct Collecting<P: Collected> {
+    pub(crate) table: Table<P>,
+    pub(crate) parts: Pool<P>,
+    // How many frames it was given.
+    pub(crate) frames: u32,
+}
+
+impl<P: Collected> Model for Collecting<P> {
+    ghost use Rattle.rm_collect.specs.Held.{Held};
+    ghost use Rattle.rm_collect.specs.WellHeld.{IsWellHeld};
+
+    ghost Value = { Held P.Columns P P.Shared };
+
+    ghost view = { λ s. record { rows = s.table.rows; parts = s.parts; shared = s.table.shared; frames = s.frames; last = s.table.last } };
+
+    ghost invariant = { λ s. IsWellHeld P.collection (record { rows = s.table.rows; parts = s.parts; shared = s.table.shared; frames = s.frames; last = s.table.last }) };
+}
+
+impl<P: Collected> Collecting<P> {
+    /// The table before the first frame. It has no row, and no storage.
+    pub fn new(shared: P::Shared) -> Collecting<P>
+        ensures stands { (settings : Counting) → P.collection.suits shared settings → Stands P.Columns.form P.collection result settings [] }
+        ensures frames { frames_given result ≡ 0 }
+        ensures last { last_given result ≡ 0 }
+    {
+        let table = Table {
+            rows: Controls::new(),
+            shared,
+            last: 0,
+        };
+        Collecting {
+            table,
+            parts: Pool::new(),
+            frames: 0,
+        }
+    }
+
+    /// Takes the storage of one row, which is needed before the first Set. No variable changes.
+    pub fn reserve(&mut self, alloc: Global) -> Result<(), NoMemory>
+        ensures stands { (settings : Counting) (journal : Journal) → Stands P.Columns.form P.collection self.old settings journal
+            → Stands P.Columns.form P.collection self.new settings journal }
+        ensures stocked { OnOk result (IsStocked self.new) }
+        ensures frames { frames_given self.new ≡ frames_given self.old }
+        ensures last { last_given self.new ≡ last_given self.old }
+    {
+        self.parts.reserve(alloc)
+    }
+
+    /// A frame passes at a moment, in milliseconds, which isn't below the one given last: each valid row takes it. Fewer than
+    /// `MOST_FRAMES` frames were given before.
+    pub fn frame(&mut self, facts: &Facts, moment: u32)
+        requires later { last_given self.old ≤ moment }
+        requires room { frames_given self.old < MOST_FRAMES }
+        requires length { facts.now.length ≤ MOST_OCTETS }
+        ensures stands { (settings : Counting) (journal : Journal) (frame : Frame) → Stands P.Columns.form P.collection self.old settings journal
+            → facts.now ≡ frame_facts settings frame → frame.moment ≡ moment
+            → Stands P.Columns.form P.collection self.new settings (passes frame ∷ journal) }
+        ensures frames { frames_given self.new ≡ frames_given self.old + 1 }
+        ensures last { last_given self.new ≡ moment }
+        ensures stocked { IsStocked self.old → IsStocked self.new }
+    {
+        let before = self.frames;
+        P::pass(&mut self.parts, facts, moment, before);
+        self.frames = before + 1;
+        self.table.last = moment;
+    }
+
+    /// What a row has collected. None exactly where the row isn't valid.
+    pub fn part(&self, row: u32) -> Option<&P>
+        ensures value { option_copied result ≡ part_in self.now.parts row }
+        ensures kept { (settings : Counting) (journal : Journal) → Stands P.Columns.form P.collection self.now settings journal
+            → IsKept P.Columns.form.table P.collection.is_of settings journal row (option_copied result) }
+    {
+        self.parts.get(row)
+    }
+}

@@ -1,0 +1,14 @@
+//! Control tables whose valid rows collect what frames bring, each in storage of its own.
+#![tactic(auto)]
+
+mod assigning;
+mod collected;
+mod collecting;
+mod group;
+mod shown;
+mod table;
+#[cfg(test)]
+mod tests;
+
+pub use collected::Collected;
+pub use collecting::Collecting;
