@@ -20,12 +20,18 @@ use Rattle.rm_ether.specs.Group.{ether_tables}
 use Rattle.rm_history.specs.Columns.{control_columns, sample_columns}
 use Rattle.rm_history.specs.HistoryControl.{control_entry}
 use Rattle.rm_history.specs.EtherHistory.{sample_entry}
-use Rattle.rm_history.specs.Group.{history_tables}
+use Rattle.rm_history.specs.Collection.{history_collection, history_tables}
 use Rattle.rm_hosts.specs.Columns.{control_columns as hosts_control_columns, host_columns}
 use Rattle.rm_hosts.specs.Control.{control_entry as hosts_control_entry}
 use Rattle.rm_hosts.specs.Host.{host_entry}
 use Rattle.rm_hosts.specs.HostTime.{time_entry}
-use Rattle.rm_hosts.specs.Group.{host_tables}
+use Rattle.rm_hosts.specs.Group.{host_collection, host_tables}
+use Rattle.rm_matrix.specs.Columns.{control_columns as matrix_control_columns, pair_columns}
+use Rattle.rm_matrix.specs.Control.{control_entry as matrix_control_entry}
+use Rattle.rm_matrix.specs.SourceDestination.{source_entry}
+use Rattle.rm_matrix.specs.DestinationSource.{destination_entry}
+use Rattle.rm_matrix.specs.Group.{matrix_collection, matrix_tables}
+use Rattle.rm_collectors.specs.Group.{collected_objects}
 use Rattle.rm_event.specs.Columns.{event_columns, log_columns}
 use Rattle.rm_event.specs.EventTable.{event_entry}
 use Rattle.rm_event.specs.Tables.{log_entry}
@@ -57,18 +63,24 @@ under_others (table ∷ more) others name listed =
 
 -- a name of an object of the agent isn't under channelEntry
 not_channel : (name : List ℕ) → objects name ≡ true → behind channel_entry name ≡ None
+unfolding collected_objects history_collection host_collection matrix_collection
 not_channel name =
     by_either (is_listed system_tables name) _ (under_others system_tables (λ n. of_another_entry system_entry system_columns n (λ column. refl), tt) name)
     (by_either (is_listed event_tables name) _
     (under_others event_tables (λ n. of_another_entry event_entry event_columns n (λ column. refl), (λ n. of_another_entry log_entry log_columns n (λ column. refl), tt)) name)
-    (by_either (is_listed ether_tables name || (is_listed history_tables name || is_listed host_tables name)) _
+    (by_either (is_listed ether_tables name || (is_listed history_tables name || (is_listed host_tables name || is_listed matrix_tables name))) _
     (by_either (is_listed ether_tables name) _ (under_others ether_tables (λ n. of_another_entry ether_entry ether_columns n (λ column. refl), tt) name)
     (by_either (is_listed history_tables name) _
     (under_others history_tables (λ n. of_another_entry control_entry control_columns n (λ column. refl), (λ n. of_another_entry sample_entry sample_columns n (λ column. refl), tt)) name)
+    (by_either (is_listed host_tables name) _
     (under_others host_tables (
       λ n. of_another_entry hosts_control_entry hosts_control_columns n (λ column. refl),
       (λ n. of_another_entry host_entry host_columns n (λ column. refl), (λ n. of_another_entry time_entry host_columns n (λ column. refl), tt)),
-    ) name)))
+    ) name)
+    (under_others matrix_tables (
+      λ n. of_another_entry matrix_control_entry matrix_control_columns n (λ column. refl),
+      (λ n. of_another_entry source_entry pair_columns n (λ column. refl), (λ n. of_another_entry destination_entry pair_columns n (λ column. refl), tt)),
+    ) name))))
     (under_others alarm_tables (λ n. of_another_entry alarm_entry alarm_columns n (λ column. refl), tt) name)))
 
 -- a name with which nothing is wrong is that of an object

@@ -31,7 +31,7 @@ abbrev pub together : Settings → Journal → ℕ → Bindings → ℕ → Opti
 together settings = all_groups.together (counting_by settings)
 
 -- After a journal there may be no memory for the row that the binding with that number, from 1, makes valid: it is one of
--- eventTable, of historyControl or of hostControl, and not the only valid one of its table.
+-- eventTable, of historyControl, of hostControl or of matrixControl, and not the only valid one of its table.
 abbrev pub Reserves : Journal → Bindings → ℕ → Type 0
 Reserves = all_groups.reserves
 

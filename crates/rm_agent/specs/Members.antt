@@ -1,5 +1,5 @@
--- The groups of objects that the agent answers for: the system group, the events, etherStats, the history, the hosts, and the
--- alarms that sample variables of these three. What holds of a group is a record; two groups are one, and their record is made of both.
+-- The groups of objects that the agent answers for: the system group, the events, etherStats, the history, the hosts, the matrix, and
+-- the alarms that sample variables of these four. What holds of a group is a record; two groups are one, and their record is made of both.
 use Rattle.std.specs.Prelude.{◌||◌, ◌⊎◌, ℕ, ◌+◌, List, Bool, max, Option, None}
 use Rattle.std.specs.Option.{option_or}
 use Rattle.rm_val.specs.Val.{Val}
@@ -22,14 +22,8 @@ use Rattle.rm_group.specs.declared.system.System.{System}
 use Rattle.rm_ether.specs.EtherStats.{ether_stats, ether_beginning, ether_table}
 use Rattle.rm_ether.specs.Group.{Stands as EtherStands, frames_given as ether_frames, last_given as ether_last, ether_tables, ether_alone}
 use Rattle.rm_ether.specs.declared.ether.Ether.{Ether}
-use Rattle.rm_history.specs.HistoryControl.{history_control, control_table}
-use Rattle.rm_history.specs.EtherHistory.{sample_table}
-use Rattle.rm_history.specs.Group.{Stands as HistoryStands, IsStocked as IsHistoryStocked, frames_given as history_frames, last_given as history_last, history_tables, history_alone}
-use Rattle.rm_history.specs.declared.history.History.{History}
-use Rattle.rm_hosts.specs.Control.{host_control}
-use Rattle.rm_hosts.specs.HostCells.{host_cells}
-use Rattle.rm_hosts.specs.Group.{Stands as HostsStand, IsStocked as AreHostsStocked, frames_given as hosts_frames, last_given as hosts_last, host_tables, hosts_alone}
-use Rattle.rm_hosts.specs.declared.hosts.Hosts.{Hosts}
+use Rattle.rm_collectors.specs.Group.{Stands as CollectorsStand, IsStocked as AreCollectorsStocked, frames_given as collectors_frames, last_given as collectors_last, collected_cells, collected_objects, collected_alone, collected_together, CollectedReserves}
+use Rattle.rm_collectors.specs.declared.collectors.Collectors.{Collectors}
 use Rattle.rm_alarm.specs.AlarmTable.{alarms_table}
 use Rattle.rm_alarm.specs.Group.{alarm_tables, alarm_alone, alarm_together}
 use Rattle.rm_alarm.specs.Left.{IsSampleDue, samples_left}
@@ -42,9 +36,6 @@ use Rattle.rm_event.specs.Standing.{Stands as EventsStand}
 use Rattle.rm_event.specs.declared.events.Events.{Events}
 
 -- The groups as they stand in one another: a pair is a group, and the alarms stand beside the groups whose variables they sample.
-abbrev pub Collectors : Type 0
-Collectors = Both History Hosts
-
 abbrev pub Sources : Type 0
 Sources = Both Ether Collectors
 
@@ -162,38 +153,22 @@ ether = record {
   reserves = λ journal bindings index. ⊥;
 }
 
-abbrev pub history : OfObjects History
-history = record {
-  stands = HistoryStands;
+-- the history, the hosts and the matrix, whose control rows collect what frames bring
+abbrev pub collectors : OfObjects Collectors
+collectors = record {
+  stands = CollectorsStand;
   tied = λ settings. Unit {0};
-  clock = history_last;
+  clock = collectors_last;
   askable = λ keeps moment. Unit {0};
-  frames = history_frames;
-  stocked = IsHistoryStocked;
+  frames = collectors_frames;
+  stocked = AreCollectorsStocked;
   falls_due = λ keeps due. ⊥;
   left = λ keeps latest. 0;
-  cells = λ settings journal now name. option_or (cells_of (control_table journal) name) (cells_of (sample_table settings journal now) name);
-  objects = is_listed history_tables;
-  alone = history_alone;
-  together = λ settings journal now. second_pass history_control (rows_after history_control no_rows journal);
-  reserves = λ journal. ReservesRow history_control (rows_after history_control no_rows journal);
-}
-
-abbrev pub hosts : OfObjects Hosts
-hosts = record {
-  stands = HostsStand;
-  tied = λ settings. Unit {0};
-  clock = hosts_last;
-  askable = λ keeps moment. Unit {0};
-  frames = hosts_frames;
-  stocked = AreHostsStocked;
-  falls_due = λ keeps due. ⊥;
-  left = λ keeps latest. 0;
-  cells = λ settings journal now. host_cells settings journal;
-  objects = is_listed host_tables;
-  alone = hosts_alone;
-  together = λ settings journal now. second_pass host_control (rows_after host_control no_rows journal);
-  reserves = λ journal. ReservesRow host_control (rows_after host_control no_rows journal);
+  cells = collected_cells;
+  objects = collected_objects;
+  alone = collected_alone;
+  together = λ settings journal now. collected_together journal;
+  reserves = CollectedReserves;
 }
 
 -- Alarms that sample variables among these cells. An alarm that becomes valid is judged by what its variable reads then.
@@ -213,10 +188,6 @@ alarms sampleable = record {
   together = λ settings journal now. alarm_together (settings.readings journal now) (rows_after alarm_table no_rows journal);
   reserves = λ journal bindings index. ⊥;
 }
-
--- those whose control rows take storage for what they collect of frames
-abbrev pub collectors : OfObjects Collectors
-collectors = both history hosts
 
 -- those whose variables alarms may sample
 abbrev pub sources : OfObjects Sources

@@ -54,7 +54,7 @@ impl Agent {
         ensures frames { IfOk result (λ agent. frames_given agent ≡ 0) }
     {
         Ok(Agent {
-            groups: all_groups(alloc, settings.hosts)?,
+            groups: all_groups(alloc, &settings)?,
             settings,
             last: 0,
             frames: 0,

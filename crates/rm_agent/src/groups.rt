@@ -4,20 +4,19 @@ ghost use Rattle.rm_model.specs.Counting.{Counting};
 ghost use Rattle.rm_model.specs.Journal.{Act, Journal, samples, moment_of, last_moment};
 ghost use Rattle.rm_acts.specs.Alarms.{due_of, IsNextDue, sampled};
 ghost use Rattle.rm_acts.specs.Fired.{act_fires, fired};
-ghost use Rattle.rm_acts.specs.Recurring.{sampling};
 ghost use Rattle.rm_alarm.specs.Group.{due_in};
 ghost use Rattle.rm_alarm.specs.Watched.{number_read};
-ghost use Rattle.rm_agent.specs.Members.{alarms_of, events_of, collectors, sources, watched};
-ghost use Rattle.rm_agent.specs.Watched.{watched_cells};
+ghost use Rattle.rm_agent.specs.Members.{alarms_of, events_of, sources, watched};
+ghost use Rattle.rm_agent.specs.Known.{counting_by};
 ghost use Rattle.rm_agent.specs.Groups.{GroupsStand, AreUnderWay, AreStocked, clock_of, frames_of, left_of, sample_in};
 
 use rm_acts::Firing;
 use rm_alarm::{Alarms, Sampled, Watched, reads_cells, take_sample};
+use rm_collectors::Collectors;
 use rm_ether::Ether;
 use rm_event::Events;
 use rm_group::{Both, Due, FallsDue, System, sample_begins, take_whole};
-use rm_history::History;
-use rm_hosts::Hosts;
+use rm_settings::Settings;
 use rm_val::NoMemory;
 use std::alloc::Global;
 
@@ -27,22 +26,15 @@ pub(crate) type Groups = Both<System, Both<Events, Watched<Sources>>>;
 /// The groups whose variables alarms may sample.
 type Sources = Both<Ether, Collectors>;
 
-// The groups whose control rows take storage for what they collect of frames.
-type Collectors = Both<History, Hosts>;
-
-/// The groups of a probe with one interface before the first act, which stand in memory of their own. A row of hostControl has room
-/// for so many hosts. They take the storage of one row of each table whose rows take storage while they are valid. NoMemory where
-/// there is none.
-pub(crate) fn all_groups(alloc: Global, hosts: u32) -> Result<Box<Groups>, NoMemory>
-    requires some { 2 ≤ hosts }
-    requires most { hosts ≤ 4096 }
-    ensures stands { IfOk result (λ groups. (settings : Counting) → settings.interfaces ≡ 1 → settings.hosts ≡ hosts
-        → GroupsStand groups.value (sampling watched_cells settings) []) }
+/// The groups of a probe that is set so, before the first act, which stand in memory of their own. They take the storage of one row of
+/// each table whose rows take storage while they are valid. NoMemory where there is none.
+pub(crate) fn all_groups(alloc: Global, settings: &Settings) -> Result<Box<Groups>, NoMemory>
+    ensures stands { IfOk result (λ groups. GroupsStand groups.value (counting_by settings.now) []) }
     ensures clock { IfOk result (λ groups. clock_of groups.value ≡ 0) }
     ensures frames { IfOk result (λ groups. frames_of groups.value ≡ 0) }
     ensures stocked { IfOk result (λ groups. AreStocked groups.value) }
 {
-    let Ok(mut groups) = Box::new(alloc, first_groups(hosts)) else {
+    let Ok(mut groups) = Box::new(alloc, first_groups(settings)) else {
         return Err(NoMemory);
     };
     reserve(alloc, &mut groups)?;
@@ -51,10 +43,8 @@ pub(crate) fn all_groups(alloc: Global, hosts: u32) -> Result<Box<Groups>, NoMem
 
 // The groups before they take storage. They are made in frames of their own, which are large, each of which has room for some of them.
 #[inline(never)]
-fn first_groups(hosts: u32) -> Groups
-    requires some { 2 ≤ hosts }
-    requires most { hosts ≤ 4096 }
-    ensures stands { (settings : Counting) → settings.interfaces ≡ 1 → settings.hosts ≡ hosts → GroupsStand result (sampling watched_cells settings) [] }
+fn first_groups(settings: &Settings) -> Groups
+    ensures stands { GroupsStand result (counting_by settings.now) [] }
     ensures clock { clock_of result ≡ 0 }
     ensures frames { frames_of result ≡ 0 }
 {
@@ -62,54 +52,35 @@ fn first_groups(hosts: u32) -> Groups
         first: System,
         second: Both {
             first: Events::new(),
-            second: first_watched(hosts),
+            second: first_watched(settings),
         },
     }
 }
 
 // The alarms, and the groups whose variables they sample.
 #[inline(never)]
-fn first_watched(hosts: u32) -> Watched<Sources>
-    requires some { 2 ≤ hosts }
-    requires most { hosts ≤ 4096 }
-    ensures stands { (settings : Counting) → settings.interfaces ≡ 1 → settings.hosts ≡ hosts → watched.stands result (sampling watched_cells settings) [] }
+fn first_watched(settings: &Settings) -> Watched<Sources>
+    ensures stands { watched.stands result (counting_by settings.now) [] }
     ensures clock { watched.clock result ≡ 0 }
     ensures frames { watched.frames result ≡ 0 }
 {
     reads_cells::<Sources>();
     Both {
-        first: first_sources(hosts),
+        first: first_sources(settings),
         second: Alarms::new(),
     }
 }
 
 // The groups whose variables alarms sample.
 #[inline(never)]
-fn first_sources(hosts: u32) -> Sources
-    requires some { 2 ≤ hosts }
-    requires most { hosts ≤ 4096 }
-    ensures stands { (settings : Counting) → settings.interfaces ≡ 1 → settings.hosts ≡ hosts → sources.stands result settings [] }
+fn first_sources(settings: &Settings) -> Sources
+    ensures stands { sources.stands result (counting_by settings.now) [] }
     ensures clock { sources.clock result ≡ 0 }
     ensures frames { sources.frames result ≡ 0 }
 {
     Both {
         first: Ether::new(),
-        second: first_collectors(hosts),
-    }
-}
-
-// The history, and the hosts.
-#[inline(never)]
-fn first_collectors(hosts: u32) -> Collectors
-    requires some { 2 ≤ hosts }
-    requires most { hosts ≤ 4096 }
-    ensures stands { (settings : Counting) → settings.hosts ≡ hosts → collectors.stands result settings [] }
-    ensures clock { collectors.clock result ≡ 0 }
-    ensures frames { collectors.frames result ≡ 0 }
-{
-    Both {
-        first: History::new(),
-        second: Hosts::new(hosts),
+        second: Collectors::new(settings),
     }
 }
 
@@ -121,18 +92,7 @@ fn reserve(alloc: Global, groups: &mut Groups) -> Result<(), NoMemory>
     ensures stocked { OnOk result (AreStocked groups.new) }
 {
     groups.second.first.reserve(alloc)?;
-    reserve_collectors(alloc, &mut groups.second.second.first.second)
-}
-
-// Takes the storage of one row of each table that collects.
-fn reserve_collectors(alloc: Global, groups: &mut Collectors) -> Result<(), NoMemory>
-    ensures stands { (settings : Counting) → collectors.stands groups.old settings [] → collectors.stands groups.new settings [] }
-    ensures clock { collectors.clock groups.new ≡ collectors.clock groups.old }
-    ensures frames { collectors.frames groups.new ≡ collectors.frames groups.old }
-    ensures stocked { OnOk result (collectors.stocked groups.new) }
-{
-    groups.first.reserve(alloc)?;
-    groups.second.reserve(alloc)
+    groups.second.second.first.second.reserve(alloc)
 }
 
 /// The events.
@@ -156,7 +116,7 @@ pub(crate) fn next_due(groups: &Groups) -> Option<Due>
     ensures journal { (settings : Counting) (journal : Journal) → GroupsStand groups.now settings journal
         → IsNextDue (due_of journal) (sample_in result) }
 {
-    groups.next_due()
+    groups.second.second.second.next_due()
 }
 
 /// Takes the sample of an alarm that is due at a moment, in milliseconds, and tells what it comes to. All groups are then in that

@@ -2,29 +2,12 @@
 use Rattle.std.proofs.Common.{◌≡◌, ℕ, zero, suc, ◌+◌, ◌-◌, ◌<◌, ◌≤◌, List, [], ◌∷◌, Bool, true, false, cond, Option, refl, sym, ap, ◌∙◌, take, nat_eq, nat_le, arith}
 use Rattle.std.specs.Prelude.{slice_get}
 use Rattle.std.specs.Option.{option_map_or}
+use Rattle.std.proofs.lemmas.Bool.{leb-true, leb-false, le-leb, lt-leb, eqb-true, eqb-false}
 use Rattle.std.proofs.lemmas.Bool.Decides.{nat_tests}
 use Rattle.rm_ether.specs.declared.counter.Counter.{Counter}
 use Rattle.rm_ether.specs.declared.statistics.Statistics.{Statistics}
 use Rattle.rm_ether.specs.Standing.{counter_of}
 use Rattle.rm_history.specs.Run.{counter_in}
-
-pub le_yes : (a b : ℕ) → a ≤ b → nat_le a b ≡ true
-le_yes a b h = grind (arith, nat_tests)
-
-pub le_no : (a b : ℕ) → b < a → nat_le a b ≡ false
-le_no a b h = grind (arith, nat_tests)
-
-pub le_is : (a b : ℕ) → nat_le a b ≡ true → a ≤ b
-le_is a b h = grind (arith, nat_tests)
-
-pub le_isnt : (a b : ℕ) → nat_le a b ≡ false → b < a
-le_isnt a b h = grind (arith, nat_tests)
-
-pub eq_is : (a b : ℕ) → nat_eq a b ≡ true → a ≡ b
-eq_is a b h = grind (arith, nat_tests)
-
-pub eq_isnt : (a b : ℕ) → nat_eq a b ≡ false → a ≡ b → ⊥
-eq_isnt a b h e = grind (arith, nat_tests)
 
 pub get_taken : {X : Type 0} (n d : ℕ) (xs : List X) → d < n → slice_get (take n xs) d ≡ slice_get xs d
 get_taken zero d xs h = absurd (omega arith)
@@ -46,17 +29,17 @@ module _ (closed capacity : ℕ) (ring : List Statistics) (current blank : Stati
     where
       older : nat_le bucket closed ≡ true → counter_in (closed + 1) (take capacity (current ∷ ring)) blank bucket each ≡ counts (slice_get ring (closed - bucket))
       older e =
-          let le : bucket ≤ closed = le_is bucket closed e in
+          let le : bucket ≤ closed = leb-true bucket closed e in
           let under : suc (closed - bucket) < capacity = omega arith in
           let place : closed + 1 - bucket ≡ suc (closed - bucket) = omega arith in
-          ap (λ t. cond t (counts (slice_get (take capacity (current ∷ ring)) (closed + 1 - bucket))) (cond (nat_eq bucket (closed + 1 + 1)) (counter_of blank each) 0)) (le_yes bucket (closed + 1) (omega arith))
+          ap (λ t. cond t (counts (slice_get (take capacity (current ∷ ring)) (closed + 1 - bucket))) (cond (nat_eq bucket (closed + 1 + 1)) (counter_of blank each) 0)) (le-leb bucket (closed + 1) (omega arith))
           ∙ ap (λ n. counts (slice_get (take capacity (current ∷ ring)) n)) place
           ∙ ap counts (get_taken capacity (suc (closed - bucket)) (current ∷ ring) under)
 
       newest : bucket ≡ closed + 1 → counter_in (closed + 1) (take capacity (current ∷ ring)) blank bucket each ≡ counter_of current each
       newest is =
           let place : closed + 1 - bucket ≡ 0 = omega arith in
-          ap (λ t. cond t (counts (slice_get (take capacity (current ∷ ring)) (closed + 1 - bucket))) (cond (nat_eq bucket (closed + 1 + 1)) (counter_of blank each) 0)) (le_yes bucket (closed + 1) (omega arith))
+          ap (λ t. cond t (counts (slice_get (take capacity (current ∷ ring)) (closed + 1 - bucket))) (cond (nat_eq bucket (closed + 1 + 1)) (counter_of blank each) 0)) (le-leb bucket (closed + 1) (omega arith))
           ∙ ap (λ n. counts (slice_get (take capacity (current ∷ ring)) n)) place
           ∙ ap counts (get_taken capacity 0 (current ∷ ring) (omega arith))
 
@@ -66,12 +49,12 @@ module _ (closed capacity : ℕ) (ring : List Statistics) (current blank : Stati
 
       newer : nat_le bucket closed ≡ false → counter_in (closed + 1) (take capacity (current ∷ ring)) blank bucket each ≡ cond (nat_eq bucket (closed + 1)) (counter_of current each) 0
       newer e =
-          let lt : closed < bucket = le_isnt bucket closed e in
+          let lt : closed < bucket = leb-false bucket closed e in
           elim (nat_eq bucket (closed + 1)) as (λ t. nat_eq bucket (closed + 1) ≡ t → counter_in (closed + 1) (take capacity (current ∷ ring)) blank bucket each ≡ cond t (counter_of current each) 0) [
-            | true ↦ λ is. newest (eq_is bucket (closed + 1) is)
+            | true ↦ λ is. newest (eqb-true bucket (closed + 1) is)
             | false ↦ λ other.
-                let far : bucket ≡ closed + 1 → ⊥ = eq_isnt bucket (closed + 1) other in
-                ap (λ t. cond t (counts (slice_get (take capacity (current ∷ ring)) (closed + 1 - bucket))) (cond (nat_eq bucket (closed + 1 + 1)) (counter_of blank each) 0)) (le_no bucket (closed + 1) (further bucket lt far))
+                let far : bucket ≡ closed + 1 → ⊥ = eqb-false bucket (closed + 1) other in
+                ap (λ t. cond t (counts (slice_get (take capacity (current ∷ ring)) (closed + 1 - bucket))) (cond (nat_eq bucket (closed + 1 + 1)) (counter_of blank each) 0)) (lt-leb bucket (closed + 1) (further bucket lt far))
                 ∙ nothing (nat_eq bucket (closed + 1 + 1))
           ] refl
         where
@@ -85,7 +68,7 @@ module _ (closed capacity : ℕ) (ring : List Statistics) (current blank : Stati
       let two : closed + 1 < bucket = omega arith in
       ap (λ t. cond t (counts (slice_get {X = Statistics} [] (count - bucket))) (cond (nat_eq bucket (count + 1)) (counter_of blank each) 0)) refl
       ∙ nothing_at (nat_le bucket count) (nat_eq bucket (count + 1))
-      ∙ sym (ap (λ t. cond t (counts (slice_get ring (closed - bucket))) (cond (nat_eq bucket (closed + 1)) (counter_of current each) 0)) (le_no bucket closed one)
+      ∙ sym (ap (λ t. cond t (counts (slice_get ring (closed - bucket))) (cond (nat_eq bucket (closed + 1)) (counter_of current each) 0)) (lt-leb bucket closed one)
       ∙ ap (λ t. cond t (counter_of current each) 0) (not_equal bucket (closed + 1) two))
     where
       not_equal : (a b : ℕ) → b < a → nat_eq a b ≡ false

@@ -1,9 +1,7 @@
 -- What is kept of the columns of a row of historyControl.
-use Rattle.std.specs.Prelude.{◌≡◌, ℕ, ◌≤◌, List, [], nat_eq, if◌then◌else◌, Option, Some, None, refl}
+use Rattle.std.specs.Prelude.{ℕ, ◌≤◌, [], nat_eq, if◌then◌else◌, Option, None, refl}
 use Rattle.rm_val.specs.Val.{Val}
 use Rattle.rm_model.specs.ControlTable.{source_column, owner_column}
-use Rattle.rm_status.specs.declared.row.Row.{Row}
-use Rattle.rm_status.specs.Rows.{row_in}
 use Rattle.rm_columns.specs.Kinds.{sources, naturals, texts}
 use Rattle.rm_columns.specs.RowForm.{RowForm}
 use Rattle.rm_columns.proofs.ColumnLaws.{no_columns, one_more}
@@ -55,7 +53,3 @@ pub record AreInRange (columns : ControlColumns) : Type 0 where
   pub most_requested : columns.requested ≤ 65535
   pub some_interval : 1 ≤ columns.interval
   pub most_interval : columns.interval ≤ 3600
-
--- those of each row are
-abbrev pub AreAllInRange : List (Row ControlColumns) → Type 0
-AreAllInRange rows = (index : ℕ) (row : Row ControlColumns) → row_in rows index ≡ Some row → AreInRange row.columns

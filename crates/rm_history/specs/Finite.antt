@@ -1,7 +1,5 @@
 -- That the cells of historyControl and etherHistory are finitely many.
-use Rattle.std.proofs.Common.{◌≡◌, ℕ, ◌+◌, ◌≤◌, List, [], ◌∷◌, Contains, Bool, true, ◌&&◌, nat_le, nat_lt, arith}
-use Rattle.std.specs.Option.{option_or}
-use Rattle.std.proofs.lemmas.Bool.Decides.{nat_tests}
+use Rattle.std.proofs.Common.{◌≡◌, ℕ, ◌≤◌, List, [], ◌∷◌, Contains, Bool, true}
 use Rattle.rm_model.specs.Counting.{Counting}
 use Rattle.rm_model.specs.Journal.{Journal}
 use Rattle.rm_model.specs.Cells.{cells_of}
@@ -9,11 +7,10 @@ use Rattle.rm_model.specs.Finite.{AreFinite}
 use Rattle.rm_model.proofs.Finite.{both_finite, table_finite}
 use Rattle.rm_nested.proofs.Finite.{rows_of, in_rows, numbered_of, in_numbered}
 use Rattle.rm_history.specs.Buckets.{complete_at, is_shown}
+use Rattle.rm_history.specs.BucketLaws.{shown_tells}
 use Rattle.rm_history.specs.HistoryControl.{history_control, control_table, plan_of}
 use Rattle.rm_history.specs.EtherHistory.{is_sample, sample_table}
-
-complete : (most kept bucket : ℕ) → (nat_le 1 bucket && (nat_le bucket most && nat_lt most (bucket + kept))) ≡ true → bucket ≤ most
-complete most kept bucket h = grind (arith, nat_tests)
+use Rattle.rm_history.specs.Collection.{history_cells}
 
 module _ (journal : Journal) (now : ℕ) where
   -- which buckets of a row are shown at a moment, and how many are complete
@@ -24,7 +21,7 @@ module _ (journal : Journal) (now : ℕ) where
   last row = complete_at (plan_of journal (row ∷ [])) now
 
   low : (row bucket : ℕ) → shows row bucket ≡ true → bucket ≤ last row
-  low row bucket shown = complete (last row) (plan_of journal (row ∷ [])).kept bucket shown
+  low row bucket shown = (shown_tells (plan_of journal (row ∷ [])) now bucket shown).1
 
   -- the indexes that buckets can have
   abbrev buckets_of : List (List ℕ)
@@ -43,6 +40,6 @@ pub samples_finite : (settings : Counting) (journal : Journal) (now : ℕ) → A
 samples_finite settings journal now = table_finite (sample_table settings journal now) (buckets_of journal now) (in_buckets journal now)
 
 -- the cells of both are finitely many
-pub history_finite : (settings : Counting) (journal : Journal) (now : ℕ) → AreFinite (λ name. option_or (cells_of (control_table journal) name) (cells_of (sample_table settings journal now) name))
+pub history_finite : (settings : Counting) (journal : Journal) (now : ℕ) → AreFinite (history_cells settings journal now)
 history_finite settings journal now =
     both_finite (cells_of (control_table journal)) (cells_of (sample_table settings journal now)) (control_finite journal) (samples_finite settings journal now)

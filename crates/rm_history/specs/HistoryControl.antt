@@ -1,5 +1,5 @@
 -- The table historyControl (RFC 1757, section 5), and what it shows after a journal.
-use Rattle.std.specs.Prelude.{ℕ, pos, min, List, [], ◌∷◌, true, false, if◌then◌else◌}
+use Rattle.std.specs.Prelude.{ℕ, pos, min, List, [], ◌∷◌, if◌then◌else◌}
 use Rattle.rm_val.specs.Val.{Val, int}
 use Rattle.rm_model.specs.Journal.{Frame, Journal, frames_in}
 use Rattle.rm_model.specs.Interfaces.{frames_of}

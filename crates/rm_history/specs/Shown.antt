@@ -1,8 +1,8 @@
 -- What the rows and the histories that are kept show.
 use Rattle.std.specs.Prelude.{ℕ, pos, ◌/◌, ◌%◌, ◌^◌, List, Bool, nat_eq, if◌then◌else◌}
-use Rattle.std.specs.Option.{option_map_or, option_or}
+use Rattle.std.specs.Option.{option_map_or}
 use Rattle.rm_val.specs.Val.{Val, int, counter, ticks}
-use Rattle.rm_model.specs.Cells.{Cells, Table, cells_of}
+use Rattle.rm_model.specs.Cells.{Table}
 use Rattle.rm_model.specs.ControlRows.{is_valid}
 use Rattle.rm_model.specs.declared.row.State.{State}
 use Rattle.rm_status.specs.declared.row.Row.{Row}
@@ -50,7 +50,3 @@ bucket_value row run bucket column =
 -- etherHistory with these histories, at a moment
 abbrev pub runs_table : List (Slot Run) → ℕ → Table
 runs_table runs now = inner_table sample_entry sample_columns (is_kept_of shows runs now) (λ column index. value_at bucket_value runs index column)
-
--- the cells of both, at a moment
-abbrev pub cells_shown : List (Row ControlColumns) → List (Slot Run) → ℕ → Cells
-cells_shown rows runs now asked = option_or (cells_of (rows_table rows) asked) (cells_of (runs_table runs now) asked)

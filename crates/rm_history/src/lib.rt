@@ -1,13 +1,9 @@
 //! The history of Ethernet interfaces: historyControlTable and etherHistoryTable (RFC 1757, section 5).
 #![tactic(auto)]
 
-mod assigning;
-mod beginning;
-mod control_cell;
+mod collected;
 mod control_columns;
 mod counted_frame;
-mod group;
-mod history;
 mod plan;
 mod run;
 mod samples;
@@ -15,4 +11,9 @@ mod shown_buckets;
 #[cfg(test)]
 mod tests;
 
-pub use history::History;
+use rm_collect::Collecting;
+use run::Run;
+
+/// The history of Ethernet interfaces: historyControlTable and etherHistoryTable (RFC 1757, section 5). A valid row of historyControl
+/// has the storage of its buckets; other storage may be spare.
+pub type History = Collecting<Run>;

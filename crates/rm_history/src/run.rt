@@ -59,8 +59,8 @@ impl Run {
     ghost use Rattle.rm_history.specs.Buckets.{end_of, complete_at};
     ghost use Rattle.rm_history.specs.Run.{kept_counter};
 
-    /// Begins the history of a row, in storage that is spare.
-    pub fn begin(&mut self, source: u32, plan: Plan)
+    /// Begins the history of a row anew, in storage that is spare.
+    pub fn restart(&mut self, source: u32, plan: Plan)
         requires some { 1 ≤ plan.seconds }
         requires hour { plan.seconds ≤ 3600 }
         requires fewer { plan.kept ≤ MOST_BUCKETS }

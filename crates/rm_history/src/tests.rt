@@ -24,7 +24,7 @@ fn a_frame_at_the_end_of_a_bucket(rt: HostRuntime) -> Result<(), Fail> {
     let known = facts(&[], 60, false);
     let frame = Adding::of(&known);
     let mut run = Run::spare(alloc)?;
-    run.begin(1, PLAN);
+    run.restart(1, PLAN);
     run.frame(&frame, 11999);
     run.frame(&frame, 12000);
     assert_eq!(rt; run.closed, 1);
@@ -41,7 +41,7 @@ fn empty_buckets_after_a_gap(rt: HostRuntime) -> Result<(), Fail> {
     let known = facts(&[], 60, false);
     let frame = Adding::of(&known);
     let mut run = Run::spare(alloc)?;
-    run.begin(1, PLAN);
+    run.restart(1, PLAN);
     run.frame(&frame, 2000);
     run.frame(&frame, 52000);
     assert_eq!(rt; run.closed, 5);
@@ -59,7 +59,7 @@ fn a_bucket_is_kept_until_1024_are_closed_after_it(rt: HostRuntime) -> Result<()
     let frame = Adding::of(&known);
     for (last, left) in [(10_242_000, 1), (10_252_000, 0)] {
         let mut run = Run::spare(alloc)?;
-        run.begin(1, PLAN);
+        run.restart(1, PLAN);
         run.frame(&frame, 11999);
         run.frame(&frame, last);
         assert_eq!(rt; run.bucket(1).of(Counter::Pkts), left);

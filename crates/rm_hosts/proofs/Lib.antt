@@ -1,10 +1,2 @@
 mod Examples
 mod Taking
-mod Frames
-mod Becoming
-mod FineAlone
-mod AfterSets
-mod Sums
-mod Indexed
-mod CellsAt
-mod SameCells

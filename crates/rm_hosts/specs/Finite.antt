@@ -2,7 +2,6 @@
 use Rattle.std.proofs.Common.{◌≡◌, ℕ, List, [], ◌∷◌, Contains, Bool, true, false, cond, ◌&&◌, ◌||◌, Some, refl, sym, ◌∙◌, ap, subst, nat_eq, map, find, arith}
 use Rattle.std.specs.Prelude.{is_some, not}
 use Rattle.std.specs.List.{list_any}
-use Rattle.std.specs.Option.{option_or}
 use Rattle.std.specs.Str.{bytes_eq}
 use Rattle.std.proofs.lemmas.Bool.{and_parts}
 use Rattle.std.proofs.lemmas.Bool.Decides.{nat_tests}
@@ -14,13 +13,14 @@ use Rattle.rm_model.specs.Finite.{AreFinite}
 use Rattle.rm_model.specs.ControlRows.{is_absent, is_valid}
 use Rattle.rm_model.specs.declared.row.State.{State}
 use Rattle.rm_model.specs.declared.row.State.TheVariants.{Absent, UnderCreation, Valid}
-use Rattle.rm_model.proofs.Finite.{both_finite, table_finite}
+use Rattle.rm_model.proofs.Finite.{table_finite}
 use Rattle.rm_model.proofs.Members.{here, there, in_map}
 use Rattle.rm_nested.proofs.Finite.{rows_of, in_rows, nested, in_nested}
 use Rattle.rm_nested.specs.Nested.{is_number}
 use Rattle.rm_evicting.specs.Mention.{keys}
 use Rattle.rm_evicting.specs.Held.{held, held_keys, order}
 use Rattle.rm_keyed.proofs.MentionLaws.{mentions_idle}
+use Rattle.rm_keyed.proofs.TwoLaws.{all_finite as all_of_three}
 use Rattle.rm_hosts.specs.Control.{host_control, control_state}
 use Rattle.rm_hosts.specs.Mentions.{HostMention, mentioned}
 use Rattle.rm_hosts.specs.Held.{addresses, is_held, rank_of, host_of}
@@ -49,11 +49,6 @@ found_is test (first ∷ more) some = by_test (test first) refl some (found_is t
     by_test false e some later =
         let one = later some in
         (one.0, there first more one.0 one.1, one.2)
-
-there_is : (s : State) → is_valid s ≡ true → not (is_absent s) ≡ true
-there_is Absent h = absurd (cc)
-there_is UnderCreation h = refl
-there_is Valid h = refl
 
 either_valid : (s : State) → (is_valid s ≡ false → true ≡ false) → not (is_absent s) ≡ true
 either_valid Valid idle = refl
@@ -149,6 +144,4 @@ module _ (settings : Counting) (journal : Journal) where
 
   -- the cells of all three are finitely many
   pub all_finite : AreFinite (host_cells settings journal)
-  all_finite =
-      both_finite (cells_of (control_table settings journal)) (λ name. option_or (cells_of (host_table settings journal) name) (cells_of (time_table settings journal) name)) control_finite
-      (both_finite (cells_of (host_table settings journal)) (cells_of (time_table settings journal)) hosts_finite times_finite)
+  all_finite = all_of_three (host_table settings journal) (time_table settings journal) (control_table settings journal) control_finite hosts_finite times_finite

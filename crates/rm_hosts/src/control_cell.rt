@@ -1,32 +1,23 @@
 // What the columns of hostControl show that can't be set.
 ghost use Rattle.std.specs.Prelude.{◌≡◌, ◌≤◌};
 ghost use Rattle.std.specs.Option.{option_copied};
+ghost use Rattle.rm_val.specs.Val.{val_of};
+ghost use Rattle.rm_val.specs.Spellable.{HasSpelling};
 ghost use Rattle.rm_keyed.specs.declared.keyed.TheConstants.{MOST_ROWS};
-ghost use Rattle.rm_hosts.specs.Shown.{kept_other, size_in, deleted_in};
+ghost use Rattle.rm_hosts.specs.Shown.{other_value, size_in, deleted_in};
 
-use crate::control_columns::ControlColumns;
 use crate::host_table::HostTable;
-use rm_pool::Pool;
-use rm_status::{OtherColumns, Row};
 use rm_val::Value;
 
-/// hostControlTableSize and hostControlLastDeleteTime.
-#[derive(Clone, Copy, Drop)]
-pub(crate) struct Sizes<'a> {
-    /// The hosts of the rows.
-    pub tables: &'a Pool<HostTable>,
-}
-
-impl OtherColumns<ControlColumns> for Sizes<'_> {
-    ghost others = { λ s rows. kept_other s.tables.now };
-
-    fn other(&self, index: u32, _row: &Row<ControlColumns>, column: u32) -> Value<'static> {
-        let table = self.tables.get(index);
-        if column == 3 {
-            Value::Int(size_of(table) as i32)
-        } else {
-            Value::Ticks(deleted_at(table))
-        }
+/// hostControlTableSize and hostControlLastDeleteTime, by the hosts of a row.
+pub(crate) fn other_value(table: Option<&HostTable>, column: u32) -> Value<'static>
+    ensures value { val_of result ≡ other_value (option_copied table.entry) column }
+    ensures spelling { HasSpelling (val_of result) }
+{
+    if column == 3 {
+        Value::Int(size_of(table) as i32)
+    } else {
+        Value::Ticks(deleted_at(table))
     }
 }
 

@@ -1,11 +1,10 @@
 // The hosts of a control row.
-ghost use Rattle.std.specs.Prelude.{◌≡◌, ◌+◌, ◌/◌, ◌<◌, ◌≤◌, ◌^◌, List, [], ◌++◌};
-ghost use Rattle.rm_keyed.specs.declared.keyed.TheConstants.{MOST_ROWS};
+ghost use Rattle.std.specs.Prelude.{◌≡◌, ◌+◌, ◌/◌, ◌<◌, ◌≤◌, ◌^◌, List, ◌++◌};
 ghost use Rattle.rm_hosts.specs.Mentions.{HostMention};
 ghost use Rattle.rm_hosts.specs.Tables.{Means, taken_from};
 
 use crate::host_counts::HostCounts;
-use rm_keyed::{Keyed, MOST_ROWS};
+use rm_keyed::Keyed;
 use rm_pool::Part;
 use rm_proto::Facts;
 use rm_val::NoMemory;
@@ -28,20 +27,6 @@ impl Part for HostTable {
 }
 
 impl HostTable {
-    /// Begins the hosts of a row, with room for so many, in storage that is spare.
-    pub fn begin(&mut self, source: u32, capacity: u32)
-        requires some { 1 ≤ capacity }
-        requires most { capacity ≤ MOST_ROWS }
-        ensures source { self.new.source ≡ source }
-        ensures means { Means [] self.new.keyed }
-        ensures capacity { self.new.keyed.rows.capacity ≡ capacity }
-        ensures stamps { self.new.keyed.stamps ≡ 0 }
-        ensures tick { self.new.keyed.tick ≡ 0 }
-    {
-        self.keyed.begin(capacity);
-        self.source = source;
-    }
-
     /// Takes a frame that passed at a moment in milliseconds, where it is of the interface. Its references have this stamp and the next one.
     pub fn take(&mut self, facts: &Facts, moment: u32, stamp: u64)
         requires stamps { self.old.keyed.stamps ≤ stamp }

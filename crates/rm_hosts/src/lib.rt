@@ -1,15 +1,13 @@
 //! The hosts that frames come from and go to: hostControlTable, hostTable and hostTimeTable (RFC 1757, section 5).
 #![tactic(auto)]
 
-mod assigning;
-mod beginning;
 mod by_address;
 mod by_rank;
 mod control_cell;
 mod control_columns;
 mod counted_frame;
-mod group;
 mod host_counts;
+mod host_room;
 mod host_table;
 mod hosts;
 mod shown;
@@ -17,4 +15,6 @@ mod shown;
 mod tests;
 
 pub use host_counts::HostCounts;
+pub use host_room::HostRoom;
+pub use host_table::HostTable;
 pub use hosts::Hosts;

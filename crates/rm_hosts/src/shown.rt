@@ -10,6 +10,7 @@ ghost use Rattle.rm_hosts.specs.Columns.{counter_in};
 ghost use Rattle.rm_hosts.specs.Shown.{kept_value};
 
 use crate::host_counts::HostCounts;
+use crate::host_table::HostTable;
 use rm_columns::counter_32;
 use rm_keyed::{Keyed, MOST_ROWS};
 use rm_val::Value;
@@ -21,14 +22,15 @@ pub(crate) const HOST_COLUMNS: &[u32] = &[1, 2, 3, 4, 5, 6, 7, 8, 9, 10];
 /// What a column of a host of a row shows.
 pub(crate) fn host_value<'a>(
     row: u32,
-    hosts: &Keyed<[u8; 6], HostCounts>,
+    table: &HostTable,
     address: &'a [u8; 6],
     column: u32,
 ) -> Value<'a>
     requires { row ≤ 65535 }
-    ensures value { val_of result ≡ kept_value row hosts.now.rows.rows address.now column }
+    ensures value { val_of result ≡ kept_value row table.now address.now column }
     ensures spelling { HasSpelling (val_of result) }
 {
+    let hosts = &table.keyed;
     match column {
         1 => Value::Octets(address.as_slice()),
         2 => Value::Int(rank_of(hosts, address) as i32),

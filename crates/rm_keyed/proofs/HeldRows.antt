@@ -17,14 +17,14 @@ use Rattle.rm_rows.specs.Table.{row_of, value_of, key_of, key_at, order_of}
 use Rattle.rm_keyed.specs.Held.{value_held, rank_held, key_of_rank}
 
 module _ {X : Type 0} (test : X → Bool) where
-  find_none : (xs : List X) → find test xs ≡ None → list_any test xs ≡ false
+  pub find_none : (xs : List X) → find test xs ≡ None → list_any test xs ≡ false
   find_none [] e = refl
   find_none (x ∷ xs) e = elim (cases_Bool (test x)) [
     | inl y ↦ let f : Some x ≡ None = rw y at e in cc
     | inr n ↦ rw n (find_none xs (rw n at e))
   ]
 
-  find_passing : (xs : List X) (x : X) → find test xs ≡ Some x → (list_any test xs ≡ true) × (test x ≡ true)
+  pub find_passing : (xs : List X) (x : X) → find test xs ≡ Some x → (list_any test xs ≡ true) × (test x ≡ true)
   find_passing [] x e = let f : None ≡ Some x = e in cc
   find_passing (y ∷ xs) x e = elim (cases_Bool (test y)) [
     | inl t ↦ let f : Some y ≡ Some x = rw t at e in let same : y ≡ x = cc in (rw t refl, subst (λ z. test z ≡ true) same t)
@@ -49,12 +49,12 @@ module _ {X : Type 0} (test : X → Bool) where
       (n, rw (lt-ltb n (length xs) (slice_get_within xs n x at)) refl, at)
 
 module _ {K : Type 0} (eq : K → K → Bool) (exact : IsExact eq) (test : K → Bool) where
-  find_nowhere : (xs : List K) → ((x : K) → list_any (eq x) xs ≡ true → test x ≡ false) → find test xs ≡ None
+  pub find_nowhere : (xs : List K) → ((x : K) → list_any (eq x) xs ≡ true → test x ≡ false) → find test xs ≡ None
   find_nowhere [] fails = refl
   find_nowhere (x ∷ xs) fails =
       rw (fails x (rw (exact.itself x) refl)) (find_nowhere xs (λ y i. fails y (elim (cases_Bool (eq y x)) [ inl e ↦ rw e refl | inr e ↦ rw (e, i) refl ])))
 
-  find_only : (xs : List K) (x : K) → list_any (eq x) xs ≡ true → test x ≡ true → ((y : K) → list_any (eq y) xs ≡ true → test y ≡ true → y ≡ x) → find test xs ≡ Some x
+  pub find_only : (xs : List K) (x : K) → list_any (eq x) xs ≡ true → test x ≡ true → ((y : K) → list_any (eq y) xs ≡ true → test y ≡ true → y ≡ x) → find test xs ≡ Some x
   find_only [] x i passes only = absurd (true≢false (sym i))
   find_only (y ∷ xs) x i passes only = elim (cases_Bool (test y)) [
     | inl t ↦ rw t (ap Some (only y (rw (exact.itself y) refl) t))

@@ -1,5 +1,6 @@
 -- Keys in the order of their indexes.
-use Rattle.std.proofs.Common.{◌≡◌, ℕ, zero, suc, ◌+◌, ◌<◌, ◌≤◌, List, [], ◌∷◌, length, drop, slice_index, Bool, true, false, Option, Some, None, IfNone, Contains, ◌⊎◌, inl, inr, refl, sym, ap, ◌∙◌, subst, arith}
+use Rattle.std.proofs.Common.{◌≡◌, ℕ, zero, suc, ◌+◌, ◌<◌, ◌≤◌, List, [], ◌∷◌, length, drop, slice_index, Bool, true, false, Option, Some, None, Contains, ◌⊎◌, inl, inr, refl, sym, ap, ◌∙◌, subst, arith}
+use Rattle.std.specs.Prelude.{is_some}
 use Rattle.std.specs.List.{AllByRecursion}
 use Rattle.std.specs.Str.{bytes_eq}
 use Rattle.std.specs.Ordering.{nat_cmp, ordering_reverse, ordering_then, is_gt, is_ge, is_eq}
@@ -15,9 +16,8 @@ use Rattle.std.proofs.lemmas.Slice.Eq.{bytes_eq-Decides}
 use Rattle.std.proofs.lemmas.List.Elements.{recursion_from_All}
 use Rattle.rm_model.specs.Names.{Below, IsLeastAbove}
 use Rattle.rm_evicting.specs.declared.Row.{Row}
-use Rattle.rm_evicting.specs.Row.{holds}
 use Rattle.rm_rows.specs.Table.{PassesUpward, IsFirstPassing, keys_of}
-use Rattle.rm_keyed.specs.Indexes.{is_index_of}
+use Rattle.rm_keyed.specs.Indexes.{key_with, is_index_of}
 
 abbrev by_number : List ℕ → List ℕ → Ordering
 by_number xs ys = slice_cmp nat_cmp xs ys
@@ -81,15 +81,6 @@ module _ {K V : Type 0} (index : K → List ℕ) where
     | inr other ↦ rw other (is_index key rows (place, omega (arith, lt), e))
   ]
 
--- a key that has a row is held
-pub has_row : {K V : Type 0} (eq : K → K → Bool) → ((key : K) → eq key key ≡ true) → (key : K) (rows : List (Row K V)) → Contains (keys_of rows) key → holds eq key rows ≡ true
-has_row eq same key [] c = absurd (omega (arith, c.1))
-has_row eq same key (row ∷ rows) (zero, lt, e) = rw (subst (λ other. eq key other ≡ true) (sym e) (same key)) refl
-has_row eq same key (row ∷ rows) (suc place, lt, e) = elim (cases_Bool (eq key row.key)) [
-  | inl here ↦ rw here refl
-  | inr other ↦ rw other (has_row eq same key rows (place, omega (arith, lt), e))
-]
-
 module _ {K V : Type 0} (cmp : K → K → Ordering) (order : IsTotalOrder cmp) (exact : (a b : K) → cmp a b ≡ Equal → a ≡ b) (index : K → List ℕ) (rises : (one other : K) → cmp one other ≡ Less → Below (index one) (index other))
     (rows : List (Row K V)) (numbers : List ℕ) where
   -- the lesser index is that of the lesser key
@@ -100,6 +91,27 @@ module _ {K V : Type 0} (cmp : K → K → Ordering) (order : IsTotalOrder cmp) 
       at Less e = e
       at Equal e = absurd (never (index k) (subst (λ key. Below (index key) (index k)) (exact j k e) below))
       at Greater e = absurd (never (index k) (nat_list_cmp_total.trans (index k) (index j) (index k) (rises k j (order.antisymm k j ∙ ap ordering_reverse e)) below))
+
+  -- keys with one index are one
+  one_key : (j k : K) → index j ≡ index k → j ≡ k
+  one_key j k same = at (cmp j k) refl
+    where
+      at : (o : Ordering) → cmp j k ≡ o → j ≡ k
+      at Less e = absurd (never (index k) (subst (λ xs. Below xs (index k)) same (rises j k e)))
+      at Equal e = exact j k e
+      at Greater e = absurd (never (index j) (subst (λ xs. Below xs (index j)) (sym same) (rises k j (order.antisymm k j ∙ ap ordering_reverse e))))
+
+  -- a key that has a row is the one with its index
+  key_among : (key : K) (some : List (Row K V)) → Contains (keys_of some) key → key_with index some (index key) ≡ Some key
+  key_among key [] c = absurd (omega (arith, c.1))
+  key_among key (row ∷ some) (zero, lt, e) = rw ((bytes_eq-Decides (index row.key) (index key)).1 (ap index e)) (ap Some e)
+  key_among key (row ∷ some) (suc place, lt, e) = elim (cases_Bool (bytes_eq (index row.key) (index key))) [
+    | inl same ↦ rw same (ap Some (one_key row.key key ((bytes_eq-Decides (index row.key) (index key)).0 same)))
+    | inr other ↦ rw other (key_among key some (place, omega (arith, lt), e))
+  ]
+
+  pub key_is : (key : K) → Contains (keys_of rows) key → index key ≡ numbers → Some key ≡ key_with index rows numbers
+  key_is key there is = sym (subst (λ xs. key_with index rows xs ≡ Some key) is (key_among key rows there))
 
   abbrev is_over : K → Bool
   is_over key = is_gt (slice_cmp nat_cmp (index key) numbers)
@@ -163,7 +175,7 @@ module _ (xs ys : List ℕ) (place : ℕ) where
     | inr none ↦ rw (drop_all place xs l, drop_all place ys none) (nat_cmp_is place (length ys) Equal (omega arith))
   ]
 
--- what holds anyway holds where there is none
-pub none_anyway : {X P : Type 0} (o : Option X) → P → IfNone o P
-none_anyway None holds = holds
-none_anyway (Some x) holds = tt
+-- there is none where none is found
+pub is_none : {X : Type 0} (o : Option X) → is_some o ≡ false → None ≡ o
+is_none None none = refl
+is_none (Some x) none = absurd (cc)

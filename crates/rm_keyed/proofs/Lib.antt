@@ -5,5 +5,10 @@ pub mod Mentions
 pub mod MentionLaws
 pub mod HeldRows
 pub mod Sums
+pub mod Found
+pub mod Renamed
+pub mod Pairs
 mod IndexLemmas
 pub mod Ranked
+pub mod PartCells
+pub mod TwoLaws

@@ -1,18 +1,27 @@
--- The indexes of rows, by their keys and by their ranks.
-use Rattle.std.specs.Prelude.{ℕ, List, Bool, ◌&&◌, nat_le}
-use Rattle.std.specs.List.{list_any}
+-- The rows by their indexes: by their keys, and by their ranks.
+use Rattle.std.specs.Prelude.{ℕ, List, [], ◌∷◌, Bool, ◌&&◌, nat_le, find, is_some, Option, None}
+use Rattle.std.specs.Option.{option_map}
 use Rattle.std.specs.Str.{bytes_eq}
 use Rattle.rm_evicting.specs.declared.Row.{Row}
-use Rattle.rm_nested.specs.Nested.{is_number}
+use Rattle.rm_rows.specs.Table.{key_of, key_at}
 
--- whether the key of some row has these numbers for its index
-abbrev pub is_index_of : {K V : Type 0} → (K → List ℕ) → List (Row K V) → List ℕ → Bool
-is_index_of index rows numbers = list_any (λ row. bytes_eq (index row.key) numbers) rows
+module _ {K V : Type 0} where
+  -- the key of the row that has these numbers for its index, if there is one
+  abbrev pub key_with : (K → List ℕ) → List (Row K V) → List ℕ → Option K
+  key_with index rows numbers = option_map key_of (find (λ row. bytes_eq (index row.key) numbers) rows)
+
+  abbrev pub is_index_of : (K → List ℕ) → List (Row K V) → List ℕ → Bool
+  is_index_of index rows numbers = is_some (key_with index rows numbers)
+
+  -- the key of the row that has a number for its rank, where these numbers are one that is a rank
+  abbrev pub key_ranked : List (Row K V) → List ℕ → Option K
+  key_ranked rows (rank ∷ []) = key_at rank rows
+  key_ranked rows [] = None
+  key_ranked rows (rank ∷ next ∷ more) = None
+
+  abbrev pub is_rank_of : List (Row K V) → List ℕ → Bool
+  is_rank_of rows numbers = is_some (key_ranked rows numbers)
 
 -- whether a number is the rank of one of so many rows
 abbrev pub is_rank : (rows rank : ℕ) → Bool
 is_rank rows rank = nat_le 1 rank && nat_le rank rows
-
--- and whether numbers are that alone
-abbrev pub is_rank_of : (rows : ℕ) → List ℕ → Bool
-is_rank_of rows numbers = is_number (is_rank rows) numbers

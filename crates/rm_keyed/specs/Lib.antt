@@ -3,4 +3,7 @@ pub mod Mentions
 pub mod Held
 pub mod Indexes
 pub mod PairLaws
+pub mod Addresses
+pub mod Uncounted
 pub mod TwoTables
+pub mod PartRows

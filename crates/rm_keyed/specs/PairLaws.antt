@@ -32,11 +32,18 @@ pub pair_rises : (first other second more : List ℕ) → length first ≡ 6 →
     → Below (6 ∷ (first ++ 6 ∷ second)) (6 ∷ (other ++ 6 ∷ more))
 pair_rises first other second more six sixth less = joined first other (6 ∷ second) (6 ∷ more) (six ∙ sym sixth) ∙ less
 
+-- pairs of the same lists are the same, whatever shows that they have six octets
+pub same_pair : {P : Type 0} (pair : (first second : List ℕ) → length first ≡ 6 → length second ≡ 6 → P) (first other second more : List ℕ)
+    (six : length first ≡ 6) (sixth : length other ≡ 6) (seven : length second ≡ 6) (seventh : length more ≡ 6) → first ≡ other → second ≡ more → pair first second six seven ≡ pair other more sixth seventh
+same_pair pair first other second more six sixth seven seventh firsts seconds =
+    subst (λ xs. (is : length xs ≡ 6) → pair first second six seven ≡ pair xs more is seventh) firsts
+    (λ is. subst (λ ys. (has : length ys ≡ 6) → pair first second six seven ≡ pair first ys is has) seconds
+    (λ has i. pair first second (ℕ_set (length first) 6 six is i) (ℕ_set (length second) 6 seven has i)) seventh) sixth
+
 -- pairs that compare as equal are the same
-pub pair_exact : {P : Type 0} (pair : (first second : List ℕ) → length first ≡ 6 → P) (first other second more : List ℕ) (six : length first ≡ 6) (sixth : length other ≡ 6)
-    → ordering_then (slice_cmp nat_cmp first other) (slice_cmp nat_cmp second more) ≡ Equal → pair first second six ≡ pair other more sixth
-pair_exact pair first other second more six sixth e =
+pub pair_exact : {P : Type 0} (pair : (first second : List ℕ) → length first ≡ 6 → length second ≡ 6 → P) (first other second more : List ℕ)
+    (six : length first ≡ 6) (sixth : length other ≡ 6) (seven : length second ≡ 6) (seventh : length more ≡ 6)
+    → ordering_then (slice_cmp nat_cmp first other) (slice_cmp nat_cmp second more) ≡ Equal → pair first second six seven ≡ pair other more sixth seventh
+pair_exact pair first other second more six sixth seven seventh e =
     let both = both_equal (slice_cmp nat_cmp first other) (slice_cmp nat_cmp second more) e in
-    let seconds = exact_bytes second more both.1 in
-    subst (λ xs. (is : length xs ≡ 6) → pair first second six ≡ pair xs more is) (exact_bytes first other both.0)
-    (λ is i. pair first (seconds i) (ℕ_set (length first) 6 six is i)) sixth
+    same_pair pair first other second more six sixth seven seventh (exact_bytes first other both.0) (exact_bytes second more both.1)

@@ -13,11 +13,33 @@ pub struct AddressPair {
     pub first: [u8; 6],
     /// The second.
     pub second: [u8; 6],
-    ghost six: { length first ≡ 6 },
+    ghost first_six: { length first ≡ 6 },
+    ghost second_six: { length second ≡ 6 },
+}
+
+impl AddressPair {
+    ghost use Rattle.rm_keyed.specs.Addresses.{address_pair, reversed};
+
+    /// A pair of these addresses.
+    pub fn new(first: [u8; 6], second: [u8; 6]) -> AddressPair
+        ensures { result ≡ address_pair first second }
+    {
+        AddressPair { first, second }
+    }
+
+    /// The same addresses, the second first.
+    pub fn reversed(&self) -> AddressPair
+        ensures { result ≡ reversed self.now }
+    {
+        AddressPair {
+            first: self.second,
+            second: self.first,
+        }
+    }
 }
 
 impl Key for AddressPair {
-    ghost exact = { λ a b same. pair_exact (λ first second six. record { first = first; second = second; six = six }) a.first b.first a.second b.second a.six b.six same };
+    ghost exact = { λ a b same. pair_exact (λ first second first_six second_six. record { first = first; second = second; first_six = first_six; second_six = second_six }) a.first b.first a.second b.second a.first_six b.first_six a.second_six b.second_six same };
 }
 
 /// The first address, counted, and then the second.
@@ -38,7 +60,7 @@ impl Indexed for AddressPair {
         }
     }
 
-    ghost rises = { λ one other less. pair_rises one.first other.first one.second other.second one.six other.six less };
+    ghost rises = { λ one other less. pair_rises one.first other.first one.second other.second one.first_six other.first_six less };
 
     ghost short = { Prim.search rules };
 }

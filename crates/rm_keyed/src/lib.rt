@@ -7,14 +7,18 @@ mod counts;
 mod held;
 mod indexed;
 mod keyed;
+mod part_rows;
 #[cfg(test)]
 mod tests;
 mod two_tables;
+mod uncounted;
 mod walk;
 
 pub use address_pair::AddressPair;
 pub use counts::Counts;
 pub use indexed::{Indexed, compare_index, index_of};
 pub use keyed::{Keyed, MOST_ROWS};
-pub use two_tables::{cell_of_all, next_of_all};
-pub use walk::{key_above, key_at, rank_above};
+pub use part_rows::{KeyTable, PartRows};
+pub use two_tables::{cell_of_two, judge_two, next_of_two};
+pub use uncounted::Uncounted;
+pub use walk::{key_above, key_at, key_ranked, rank_above};

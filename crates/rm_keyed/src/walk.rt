@@ -1,9 +1,9 @@
 // Walks of the rows by their indexes.
-ghost use Rattle.std.specs.Prelude.{◌≡◌, ◌≤◌, length, drop, true, false, IfSome, IfNone};
+ghost use Rattle.std.specs.Prelude.{◌≡◌, ◌≤◌, length, drop, IfSome};
+ghost use Rattle.std.specs.Option.{option_copied};
 ghost use Rattle.rm_model.specs.Names.{IsLeastAbove};
 ghost use Rattle.rm_model.specs.Numbers.{IsNumberAbove};
-ghost use Rattle.rm_evicting.specs.Row.{holds};
-ghost use Rattle.rm_keyed.specs.Indexes.{is_index_of, is_rank, is_rank_of};
+ghost use Rattle.rm_keyed.specs.Indexes.{key_with, is_index_of, key_ranked, is_rank, is_rank_of};
 
 use crate::above::{FromIndex, OverIndex};
 use crate::counts::Counts;
@@ -31,9 +31,7 @@ pub fn key_at<'a, K: Indexed, V: Blank>(
     numbers: &Oid,
     from: usize,
 ) -> Option<&'a K>
-    ensures index { IfSome result (λ key. K.index key.now ≡ drop from numbers.now) }
-    ensures held { IfSome result (λ key. holds K.eq key.now rows.now.rows ≡ true) }
-    ensures none { IfNone result (is_index_of K.index rows.now.rows (drop from numbers.now) ≡ false) }
+    ensures { option_copied result ≡ key_with K.index rows.now.rows (drop from numbers.now) }
 {
     let key = rows.first(&FromIndex { numbers, from })?;
     if compare_index(key, numbers, from).is_eq() {
@@ -45,11 +43,26 @@ pub fn key_at<'a, K: Indexed, V: Blank>(
 
 /// The least rank of a row above the first of some numbers, as an index. None where there is none.
 pub fn rank_above<K: Key, V: Counts>(keyed: &Keyed<K, V>, numbers: &Oid) -> Option<Oid>
-    ensures least { IsLeastAbove (is_rank_of (length keyed.now.rows.rows)) numbers.now result }
+    ensures least { IsLeastAbove (is_rank_of keyed.now.rows.rows) numbers.now result }
     ensures fits { IfSome result (λ index. length index ≤ 1) }
 {
     let rows = keyed.rows().len() as u32;
     one_number_above(numbers, rank_after(rows, first_number(numbers)))
+}
+
+/// The key of the row whose rank is the one number of a name from a place on. None where there is none.
+pub fn key_ranked<'a, K: Key, V: Blank>(
+    rows: &'a Rows<K, V>,
+    numbers: &Oid,
+    from: usize,
+) -> Option<&'a K>
+    ensures { option_copied result ≡ key_ranked rows.now.rows (drop from numbers.now) }
+{
+    if numbers.len().saturating_sub(from) == 1 {
+        rows.made(numbers.at(from) as usize)
+    } else {
+        None
+    }
 }
 
 // The least rank above a number, where there are so many rows.

@@ -51,7 +51,7 @@ fn two_rows(alloc: Global) -> Result<History, Fail>
     ensures frames { IfOk result (λ history. frames_given history ≡ 0) }
     ensures stocked { IfOk result (λ history. IsStocked history) }
 {
-    let mut history = History::new();
+    let mut history = History::new(());
     history.reserve(alloc)?;
     let set = [
         number(REQUESTED, 1, 2),

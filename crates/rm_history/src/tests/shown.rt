@@ -1,16 +1,18 @@
 // What is shown was worked out by hand from RFC 1757, section 5.
 ghost use Rattle.std.specs.Prelude.{◌≤◌};
-ghost use Rattle.rm_history.specs.ControlColumns.{AreInRange, AreAllInRange};
+ghost use Rattle.rm_collect.specs.WellHeld.{AreAllInRange};
+ghost use Rattle.rm_history.specs.ControlColumns.{AreInRange};
+ghost use Rattle.rm_history.specs.Collection.{history_collection};
 
-use crate::control_cell::BucketsGranted;
 use crate::control_columns::ControlColumns;
 use crate::plan::Plan;
 use crate::run::Run;
+use rm_collect::Collected;
 use rm_columns::ControlRow;
 use rm_model::State;
 use rm_nested::NumberedPart;
-use rm_pool::Part;
-use rm_status::Controls;
+use rm_pool::{Part, Pool};
+use rm_status::{Controls, OtherColumns, Row};
 use rm_val::{Oid, Value};
 use std::process::Abort;
 use std::test::Fail;
@@ -65,7 +67,7 @@ const NUMBERS: [(u32, [i32; 3]); 5] = [
 #[test]
 fn the_last_complete_buckets_are_shown(rt: HostRuntime) -> Result<(), Fail> {
     let mut run = Run::spare(rt.alloc())?;
-    run.begin(1, PLAN);
+    run.restart(1, PLAN);
     for (bucket, now, shown) in SHOWN {
         assert_eq!(rt; run.shows(bucket, now), shown, "{bucket} {now}");
     }
@@ -90,14 +92,32 @@ fn columns_of(requested: u16, interval: u16) -> ControlColumns
 }
 
 // The rows 7 and 65535, which are valid, and row 300 under creation.
+#[tactic(auto, unfolding(crate::specs::Collection::history_collection))]
 fn three_rows() -> Controls<ControlColumns>
-    ensures { AreAllInRange result }
+    ensures { AreAllInRange history_collection result }
 {
     let mut rows = Controls::new();
     rows.insert(7, State::Valid, columns_of(2, 10));
     rows.insert(300, State::UnderCreation, columns_of(50, 1800));
     rows.insert(65_535, State::Valid, columns_of(65_535, 3600));
     rows
+}
+
+// What the histories show in historyControl.
+#[derive(Drop)]
+struct Others {
+    runs: Pool<Run>,
+}
+
+#[tactic(auto, unfolding(crate::specs::Collection::history_collection))]
+impl OtherColumns<ControlColumns> for Others {
+    ghost use Rattle.rm_history.specs.Shown.{kept_other};
+
+    ghost others = { λ s rows. kept_other rows };
+
+    fn other(&self, index: u32, row: &Row<ControlColumns>, column: u32) -> Value<'static> {
+        Run::other(&self.runs, index, row, column)
+    }
 }
 
 // The name of a column of a row of historyControl.
@@ -108,29 +128,29 @@ fn control_name(column: u32, row: u32) -> Result<Oid, Fail> {
 #[test]
 fn columns_of_the_control_table(rt: HostRuntime) -> Result<(), Fail> {
     let rows = three_rows();
+    let others = Others { runs: Pool::new() };
     for (column, numbers) in NUMBERS {
         for (row, expected) in [7, 300, 65_535].into_iter().zip(numbers) {
-            match rows.cell(&BucketsGranted, &control_name(column, row)?) {
+            match rows.cell(&others, &control_name(column, row)?) {
                 Some(Value::Int(number)) => assert_eq!(rt; number, expected, "{column} {row}"),
                 _ => assert!(rt; false, "{column} {row}"),
             }
         }
     }
-    match rows.cell(&BucketsGranted, &control_name(2, 7)?) {
+    match rows.cell(&others, &control_name(2, 7)?) {
         Some(Value::Name(source)) => {
             let interface = Oid::from_slice(&[1, 3, 6, 1, 2, 1, 2, 2, 1, 1, 1])?;
             assert!(rt; source.compare(&interface).is_eq());
         }
         _ => assert!(rt; false),
     }
-    match rows.cell(&BucketsGranted, &control_name(6, 7)?) {
+    match rows.cell(&others, &control_name(6, 7)?) {
         Some(Value::Octets(owner)) => assert_eq!(rt; owner.len(), 0),
         _ => assert!(rt; false),
     }
     for (column, row) in [(0, 7), (8, 7), (1, 0), (1, 8)] {
         assert!(rt;
-            rows.cell(&BucketsGranted, &control_name(column, row)?)
-                .is_none(),
+            rows.cell(&others, &control_name(column, row)?).is_none(),
             "{column} {row}"
         );
     }

@@ -75,12 +75,12 @@ struct ByPlan {
 }
 
 impl Begin<Run> for ByPlan {
-    ghost use Rattle.rm_history.specs.Runs.{IsBegun};
+    ghost use Rattle.rm_history.specs.Runs.{Fits};
 
-    ghost begun = { λ s row run. IsBegun 1 s.plan run };
+    ghost begun = { λ s row run. Fits s.plan.start 0 run };
 
     fn begin(&self, _row: u32, run: &mut Run) {
-        run.begin(1, self.plan);
+        run.restart(1, self.plan);
     }
 }
 

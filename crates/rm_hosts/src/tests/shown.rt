@@ -2,8 +2,8 @@
 ghost use Rattle.std.specs.Prelude.{◌≡◌, ◌≤◌, ◌<◌, ◌+◌, IfOk};
 ghost use Rattle.rm_hosts.specs.Group.{IsStocked, frames_given, last_given};
 
-use crate::Hosts;
 use crate::tests::given::{answer, number};
+use crate::{HostRoom, Hosts};
 use rm_group::{Group, MOST_FRAMES};
 use rm_proto::facts;
 use rm_val::{Oid, Value};
@@ -33,8 +33,7 @@ fn pass(hosts: &mut Hosts, moment: u32, source: u8, dest: u8)
     ensures stocked { IsStocked hosts.new }
 {
     let octets = [2, 0, 0, 0, 0, dest, 2, 0, 0, 0, 0, source];
-    let stamp = hosts.next_stamp();
-    hosts.frame(&facts(&octets, 60, false), moment, stamp);
+    hosts.frame(&facts(&octets, 60, false), moment);
 }
 
 // Row 1, with room for two hosts.
@@ -43,7 +42,7 @@ fn one_row(alloc: Global) -> Result<Hosts, Fail>
     ensures frames { IfOk result (λ hosts. frames_given hosts ≡ 0) }
     ensures stocked { IfOk result (λ hosts. IsStocked hosts) }
 {
-    let mut hosts = Hosts::new(2);
+    let mut hosts = Hosts::new(HostRoom { hosts: 2 });
     hosts.reserve(alloc)?;
     let _ = answer(alloc, &mut hosts, &[number(STATUS, 1, 2)], 1000);
     let _ = answer(alloc, &mut hosts, &[number(STATUS, 1, 1)], 2000);

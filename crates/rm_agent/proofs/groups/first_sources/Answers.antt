@@ -1,5 +1,8 @@
+use Rattle.std.proofs.Common.{refl}
+use Rattle.rm_agent.specs.Known.{counting_by}
 use Rattle.rm_agent.proofs.groups.first_sources.Goals as goal
 
 pub returns-clause-stands : goal.returns-clause-stands
-returns-clause-stands c settings one hosts =
-    record { first = c.new.ensures.stands settings one; second = c.first_collectors.ensures.stands settings hosts; tied = tt }
+returns-clause-stands c =
+    let settings = counting_by c.args.settings.now in
+    record { first = c.new.ensures.stands settings refl; second = c.new-2.ensures.stands settings (record { hosts = refl; pairs = refl }); tied = tt }

@@ -1,11 +1,10 @@
-use Rattle.rm_acts.specs.Recurring.{sampling}
-use Rattle.rm_agent.specs.Watched.{watched_cells}
+use Rattle.rm_agent.specs.Known.{counting_by, known_to_groups}
 use Rattle.rm_agent.proofs.groups.first_watched.Goals as goal
 
 pub returns-clause-stands : goal.returns-clause-stands
-returns-clause-stands c given one hosts =
-    let settings = sampling watched_cells given in record {
-      first = c.first_sources.ensures.stands settings one hosts;
+returns-clause-stands c =
+    let settings = counting_by c.args.settings.now in record {
+      first = c.first_sources.ensures.stands;
       second = record { stand = c.new.ensures.stands settings; based = c.new.ensures.based settings };
-      tied = c.reads_cells.ensures given;
+      tied = c.reads_cells.ensures (known_to_groups c.args.settings.now);
     }

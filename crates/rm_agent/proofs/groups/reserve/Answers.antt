@@ -28,4 +28,4 @@ returns-in_err-reserve-clause-stands c settings stands =
 
 pub returns-clause-stands : goal.returns-clause-stands
 returns-clause-stands c settings stands =
-    with_storage stands (c.reserve.ensures.stands settings [] stands.second.first) (c.reserve_collectors.ensures.stands settings stands.second.second.first.second)
+    with_storage stands (c.reserve.ensures.stands settings [] stands.second.first) (c.reserve-2.ensures.stands settings [] stands.second.second.first.second)

@@ -1,12 +1,8 @@
-use Rattle.std.proofs.Common.{◌≡◌, ℕ, ◌+◌, ◌-◌, ◌*◌, ◌<◌, ◌≤◌, ◌&&◌, true, nat_le, nat_lt, arith}
-use Rattle.std.proofs.lemmas.Bool.Decides.{nat_tests}
+use Rattle.std.proofs.Common.{ℕ, ◌-◌, ◌*◌, ◌<◌, ◌≤◌, arith}
 use Rattle.std.proofs.Math.Nat.{div-mul-le_self, mul-le-mul_left}
 use Rattle.rm_history.specs.Buckets.{length_of, complete_at}
+use Rattle.rm_history.specs.BucketLaws.{shown_tells}
 use Rattle.rm_history.proofs.samples.SamplesNumberedCells.show.Goals as goal
-
--- a bucket that is shown is complete
-reached : (bucket complete kept : ℕ) → (nat_le 1 bucket && (nat_le bucket complete && nat_lt complete (bucket + kept))) ≡ true → bucket ≤ complete
-reached bucket complete kept h = grind (arith, nat_tests)
 
 -- few are, as each lasts a second at least
 few : (bucket complete whole time : ℕ) → bucket ≤ complete → complete * 1000 ≤ whole → whole ≤ time → time < 4294967296 → bucket < 2147483648
@@ -20,5 +16,5 @@ value_of-requires-clause-bucket c =
     let time = c.args._now - plan.start in
     let complete = complete_at plan c.args._now in
     let second : 1000 ≤ length_of plan = omega (arith, some) in
-    few c.args.bucket complete (complete * length_of plan) time (reached c.args.bucket complete plan.kept c.requires.shown)
+    few c.args.bucket complete (complete * length_of plan) time (shown_tells plan c.args._now c.args.bucket c.requires.shown).1
     (mul-le-mul_left complete second) (div-mul-le_self time (length_of plan)) (omega (arith, fits))

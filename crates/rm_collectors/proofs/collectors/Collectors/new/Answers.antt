@@ -1,0 +1,13 @@
+use Rattle.rm_history.specs.Collection.{history_collection}
+use Rattle.rm_hosts.specs.Group.{host_collection}
+use Rattle.rm_matrix.specs.Group.{matrix_collection}
+use Rattle.rm_collectors.specs.Group.{Stands}
+use Rattle.rm_collectors.proofs.collectors.Collectors.new.Goals as goal
+
+pub returns-clause-stands : goal.returns-clause-stands
+unfolding Stands history_collection host_collection matrix_collection
+returns-clause-stands c counting set = record {
+  first = c.new.ensures.stands counting tt;
+  second = record { first = c.new-hosts.ensures.stands counting set.hosts; second = c.new-matrix.ensures.stands counting set.pairs; tied = tt };
+  tied = tt;
+}

@@ -1,0 +1,109 @@
+-- The control tables whose valid rows collect, as one group: the history, the hosts and the matrix. Where more than one had a variable of
+-- a name, or found something wrong with a binding, the first one's would count.
+use Rattle.std.specs.Prelude.{◌≡◌, ◌||◌, ◌⊎◌, ℕ, List, Bool, max, Option}
+use Rattle.std.specs.Option.{option_or}
+use Rattle.rm_val.specs.Val.{Val}
+use Rattle.rm_val.specs.declared.error.ErrorStatus.{ErrorStatus}
+use Rattle.rm_model.specs.Counting.{Counting}
+use Rattle.rm_model.specs.Journal.{Journal}
+use Rattle.rm_model.specs.Cells.{Cells}
+use Rattle.rm_model.specs.ControlRows.{no_rows}
+use Rattle.rm_model.specs.Judgement.{Bindings, second_pass, rows_after}
+use Rattle.rm_model.specs.Reserves.{Reserves}
+use Rattle.rm_group.specs.Both.{StandAsOne}
+use Rattle.rm_group.specs.Listed.{is_listed, is_settable}
+use Rattle.rm_settings.specs.declared.settings.Settings.{Settings}
+use Rattle.rm_collect.specs.Collection.{alone, kept}
+use Rattle.rm_collect.specs.Group.{Stands as HeldStands, IsStocked as IsHeldStocked, IsReleased, AreFine as AreHeldFine, IsPrepared, frames_given as frames_of, last_given as last_of}
+use Rattle.rm_history.specs.ControlColumns.{control_rows as history_rows}
+use Rattle.rm_history.specs.Collection.{history_collection}
+use Rattle.rm_hosts.specs.ControlColumns.{control_rows as host_rows}
+use Rattle.rm_hosts.specs.Group.{host_collection}
+use Rattle.rm_matrix.specs.ControlColumns.{control_rows as matrix_rows}
+use Rattle.rm_matrix.specs.Group.{matrix_collection}
+use Rattle.rm_collectors.specs.declared.collectors.Collectors.{Collectors}
+
+-- what the probe is set to, as the tables need it
+pub record IsSetTo (settings : Settings) (counting : Counting) : Type 0 where
+  pub hosts : counting.hosts ≡ settings.hosts
+  pub pairs : counting.pairs ≡ settings.pairs
+
+-- It stands for a journal where each of the three does.
+unfoldable pub Stands : Collectors → Counting → Journal → Type 0
+Stands held settings journal =
+    StandAsOne (HeldStands history_rows history_collection held.groups.first settings journal)
+    (StandAsOne (HeldStands host_rows host_collection held.groups.second.first settings journal)
+    (HeldStands matrix_rows matrix_collection held.groups.second.second settings journal) (Unit {0}))
+    (Unit {0})
+
+-- how many frames it was given, and the moment of the frame or the Set that it was given last, 0 before the first
+abbrev pub frames_given : Collectors → ℕ
+frames_given held = max (frames_of held.groups.first) (max (frames_of held.groups.second.first) (frames_of held.groups.second.second))
+
+abbrev pub last_given : Collectors → ℕ
+last_given held = max (last_of held.groups.first) (max (last_of held.groups.second.first) (last_of held.groups.second.second))
+
+-- there is the storage of one row of each control table, whether it is spare or not
+abbrev pub IsStocked : Collectors → Type 0
+IsStocked held =
+    IsHeldStocked held.groups.first × (IsHeldStocked held.groups.second.first × IsHeldStocked held.groups.second.second)
+
+-- the cells of all tables
+unfoldable pub collected_cells : Counting → Journal → (now : ℕ) → Cells
+collected_cells settings journal now name =
+    option_or (history_collection.cells settings journal now name)
+    (option_or (host_collection.cells settings journal now name) (matrix_collection.cells settings journal now name))
+
+-- what all tables show at a moment, by what is held
+abbrev pub shown : Collectors → (now : ℕ) → Cells
+shown held now name =
+    option_or (kept history_rows history_collection held.groups.first.rows held.groups.first.parts now name)
+    (option_or (kept host_rows host_collection held.groups.second.first.rows held.groups.second.first.parts now name)
+    (kept matrix_rows matrix_collection held.groups.second.second.rows held.groups.second.second.parts now name))
+
+-- whether a name begins with the identifier of an object of one of the tables, and whether that can be set
+unfoldable pub collected_objects : List ℕ → Bool
+collected_objects name =
+    is_listed history_collection.tables name || (is_listed host_collection.tables name || is_listed matrix_collection.tables name)
+
+unfoldable pub collected_settable : List ℕ → Bool
+collected_settable name =
+    is_settable history_rows.table name || (is_settable host_rows.table name || is_settable matrix_rows.table name)
+
+-- what is wrong with a binding alone
+unfoldable pub collected_alone : List ℕ → Val → Option ErrorStatus
+collected_alone name value =
+    option_or (alone history_rows history_collection name value)
+    (option_or (alone host_rows host_collection name value) (alone matrix_rows matrix_collection name value))
+
+-- what is wrong with the binding at a place together with the others of its row, after a journal
+unfoldable pub collected_together : Journal → Bindings → (place : ℕ) → Option ErrorStatus
+collected_together journal bindings place =
+    option_or (second_pass history_rows.table (rows_after history_rows.table no_rows journal) bindings place)
+    (option_or (second_pass host_rows.table (rows_after host_rows.table no_rows journal) bindings place)
+    (second_pass matrix_rows.table (rows_after matrix_rows.table no_rows journal) bindings place))
+
+-- After a journal there may be no memory for the row that the binding with that number, from 1, makes valid: it isn't the only valid one
+-- of its control table.
+unfoldable pub CollectedReserves : Journal → Bindings → (index : ℕ) → Type 0
+CollectedReserves journal bindings index =
+    Reserves history_rows.table (rows_after history_rows.table no_rows journal) bindings index
+    ⊎ (Reserves host_rows.table (rows_after host_rows.table no_rows journal) bindings index
+    ⊎ Reserves matrix_rows.table (rows_after matrix_rows.table no_rows journal) bindings index)
+
+-- both passes find nothing wrong with a Set, by the rows that are held; there is storage for each row that is valid after it, too; there
+-- is storage for the valid rows only, or for one row of each table where none is valid
+abbrev pub AreFine : Collectors → Bindings → Type 0
+AreFine held bindings =
+    AreHeldFine history_rows history_collection held.groups.first bindings
+    × (AreHeldFine host_rows host_collection held.groups.second.first bindings × AreHeldFine matrix_rows matrix_collection held.groups.second.second bindings)
+
+abbrev pub ArePrepared : Collectors → Bindings → Type 0
+ArePrepared held bindings =
+    IsPrepared history_rows history_collection held.groups.first bindings
+    × (IsPrepared host_rows host_collection held.groups.second.first bindings × IsPrepared matrix_rows matrix_collection held.groups.second.second bindings)
+
+abbrev pub AreReleased : Collectors → Type 0
+AreReleased held =
+    IsReleased history_rows held.groups.first
+    × (IsReleased host_rows held.groups.second.first × IsReleased matrix_rows held.groups.second.second)

@@ -1,0 +1,61 @@
+// The control tables whose valid rows collect.
+ghost use Rattle.std.specs.Prelude.{◌≡◌, [], OnOk};
+ghost use Rattle.rm_model.specs.Counting.{Counting};
+ghost use Rattle.rm_model.specs.Journal.{Journal};
+ghost use Rattle.rm_collectors.specs.Group.{Stands, IsStocked, IsSetTo, frames_given, last_given};
+
+use rm_group::Both;
+use rm_history::History;
+use rm_hosts::{HostRoom, Hosts};
+use rm_matrix::{Matrix, MatrixRoom};
+use rm_settings::Settings;
+use rm_val::NoMemory;
+use std::alloc::Global;
+
+/// The history, the hosts and the matrix.
+pub(crate) type Groups = Both<History, Both<Hosts, Matrix>>;
+
+/// The control tables whose valid rows collect what frames bring, with what they have collected: those of the history, of the hosts and
+/// of the matrix (RFC 1757, section 4).
+#[derive(Drop)]
+pub struct Collectors {
+    pub(crate) groups: Groups,
+}
+
+impl Collectors {
+    /// The tables of a probe that is set so, before the first frame. They have no row, and no storage.
+    pub fn new(settings: &Settings) -> Collectors
+        ensures stands { (counting : Counting) → IsSetTo settings.now counting → Stands result counting [] }
+        ensures last { last_given result ≡ 0 }
+        ensures frames { frames_given result ≡ 0 }
+    {
+        let hosts = Hosts::new(HostRoom {
+            hosts: settings.hosts,
+        });
+        let matrix = Matrix::new(MatrixRoom {
+            pairs: settings.pairs,
+        });
+        Collectors {
+            groups: Both {
+                first: History::new(()),
+                second: Both {
+                    first: hosts,
+                    second: matrix,
+                },
+            },
+        }
+    }
+
+    /// Takes the storage of one row of each table, which is needed before the first Set. No variable changes. NoMemory where there is
+    /// none.
+    pub fn reserve(&mut self, alloc: Global) -> Result<(), NoMemory>
+        ensures stands { (settings : Counting) (journal : Journal) → Stands self.old settings journal → Stands self.new settings journal }
+        ensures stocked { OnOk result (IsStocked self.new) }
+        ensures last { last_given self.new ≡ last_given self.old }
+        ensures frames { frames_given self.new ≡ frames_given self.old }
+    {
+        self.groups.first.reserve(alloc)?;
+        self.groups.second.first.reserve(alloc)?;
+        self.groups.second.second.reserve(alloc)
+    }
+}

@@ -1,0 +1,9 @@
+//! The control tables whose valid rows collect what frames bring, as one group of objects: the history, the hosts and the matrix.
+#![tactic(auto)]
+
+mod collectors;
+mod group;
+#[cfg(test)]
+mod tests;
+
+pub use collectors::Collectors;

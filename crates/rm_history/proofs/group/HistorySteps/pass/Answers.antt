@@ -1,5 +1,0 @@
-use Rattle.std.proofs.Common.{sym}
-use Rattle.rm_history.proofs.group.HistorySteps.pass.Goals as goal
-
-pub returns-clause-begins : goal.returns-clause-begins
-returns-clause-begins c settings earlier frame is stands later = c.frame.ensures.stands settings earlier frame stands is.known (sym is.at)

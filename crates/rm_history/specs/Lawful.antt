@@ -1,0 +1,32 @@
+-- What holds of the histories that the valid rows of historyControl collect.
+use Rattle.std.specs.Prelude.{[], ◌∷◌, refl}
+use Rattle.rm_model.specs.Cells.{cells_of}
+use Rattle.rm_group.specs.Listed.{of_table, with_table, beside_listed}
+use Rattle.rm_collect.specs.Collection.{IsLawful}
+use Rattle.rm_history.specs.Columns.{control_columns}
+use Rattle.rm_history.specs.HistoryControl.{history_control, control_table}
+use Rattle.rm_history.specs.EtherHistory.{sample_listed, sample_table}
+use Rattle.rm_history.specs.ControlColumns.{control_rows}
+use Rattle.rm_history.specs.Finite.{history_finite}
+use Rattle.rm_history.specs.RangeLaws.{blank_in_range, put_in_range}
+use Rattle.rm_history.specs.RunLaws.{fits_later, fits_counted, run_taken, run_going}
+use Rattle.rm_history.specs.SameCells.{same_cells}
+use Rattle.rm_history.specs.Collection.{history_collection}
+
+pub history_lawful : IsLawful control_rows history_collection
+unfolding history_collection
+history_lawful = record {
+  blank_in_range = λ index. blank_in_range;
+  put_in_range = put_in_range;
+  fits_later = fits_later;
+  fits_taken = fits_counted;
+  is_of_taken = run_taken;
+  is_of_going = run_going;
+  same = same_cells;
+  recurring = λ settings one other journal alike now name. refl;
+  finite = history_finite;
+  by_number = refl;
+  unsampled = refl;
+  shows_listed = λ settings journal now. with_table (control_table journal) (sample_listed ∷ []) (cells_of (sample_table settings journal now)) (of_table (sample_table settings journal now));
+  refuses_listed = beside_listed history_control control_columns sample_listed;
+}

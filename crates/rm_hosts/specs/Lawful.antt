@@ -1,0 +1,33 @@
+-- The laws of what the rows of hostControl collect.
+use Rattle.std.proofs.Common.{refl}
+use Rattle.rm_keyed.proofs.TwoLaws.{all_listed, beside_two}
+use Rattle.rm_collect.specs.Collection.{IsLawful}
+use Rattle.rm_hosts.specs.Columns.{control_columns}
+use Rattle.rm_hosts.specs.Control.{host_control}
+use Rattle.rm_hosts.specs.ControlColumns.{control_rows}
+use Rattle.rm_hosts.specs.HostControl.{control_table}
+use Rattle.rm_hosts.specs.Host.{host_listed, host_table}
+use Rattle.rm_hosts.specs.HostTime.{time_listed, time_table}
+use Rattle.rm_hosts.specs.Finite.{all_finite}
+use Rattle.rm_hosts.specs.Group.{host_collection}
+use Rattle.rm_hosts.specs.Fitting.{ready_later, ready_again}
+use Rattle.rm_hosts.specs.Frames.{one_frame, goes_on}
+use Rattle.rm_hosts.specs.SameCells.{same_cells}
+
+pub host_lawful : IsLawful control_rows host_collection
+unfolding host_collection
+host_lawful = record {
+  blank_in_range = λ index. tt;
+  put_in_range = λ columns column value takes in_range. tt;
+  fits_later = λ last now frames table. ready_later last now frames table;
+  fits_taken = ready_again;
+  is_of_taken = λ settings journal row frame table new valid ready. one_frame settings journal row frame table new valid;
+  is_of_going = goes_on;
+  same = λ settings journal now rows tables held is are later. same_cells tables settings journal are now rows held is;
+  recurring = λ settings one other journal alike now name. refl;
+  finite = λ settings journal now. all_finite settings journal;
+  by_number = refl;
+  unsampled = refl;
+  shows_listed = λ settings journal now. all_listed (host_table settings journal) (time_table settings journal) (control_table settings journal);
+  refuses_listed = beside_two host_control control_columns host_listed time_listed;
+}

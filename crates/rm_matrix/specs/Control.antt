@@ -1,0 +1,23 @@
+-- The rows of matrixControl (RFC 1757, section 5): each asks for the pairs of hosts of a data source.
+use Rattle.std.specs.Prelude.{ℕ, List, [], ◌∷◌}
+use Rattle.rm_val.specs.Val.{Val}
+use Rattle.rm_model.specs.Journal.{Journal}
+use Rattle.rm_model.specs.ControlTable.{ControlTable, source_column, owner_column, entry_table}
+use Rattle.rm_model.specs.ControlRows.{no_rows, state_of, value_of}
+use Rattle.rm_model.specs.declared.row.State.{State}
+
+-- the identifier of matrixControlEntry
+abbrev pub control_entry : List ℕ
+control_entry = 1 ∷ 3 ∷ 6 ∷ 1 ∷ 2 ∷ 1 ∷ 16 ∷ 6 ∷ 1 ∷ 1 ∷ []
+
+-- the control table
+abbrev pub matrix_control : ControlTable
+matrix_control = entry_table control_entry 6 (source_column 2 ∷ owner_column 5 ∷ [])
+
+-- the state of a row
+abbrev pub control_state : Journal → List ℕ → State
+control_state journal index = state_of matrix_control no_rows journal index
+
+-- the value of a column of a row that can be set: 2 is the data source, 5 the owner
+abbrev pub control_set : Journal → List ℕ → ℕ → Val
+control_set journal index column = value_of matrix_control no_rows journal index column

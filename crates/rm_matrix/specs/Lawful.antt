@@ -1,0 +1,33 @@
+-- The laws of what the rows of matrixControl collect.
+use Rattle.std.proofs.Common.{refl}
+use Rattle.rm_keyed.proofs.TwoLaws.{all_listed, beside_two}
+use Rattle.rm_collect.specs.Collection.{IsLawful}
+use Rattle.rm_matrix.specs.Columns.{control_columns}
+use Rattle.rm_matrix.specs.Control.{matrix_control}
+use Rattle.rm_matrix.specs.ControlColumns.{control_rows}
+use Rattle.rm_matrix.specs.MatrixControl.{control_table}
+use Rattle.rm_matrix.specs.SourceDestination.{source_listed, source_table}
+use Rattle.rm_matrix.specs.DestinationSource.{destination_listed, destination_table}
+use Rattle.rm_matrix.specs.Finite.{all_finite}
+use Rattle.rm_matrix.specs.Group.{matrix_collection}
+use Rattle.rm_matrix.specs.Fitting.{ready_later, ready_again}
+use Rattle.rm_matrix.specs.Frames.{one_frame, goes_on}
+use Rattle.rm_matrix.specs.SameCells.{same_cells}
+
+pub matrix_lawful : IsLawful control_rows matrix_collection
+unfolding matrix_collection
+matrix_lawful = record {
+  blank_in_range = λ index. tt;
+  put_in_range = λ columns column value takes in_range. tt;
+  fits_later = λ last now frames table. ready_later last now frames table;
+  fits_taken = ready_again;
+  is_of_taken = λ settings journal row frame table new valid ready. one_frame settings journal row frame table new valid;
+  is_of_going = goes_on;
+  same = λ settings journal now rows tables held is are later. same_cells tables settings journal are now rows held is;
+  recurring = λ settings one other journal alike now name. refl;
+  finite = λ settings journal now. all_finite settings journal;
+  by_number = refl;
+  unsampled = refl;
+  shows_listed = λ settings journal now. all_listed (source_table settings journal) (destination_table settings journal) (control_table settings journal);
+  refuses_listed = beside_two matrix_control control_columns source_listed destination_listed;
+}

@@ -1,0 +1,68 @@
+// The pairs by their sources and then by their destinations.
+ghost use Rattle.std.specs.Prelude.{◌≡◌, ◌≤◌, refl, drop, IfSome};
+ghost use Rattle.std.specs.Option.{option_map};
+ghost use Rattle.rm_val.specs.Val.{val_of};
+ghost use Rattle.rm_val.specs.Spellable.{HasSpelling};
+ghost use Rattle.rm_matrix.specs.Columns.{pair_columns};
+ghost use Rattle.rm_matrix.specs.SourceDestination.{source_entry};
+ghost use Rattle.rm_matrix.specs.Shown.{kept_value, by_source, no_empty_source};
+ghost use Rattle.std.proofs.Common.{rules};
+
+use crate::matrix_table::MatrixTable;
+use crate::shown::{PAIR_COLUMNS, pair_value};
+use rm_group::TableObjects;
+use rm_keyed::{AddressPair, KeyTable, key_above, key_at};
+use rm_val::{Oid, Value};
+
+/// The objects of matrixSDTable (RFC 1757, section 5).
+pub(crate) const SOURCE_OBJECTS: TableObjects = TableObjects {
+    entry: &[1, 3, 6, 1, 2, 1, 16, 6, 2, 1],
+    columns: PAIR_COLUMNS,
+};
+
+/// The pairs of rows, by their sources and then by their destinations.
+#[derive(Clone, Copy, Drop)]
+pub(crate) struct BySource;
+
+impl KeyTable for BySource {
+    type Part = MatrixTable;
+
+    type Key = AddressPair;
+
+    ghost key_at = { by_source };
+
+    ghost longest = { 14 };
+
+    ghost value_of = { kept_value };
+
+    ghost entry = { source_entry };
+
+    ghost columns = { pair_columns };
+
+    fn objects() -> TableObjects {
+        SOURCE_OBJECTS
+    }
+
+    fn index_above(table: &MatrixTable, index: &Oid) -> Option<Oid> {
+        key_above(table.pairs.rows(), index)
+    }
+
+    fn value<'a>(row: u32, table: &'a MatrixTable, index: &Oid, column: u32) -> Option<Value<'a>>
+        requires { row ≤ 65535 }
+        ensures value { option_map val_of result ≡ option_map (λ pair. kept_value row table.now pair column) (by_source table.now (drop 1 index.now)) }
+        ensures spelling { IfSome result (λ value. HasSpelling (val_of value)) }
+    {
+        let pair = key_at(table.pairs.rows(), index, 1)?;
+        Some(pair_value(row, table, &pair.first, &pair.second, column))
+    }
+
+    ghost not_empty = { no_empty_source };
+
+    ghost short = { Prim.search rules };
+
+    ghost rising = { refl };
+
+    ghost named = { refl };
+
+    ghost fits = { Prim.search rules };
+}

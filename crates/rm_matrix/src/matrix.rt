@@ -1,0 +1,100 @@
+// What the rows of matrixControl collect.
+ghost use Rattle.std.specs.Prelude.{◌≡◌};
+
+use crate::by_destination::{ByDestination, DESTINATION_OBJECTS};
+use crate::by_source::{BySource, SOURCE_OBJECTS};
+use crate::control_cell::other_value;
+use crate::control_columns::{CONTROL_OBJECTS, ControlColumns};
+use crate::counted_frame::CountedFrame;
+use crate::matrix_room::MatrixRoom;
+use crate::matrix_table::MatrixTable;
+use rm_collect::{Collected, Collecting};
+use rm_group::{Assigns, TableObjects};
+use rm_keyed::{PartRows, cell_of_two, judge_two, next_of_two};
+use rm_model::Verdict;
+use rm_pool::Pool;
+use rm_proto::Facts;
+use rm_status::Row;
+use rm_val::{Oid, Value};
+
+/// The pairs of hosts between which frames go: matrixControlTable, matrixSDTable and matrixDSTable (RFC 1757, section 5). A valid row of
+/// matrixControl has the storage of its pairs; other storage may be spare.
+pub type Matrix = Collecting<MatrixTable>;
+
+/// matrixSDTable and matrixDSTable, as they are shown.
+type Sources<'a> = PartRows<'a, BySource>;
+
+type Destinations<'a> = PartRows<'a, ByDestination>;
+
+/// The tables, the control table first.
+const OBJECTS: &[TableObjects] = &[CONTROL_OBJECTS, SOURCE_OBJECTS, DESTINATION_OBJECTS];
+
+#[tactic(auto, unfolding(crate::specs::Group::matrix_collection))]
+impl Collected for MatrixTable {
+    type Columns = ControlColumns;
+
+    type Shared = MatrixRoom;
+
+    ghost use Rattle.rm_matrix.specs.Group.{matrix_collection};
+    ghost use Rattle.rm_matrix.specs.Lawful.{matrix_lawful};
+
+    ghost collection = { matrix_collection };
+
+    fn begin(&mut self, columns: &ControlColumns, room: &MatrixRoom, _now: u32) {
+        self.pairs.begin(room.pairs);
+        self.reverse.begin(room.pairs);
+        self.source = columns.source;
+    }
+
+    // A frame has two stamps, of which its reference has the first.
+    fn pass(tables: &mut Pool<MatrixTable>, facts: &Facts, moment: u32, before: u32) {
+        let stamp = 2 * u64::from(before);
+        tables.change_each(&CountedFrame {
+            facts,
+            moment,
+            stamp,
+        });
+    }
+
+    fn other(
+        parts: &Pool<MatrixTable>,
+        index: u32,
+        _row: &Row<ControlColumns>,
+        column: u32,
+    ) -> Value<'static> {
+        other_value(parts.get(index), column)
+    }
+
+    fn inner_cell<'a>(parts: &'a Pool<MatrixTable>, name: &Oid, now: u32) -> Option<Value<'a>> {
+        cell_of_two(&Sources { parts }, &Destinations { parts }, name, now)
+    }
+
+    fn inner_after<'a>(
+        parts: &'a Pool<MatrixTable>,
+        name: &Oid,
+        now: u32,
+        out: &mut Oid,
+    ) -> Option<Value<'a>> {
+        next_of_two(Sources { parts }, Destinations { parts }, name, now, out)
+    }
+
+    fn inner_least() -> &'static [u32] {
+        SOURCE_OBJECTS.entry
+    }
+
+    fn judge_inner<A: Assigns>(set: &A) -> Verdict {
+        judge_two::<Sources<'_>, Destinations<'_>, A>(set)
+    }
+
+    fn tables() -> &'static [TableObjects] {
+        OBJECTS
+    }
+
+    fn least() -> &'static [u32] {
+        CONTROL_OBJECTS.entry
+    }
+
+    ghost laws = { matrix_lawful };
+
+    ghost spelled = { λ columns. tt };
+}
