@@ -25,12 +25,12 @@ use Rattle.rm_hosts.specs.Columns.{control_columns as hosts_control_columns, hos
 use Rattle.rm_hosts.specs.Control.{control_entry as hosts_control_entry}
 use Rattle.rm_hosts.specs.Host.{host_entry}
 use Rattle.rm_hosts.specs.HostTime.{time_entry}
-use Rattle.rm_hosts.specs.Group.{host_collection, host_tables}
+use Rattle.rm_hosts.specs.Collection.{host_collection, host_tables}
 use Rattle.rm_matrix.specs.Columns.{control_columns as matrix_control_columns, pair_columns}
 use Rattle.rm_matrix.specs.Control.{control_entry as matrix_control_entry}
 use Rattle.rm_matrix.specs.SourceDestination.{source_entry}
 use Rattle.rm_matrix.specs.DestinationSource.{destination_entry}
-use Rattle.rm_matrix.specs.Group.{matrix_collection, matrix_tables}
+use Rattle.rm_matrix.specs.Collection.{matrix_collection, matrix_tables}
 use Rattle.rm_collectors.specs.Group.{collected_objects}
 use Rattle.rm_event.specs.Columns.{event_columns, log_columns}
 use Rattle.rm_event.specs.EventTable.{event_entry}

@@ -18,9 +18,9 @@ use Rattle.rm_collect.specs.Group.{Stands as HeldStands, IsStocked as IsHeldStoc
 use Rattle.rm_history.specs.ControlColumns.{control_rows as history_rows}
 use Rattle.rm_history.specs.Collection.{history_collection}
 use Rattle.rm_hosts.specs.ControlColumns.{control_rows as host_rows}
-use Rattle.rm_hosts.specs.Group.{host_collection}
+use Rattle.rm_hosts.specs.Collection.{host_collection}
 use Rattle.rm_matrix.specs.ControlColumns.{control_rows as matrix_rows}
-use Rattle.rm_matrix.specs.Group.{matrix_collection}
+use Rattle.rm_matrix.specs.Collection.{matrix_collection}
 use Rattle.rm_collectors.specs.declared.collectors.Collectors.{Collectors}
 
 -- what the probe is set to, as the tables need it

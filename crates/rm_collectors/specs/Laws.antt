@@ -14,10 +14,10 @@ use Rattle.rm_history.specs.ControlColumns.{control_rows as history_rows}
 use Rattle.rm_history.specs.Collection.{history_collection}
 use Rattle.rm_history.specs.Lawful.{history_lawful}
 use Rattle.rm_hosts.specs.ControlColumns.{control_rows as host_rows}
-use Rattle.rm_hosts.specs.Group.{host_collection}
+use Rattle.rm_hosts.specs.Collection.{host_collection}
 use Rattle.rm_hosts.specs.Lawful.{host_lawful}
 use Rattle.rm_matrix.specs.ControlColumns.{control_rows as matrix_rows}
-use Rattle.rm_matrix.specs.Group.{matrix_collection}
+use Rattle.rm_matrix.specs.Collection.{matrix_collection}
 use Rattle.rm_matrix.specs.Lawful.{matrix_lawful}
 use Rattle.rm_collectors.specs.Group.{Stands, collected_cells, collected_objects, collected_settable, collected_alone}
 use Rattle.rm_collectors.specs.declared.collectors.Collectors.{Collectors}

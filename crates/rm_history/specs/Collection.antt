@@ -7,12 +7,12 @@ use Rattle.rm_model.specs.Counting.{Counting}
 use Rattle.rm_model.specs.Journal.{Journal}
 use Rattle.rm_model.specs.Cells.{Cells, cells_of, is_of_column}
 use Rattle.rm_group.specs.Alone.{read_only}
-use Rattle.rm_group.specs.Listed.{ListedTable, alone_beside}
+use Rattle.rm_group.specs.Listed.{ListedTable}
 use Rattle.rm_collect.specs.Collection.{Collection}
 use Rattle.rm_history.specs.declared.control_columns.ControlColumns.{ControlColumns}
 use Rattle.rm_history.specs.declared.run.Run.{Run}
 use Rattle.rm_history.specs.Columns.{control_columns, sample_columns}
-use Rattle.rm_history.specs.HistoryControl.{control_entry, history_control, control_table}
+use Rattle.rm_history.specs.HistoryControl.{control_entry, control_table}
 use Rattle.rm_history.specs.ControlColumns.{AreInRange}
 use Rattle.rm_history.specs.EtherHistory.{sample_entry, sample_listed, sample_table}
 use Rattle.rm_history.specs.Runs.{Fits, Counts}
@@ -47,7 +47,3 @@ history_collection = record {
   tables = history_tables;
   inner_alone = samples_alone;
 }
-
--- what is wrong with a binding alone in both
-abbrev pub history_alone : List ℕ → Val → Option ErrorStatus
-history_alone = alone_beside history_control sample_listed

@@ -15,4 +15,3 @@ pub mod RunLaws
 pub mod RangeLaws
 pub mod SameCells
 pub mod Lawful
-pub mod Group

@@ -1,10 +1,11 @@
 -- The columns of hostControl, host and hostTime (RFC 1757, section 5).
 use Rattle.std.specs.Prelude.{ℕ, List, [], ◌∷◌, nat_eq, if◌then◌else◌}
+use Rattle.rm_keyed.specs.SourceControl.{source_columns}
 use Rattle.rm_hosts.specs.declared.host_counts.HostCounts.{HostCounts}
 
 -- the numbers of the columns of hostControl
 abbrev pub control_columns : List ℕ
-control_columns = 1 ∷ 2 ∷ 3 ∷ 4 ∷ 5 ∷ 6 ∷ []
+control_columns = source_columns
 
 -- the numbers of the columns of host, and of hostTime
 abbrev pub host_columns : List ℕ

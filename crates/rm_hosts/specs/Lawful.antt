@@ -1,6 +1,7 @@
 -- The laws of what the rows of hostControl collect.
 use Rattle.std.proofs.Common.{refl}
 use Rattle.rm_keyed.proofs.TwoLaws.{all_listed, beside_two}
+use Rattle.rm_keyed.specs.SourceControl.{source_rows}
 use Rattle.rm_collect.specs.Collection.{IsLawful}
 use Rattle.rm_hosts.specs.Columns.{control_columns}
 use Rattle.rm_hosts.specs.Control.{host_control}
@@ -9,13 +10,13 @@ use Rattle.rm_hosts.specs.HostControl.{control_table}
 use Rattle.rm_hosts.specs.Host.{host_listed, host_table}
 use Rattle.rm_hosts.specs.HostTime.{time_listed, time_table}
 use Rattle.rm_hosts.specs.Finite.{all_finite}
-use Rattle.rm_hosts.specs.Group.{host_collection}
+use Rattle.rm_hosts.specs.Collection.{host_collection}
 use Rattle.rm_hosts.specs.Fitting.{ready_later, ready_again}
 use Rattle.rm_hosts.specs.Frames.{one_frame, goes_on}
 use Rattle.rm_hosts.specs.SameCells.{same_cells}
 
 pub host_lawful : IsLawful control_rows host_collection
-unfolding host_collection
+unfolding source_rows host_collection
 host_lawful = record {
   blank_in_range = λ index. tt;
   put_in_range = λ columns column value takes in_range. tt;

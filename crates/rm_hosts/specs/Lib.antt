@@ -10,7 +10,7 @@ pub mod HostCells
 pub mod ControlColumns
 pub mod Tables
 pub mod Shown
-pub mod Group
+pub mod Collection
 pub mod Finite
 pub mod Fitting
 pub mod Frames

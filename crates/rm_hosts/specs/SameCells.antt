@@ -1,9 +1,9 @@
 -- What the rows and the hosts show is what the tables show after the journal.
-use Rattle.std.proofs.Common.{◌≡◌, ℕ, ◌%◌, ◌^◌, List, [], ◌∷◌, Bool, true, false, cond, ◌&&◌, Option, Some, None, refl, sym, ◌∙◌, ap, subst, nat_eq, find, option_map, zero, suc, slice_get, min, arith}
+use Rattle.std.proofs.Common.{◌≡◌, ℕ, ◌%◌, ◌^◌, List, [], ◌∷◌, Bool, true, false, cond, ◌&&◌, Option, Some, None, refl, sym, ◌∙◌, ap, subst, nat_eq, find, option_map, zero, suc, slice_get}
 use Rattle.std.specs.Prelude.{pos, is_some, unwrap_or, sum_by}
 use Rattle.std.specs.Option.{option_or, option_map_or}
 use Rattle.std.specs.Str.{bytes_eq}
-use Rattle.rm_val.specs.Val.{Val, int, counter, octets, ticks, null}
+use Rattle.rm_val.specs.Val.{Val, int, counter, octets, null}
 use Rattle.rm_model.specs.Counting.{Counting}
 use Rattle.rm_model.specs.Journal.{Journal}
 use Rattle.rm_model.specs.Cells.{cells_of}
@@ -16,7 +16,7 @@ use Rattle.rm_status.proofs.RowFacts.{row_there}
 use Rattle.rm_status.proofs.KeptCellsLaws.{same_control_cells}
 use Rattle.rm_evicting.specs.declared.Row.{Row as Entry}
 use Rattle.rm_evicting.specs.Mention.{keys}
-use Rattle.rm_evicting.specs.Held.{held, held_keys, size, order, shares, last_delete}
+use Rattle.rm_evicting.specs.Held.{held, held_keys, order, shares}
 use Rattle.rm_evicting.specs.Row.{holds}
 use Rattle.rm_evicting.specs.Stands.{total}
 use Rattle.rm_evicting.proofs.RowLemmas.{each_held}
@@ -30,22 +30,23 @@ use Rattle.rm_pool.specs.declared.slot.Slot.{Slot}
 use Rattle.rm_pool.specs.Slots.{part_in}
 use Rattle.rm_collect.specs.Rows.{IsKept}
 use Rattle.rm_collect.specs.Collection.{kept}
-use Rattle.rm_hosts.specs.declared.control_columns.ControlColumns.{ControlColumns}
 use Rattle.rm_hosts.specs.declared.host_counts.HostCounts.{HostCounts}
 use Rattle.rm_hosts.specs.declared.host_table.HostTable.{HostTable}
+use Rattle.rm_keyed.specs.SourceControl.{source_rows}
+use Rattle.rm_keyed.proofs.SourceLaws.{AreRowsOf, source_same}
 use Rattle.rm_hosts.specs.Columns.{control_columns, counter_in}
 use Rattle.rm_hosts.specs.Control.{host_control, control_state}
-use Rattle.rm_hosts.specs.ControlColumns.{set_to, control_rows}
+use Rattle.rm_hosts.specs.ControlColumns.{ControlColumns, set_to, control_rows}
 use Rattle.rm_hosts.specs.Counts.{no_counts, with_gain}
 use Rattle.rm_hosts.specs.Mentions.{HostMention, mentioned, mentions_of}
-use Rattle.rm_hosts.specs.Held.{is_held, rank_of, sum_of, host_of, table_size, deleted_at}
+use Rattle.rm_hosts.specs.Held.{is_held, rank_of, sum_of, host_of}
 use Rattle.rm_hosts.specs.HostControl.{control_other, control_table}
 use Rattle.rm_hosts.specs.Host.{is_host, host_value, host_at, host_table}
 use Rattle.rm_hosts.specs.HostTime.{is_ranked, ranked_at, time_table}
 use Rattle.rm_hosts.specs.HostCells.{host_cells}
 use Rattle.rm_hosts.specs.Tables.{IsTable}
-use Rattle.rm_hosts.specs.Group.{host_collection}
-use Rattle.rm_hosts.specs.Shown.{Entries, entries_of, size_in, deleted_in, kept_other, kept_value, with_address, with_rank, addresses_table, ranks_table, no_empty_address}
+use Rattle.rm_hosts.specs.Collection.{host_collection}
+use Rattle.rm_hosts.specs.Shown.{Entries, entries_of, kept_other, kept_value, with_address, with_rank, addresses_table, ranks_table, no_empty_address}
 use Rattle.rm_hosts.specs.Indexed.{exact, index_is}
 use Rattle.rm_hosts.specs.Sums.{total_shown}
 
@@ -173,27 +174,22 @@ module _ (tables : List (Slot HostTable)) (settings : Counting) (journal : Journ
   same_ranks = same_table with_rank kept_value tables (time_table settings journal) refl (λ row index column. of_ranked row index column (part_in tables row) (are row))
 
   -- hostControl
-  size_is : (row : ℕ) (o : Option HostTable) → IsKept host_control IsTable settings journal row o → size_in o ≡ table_size settings journal row
-  size_is row None idle = sym (ap (λ (mentions : List HostMention). size bytes_eq settings.hosts (keys mentions)) (no_mentions settings journal row idle) ∙ none_of settings.hosts)
-    where
-      none_of : (room : ℕ) → min room 0 ≡ 0
-      none_of room = omega arith
-  size_is row (Some table) is = is.1.means.rows.size ∙ ap (λ room. size bytes_eq room (keys (mentions_of settings journal row))) is.1.capacity
-
-  deleted_is : (row : ℕ) (o : Option HostTable) → IsKept host_control IsTable settings journal row o → deleted_in o ≡ deleted_at settings journal row
-  deleted_is row None idle = sym (ap (λ (mentions : List HostMention). last_delete bytes_eq settings.hosts mentions) (no_mentions settings journal row idle))
-  deleted_is row (Some table) is = is.1.means.deletes ∙ ap (λ room. last_delete bytes_eq room (mentions_of settings journal row)) is.1.capacity
+  rows_are : (row : ℕ) (o : Option HostTable) → IsKept host_control IsTable settings journal row o
+      → AreRowsOf bytes_eq no_counts with_gain settings.hosts (mentions_of settings journal row) (option_map (λ table. table.keyed) o)
+  rows_are row None idle = no_mentions settings journal row idle
+  rows_are row (Some table) is = (is.1.means, is.1.capacity)
 
   module _ (now : ℕ) (rows : List (Row ControlColumns)) (held : AreControlRows host_control rows) (is : AreRowsAfter host_control no_rows set_to rows journal) where
     same_other : (column i : ℕ) (row : Row ControlColumns) → row_in rows i ≡ Some row → with_index (kept_other tables) column (i ∷ []) ≡ with_index (control_other settings journal) column (i ∷ [])
     same_other column i row here = λ d.
         cond (nat_eq column 1) (int (pos i))
-        (cond (nat_eq column 3) (int (pos (size_is i (part_in tables i) (are i) d))) (ticks (deleted_is i (part_in tables i) (are i) d)))
+        (source_same bytes_eq no_counts with_gain settings.hosts (mentions_of settings journal i) (option_map (λ table. table.keyed) (part_in tables i)) (rows_are i (part_in tables i) (are i)) column d)
 
     same_control : (name : List ℕ) → cells_of (rows_shown control_rows (kept_other tables) rows) name ≡ cells_of (control_table settings journal) name
+    unfolding source_rows
     same_control = same_control_cells host_control no_rows set_to rows held journal is control_columns (with_index (kept_other tables)) (with_index (control_other settings journal)) (λ i row here. row_there host_control rows i row held here) same_other
 
     -- all three
     pub same_cells : (name : List ℕ) → kept control_rows host_collection rows tables now name ≡ host_cells settings journal name
-    unfolding host_collection
+    unfolding source_rows host_collection
     same_cells name = λ d. option_or (same_control name d) (option_or (same_hosts name d) (same_ranks name d))

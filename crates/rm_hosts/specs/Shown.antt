@@ -1,8 +1,8 @@
 -- What the rows and the hosts that are kept show.
-use Rattle.std.specs.Prelude.{◌≡◌, ℕ, pos, ◌%◌, ◌^◌, List, [], ◌∷◌, length, nat_eq, if◌then◌else◌, Option, None, option_map, unwrap_or, refl}
+use Rattle.std.specs.Prelude.{◌≡◌, ℕ, pos, ◌%◌, ◌^◌, List, [], ◌∷◌, nat_eq, if◌then◌else◌, Option, None, option_map, unwrap_or, refl}
 use Rattle.std.specs.Option.{option_map_or}
 use Rattle.std.specs.Str.{bytes_eq}
-use Rattle.rm_val.specs.Val.{Val, int, counter, octets, ticks}
+use Rattle.rm_val.specs.Val.{Val, int, counter, octets}
 use Rattle.rm_model.specs.Cells.{Cells, Table}
 use Rattle.rm_status.specs.Rows.{row_number}
 use Rattle.rm_evicting.specs.declared.Row.{Row as Entry}
@@ -14,6 +14,7 @@ use Rattle.rm_pool.specs.declared.slot.Slot.{Slot}
 use Rattle.rm_pool.specs.Slots.{part_in}
 use Rattle.rm_hosts.specs.declared.host_counts.HostCounts.{HostCounts}
 use Rattle.rm_hosts.specs.declared.host_table.HostTable.{HostTable}
+use Rattle.rm_keyed.specs.SourceControl.{source_value}
 use Rattle.rm_hosts.specs.Columns.{host_columns, counter_in}
 use Rattle.rm_hosts.specs.Host.{host_entry}
 use Rattle.rm_hosts.specs.HostTime.{time_entry}
@@ -25,19 +26,9 @@ Entries = List (Entry (List ℕ) HostCounts)
 abbrev pub entries_of : HostTable → Entries
 entries_of table = table.keyed.rows.rows
 
--- how many hosts are kept of a row, and when one of them last gave way to another
-abbrev pub size_in : Option HostTable → ℕ
-size_in o = option_map_or (λ table. length (entries_of table)) o 0
-
-abbrev pub deleted_in : Option HostTable → ℕ
-deleted_in o = option_map_or (λ table. table.keyed.last_delete) o 0
-
 -- what the columns of hostControl show beside the index that can't be set
-abbrev pub other_value : Option HostTable → (column : ℕ) → Val
-other_value o column = if nat_eq column 3 then int (pos (size_in o)) else ticks (deleted_in o)
-
-abbrev pub kept_other : List (Slot HostTable) → ℕ → List ℕ → Val
-kept_other tables column index = other_value (part_in tables (row_number index)) column
+abbrev pub kept_other : List (Slot HostTable) → (column : ℕ) → List ℕ → Val
+kept_other tables column index = source_value (option_map (λ table. table.keyed) (part_in tables (row_number index))) column
 
 -- what a column shows of a host, by the hosts of its row
 abbrev pub kept_value : (row : ℕ) → HostTable → (address : List ℕ) (column : ℕ) → Val

@@ -3,14 +3,13 @@ ghost use Rattle.std.specs.Prelude.{◌≡◌};
 
 use crate::by_address::{ByAddress, HOST_OBJECTS};
 use crate::by_rank::{ByRank, TIME_OBJECTS};
-use crate::control_cell::other_value;
-use crate::control_columns::{CONTROL_OBJECTS, ControlColumns};
 use crate::counted_frame::CountedFrame;
+use crate::host_control::{CONTROL_OBJECTS, ControlColumns};
 use crate::host_room::HostRoom;
 use crate::host_table::HostTable;
 use rm_collect::{Collected, Collecting};
 use rm_group::{Assigns, TableObjects};
-use rm_keyed::{PartRows, cell_of_two, judge_two, next_of_two};
+use rm_keyed::{PartRows, cell_of_two, judge_two, next_of_two, source_value};
 use rm_model::Verdict;
 use rm_pool::Pool;
 use rm_proto::Facts;
@@ -29,13 +28,13 @@ type Ranks<'a> = PartRows<'a, ByRank>;
 /// The tables, the control table first.
 const OBJECTS: &[TableObjects] = &[CONTROL_OBJECTS, HOST_OBJECTS, TIME_OBJECTS];
 
-#[tactic(auto, unfolding(crate::specs::Group::host_collection))]
+#[tactic(auto, unfolding(crate::specs::Collection::host_collection, rm_keyed::specs::SourceControl::source_rows))]
 impl Collected for HostTable {
     type Columns = ControlColumns;
 
     type Shared = HostRoom;
 
-    ghost use Rattle.rm_hosts.specs.Group.{host_collection};
+    ghost use Rattle.rm_hosts.specs.Collection.{host_collection};
     ghost use Rattle.rm_hosts.specs.Lawful.{host_lawful};
 
     ghost collection = { host_collection };
@@ -61,7 +60,11 @@ impl Collected for HostTable {
         _row: &Row<ControlColumns>,
         column: u32,
     ) -> Value<'static> {
-        other_value(tables.get(index), column)
+        let rows = match tables.get(index) {
+            Some(table) => Some(&table.keyed),
+            None => None,
+        };
+        source_value(rows, column)
     }
 
     fn inner_cell<'a>(tables: &'a Pool<HostTable>, name: &Oid, now: u32) -> Option<Value<'a>> {

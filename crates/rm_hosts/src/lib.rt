@@ -3,9 +3,8 @@
 
 mod by_address;
 mod by_rank;
-mod control_cell;
-mod control_columns;
 mod counted_frame;
+mod host_control;
 mod host_counts;
 mod host_room;
 mod host_table;

@@ -12,3 +12,4 @@ mod IndexLemmas
 pub mod Ranked
 pub mod PartCells
 pub mod TwoLaws
+pub mod SourceLaws

@@ -7,3 +7,4 @@ pub mod Addresses
 pub mod Uncounted
 pub mod TwoTables
 pub mod PartRows
+pub mod SourceControl

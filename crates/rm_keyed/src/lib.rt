@@ -8,6 +8,8 @@ mod held;
 mod indexed;
 mod keyed;
 mod part_rows;
+mod source_cell;
+mod source_columns;
 #[cfg(test)]
 mod tests;
 mod two_tables;
@@ -19,6 +21,8 @@ pub use counts::Counts;
 pub use indexed::{Indexed, compare_index, index_of};
 pub use keyed::{Keyed, MOST_ROWS};
 pub use part_rows::{KeyTable, PartRows};
+pub use source_cell::source_value;
+pub use source_columns::{SOURCE_NUMBERS, SourceColumns, SourceTable};
 pub use two_tables::{cell_of_two, judge_two, next_of_two};
 pub use uncounted::Uncounted;
 pub use walk::{key_above, key_at, key_ranked, rank_above};

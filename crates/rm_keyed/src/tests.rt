@@ -1,7 +1,7 @@
-use crate::{AddressPair, Counts, Keyed, index_of, key_above, key_at, rank_above};
+use crate::{AddressPair, Counts, Keyed, index_of, key_above, key_at, rank_above, source_value};
 use rm_pool::Part;
 use rm_rows::Blank;
-use rm_val::Oid;
+use rm_val::{Oid, Value};
 use std::test::*;
 
 /// What a host sent.
@@ -57,6 +57,8 @@ fn a_full_table_gives_up_the_host_that_was_quiet_longest(rt: HostRuntime) -> Res
     assert_eq!(rt; hosts.made(1), Some(&B));
     assert_eq!(rt; hosts.made(2), Some(&C));
     assert_eq!(rt; hosts.made(3), None);
+    assert!(rt; matches!(source_value(Some(&hosts), 3), Value::Int(2)));
+    assert!(rt; matches!(source_value(Some(&hosts), 4), Value::Ticks(400)));
     hosts.refer(A, 4, 500, &FRAME);
     assert_eq!(rt; hosts.last_delete(), 500);
     assert_eq!(rt; hosts.get(&A), Some(&FRAME));

@@ -1,6 +1,7 @@
 -- The laws of what the rows of matrixControl collect.
 use Rattle.std.proofs.Common.{refl}
 use Rattle.rm_keyed.proofs.TwoLaws.{all_listed, beside_two}
+use Rattle.rm_keyed.specs.SourceControl.{source_rows}
 use Rattle.rm_collect.specs.Collection.{IsLawful}
 use Rattle.rm_matrix.specs.Columns.{control_columns}
 use Rattle.rm_matrix.specs.Control.{matrix_control}
@@ -9,13 +10,13 @@ use Rattle.rm_matrix.specs.MatrixControl.{control_table}
 use Rattle.rm_matrix.specs.SourceDestination.{source_listed, source_table}
 use Rattle.rm_matrix.specs.DestinationSource.{destination_listed, destination_table}
 use Rattle.rm_matrix.specs.Finite.{all_finite}
-use Rattle.rm_matrix.specs.Group.{matrix_collection}
+use Rattle.rm_matrix.specs.Collection.{matrix_collection}
 use Rattle.rm_matrix.specs.Fitting.{ready_later, ready_again}
 use Rattle.rm_matrix.specs.Frames.{one_frame, goes_on}
 use Rattle.rm_matrix.specs.SameCells.{same_cells}
 
 pub matrix_lawful : IsLawful control_rows matrix_collection
-unfolding matrix_collection
+unfolding source_rows matrix_collection
 matrix_lawful = record {
   blank_in_range = λ index. tt;
   put_in_range = λ columns column value takes in_range. tt;

@@ -11,7 +11,7 @@ pub mod MatrixCells
 pub mod ControlColumns
 pub mod Tables
 pub mod Shown
-pub mod Group
+pub mod Collection
 pub mod Finite
 pub mod Fitting
 pub mod Frames

@@ -1,9 +1,9 @@
 -- What the rows and the pairs show is what the tables show after the journal.
-use Rattle.std.proofs.Common.{◌≡◌, ℕ, ◌%◌, ◌^◌, List, [], ◌∷◌, true, cond, Option, Some, None, refl, sym, ◌∙◌, ap, nat_eq, option_map, min, arith}
+use Rattle.std.proofs.Common.{◌≡◌, ℕ, ◌%◌, ◌^◌, List, [], ◌∷◌, true, cond, Option, Some, None, refl, sym, ◌∙◌, ap, nat_eq, option_map}
 use Rattle.std.specs.Prelude.{pos, is_some, sum_by}
 use Rattle.std.specs.Option.{option_or, option_map_or}
 use Rattle.std.specs.Str.{bytes_eq}
-use Rattle.rm_val.specs.Val.{Val, int, counter, octets, ticks, null}
+use Rattle.rm_val.specs.Val.{Val, int, counter, octets, null}
 use Rattle.rm_model.specs.Counting.{Counting}
 use Rattle.rm_model.specs.Journal.{Journal}
 use Rattle.rm_model.specs.Cells.{cells_of}
@@ -15,7 +15,7 @@ use Rattle.rm_status.specs.RowsAfter.{AreRowsAfter}
 use Rattle.rm_status.proofs.RowFacts.{row_there}
 use Rattle.rm_status.proofs.KeptCellsLaws.{same_control_cells}
 use Rattle.rm_evicting.specs.Mention.{keys}
-use Rattle.rm_evicting.specs.Held.{held, held_keys, size, shares, last_delete}
+use Rattle.rm_evicting.specs.Held.{held, held_keys, shares}
 use Rattle.rm_evicting.specs.Stands.{total}
 use Rattle.rm_rows.specs.Table.{row_of, value_of}
 use Rattle.rm_keyed.specs.declared.address_pair.AddressPair.{AddressPair}
@@ -32,22 +32,24 @@ use Rattle.rm_pool.specs.declared.slot.Slot.{Slot}
 use Rattle.rm_pool.specs.Slots.{part_in}
 use Rattle.rm_collect.specs.Rows.{IsKept}
 use Rattle.rm_collect.specs.Collection.{kept}
-use Rattle.rm_matrix.specs.declared.control_columns.ControlColumns.{ControlColumns}
 use Rattle.rm_matrix.specs.declared.matrix_table.MatrixTable.{MatrixTable}
+use Rattle.rm_keyed.specs.SourceControl.{source_rows}
+use Rattle.rm_keyed.proofs.SourceLaws.{AreRowsOf, source_same}
+use Rattle.rm_matrix.specs.Counts.{no_counts, with_gain}
 use Rattle.rm_matrix.specs.Columns.{control_columns, pair_columns, counter_in}
 use Rattle.rm_matrix.specs.Control.{matrix_control}
-use Rattle.rm_matrix.specs.ControlColumns.{set_to, control_rows}
+use Rattle.rm_matrix.specs.ControlColumns.{ControlColumns, set_to, control_rows}
 use Rattle.rm_matrix.specs.Counts.{no_counts, with_gain}
 use Rattle.rm_matrix.specs.Mentions.{PairMention, mentions_of}
-use Rattle.rm_matrix.specs.Held.{pair_at, sum_of, table_size, deleted_at}
+use Rattle.rm_matrix.specs.Held.{pair_at, sum_of}
 use Rattle.rm_matrix.specs.MatrixControl.{control_other, control_table}
 use Rattle.rm_matrix.specs.Pairs.{pair_value, pair_table}
 use Rattle.rm_matrix.specs.SourceDestination.{source_entry, source_index, source_table}
 use Rattle.rm_matrix.specs.DestinationSource.{destination_entry, destination_index, destination_table}
 use Rattle.rm_matrix.specs.MatrixCells.{matrix_cells}
 use Rattle.rm_matrix.specs.Tables.{IsTable}
-use Rattle.rm_matrix.specs.Group.{matrix_collection}
-use Rattle.rm_matrix.specs.Shown.{Entries, entries_of, reverse_of, size_in, deleted_in, kept_other, kept_value, by_source, by_destination, sources_table, destinations_table}
+use Rattle.rm_matrix.specs.Collection.{matrix_collection}
+use Rattle.rm_matrix.specs.Shown.{Entries, entries_of, reverse_of, kept_other, kept_value, by_source, by_destination, sources_table, destinations_table}
 use Rattle.rm_matrix.specs.Finite.{none_at}
 use Rattle.rm_matrix.specs.Sums.{total_shown}
 
@@ -125,27 +127,22 @@ module _ (tables : List (Slot MatrixTable)) (settings : Counting) (journal : Jou
   same_destinations = same_pairs destination_index by_destination (destination_is settings journal) destination_entry
 
   -- matrixControl
-  size_is : (row : ℕ) (o : Option MatrixTable) → IsKept matrix_control IsTable settings journal row o → size_in o ≡ table_size settings journal row
-  size_is row None idle = sym (ap (λ (mentions : List PairMention). size pair_eq settings.pairs (keys mentions)) (none_at settings journal row idle) ∙ none_of settings.pairs)
-    where
-      none_of : (room : ℕ) → min room 0 ≡ 0
-      none_of room = omega arith
-  size_is row (Some table) is = is.1.means.pairs.rows.size ∙ ap (λ room. size pair_eq room (keys (mentions_of settings journal row))) is.1.capacity
-
-  deleted_is : (row : ℕ) (o : Option MatrixTable) → IsKept matrix_control IsTable settings journal row o → deleted_in o ≡ deleted_at settings journal row
-  deleted_is row None idle = sym (ap (λ (mentions : List PairMention). last_delete pair_eq settings.pairs mentions) (none_at settings journal row idle))
-  deleted_is row (Some table) is = is.1.means.pairs.deletes ∙ ap (λ room. last_delete pair_eq room (mentions_of settings journal row)) is.1.capacity
+  rows_are : (row : ℕ) (o : Option MatrixTable) → IsKept matrix_control IsTable settings journal row o
+      → AreRowsOf pair_eq no_counts with_gain settings.pairs (mentions_of settings journal row) (option_map (λ table. table.pairs) o)
+  rows_are row None idle = none_at settings journal row idle
+  rows_are row (Some table) is = (is.1.means.pairs, is.1.capacity)
 
   module _ (now : ℕ) (rows : List (Row ControlColumns)) (held : AreControlRows matrix_control rows) (is : AreRowsAfter matrix_control no_rows set_to rows journal) where
     same_other : (column i : ℕ) (row : Row ControlColumns) → row_in rows i ≡ Some row → with_index (kept_other tables) column (i ∷ []) ≡ with_index (control_other settings journal) column (i ∷ [])
     same_other column i row here = λ d.
         cond (nat_eq column 1) (int (pos i))
-        (cond (nat_eq column 3) (int (pos (size_is i (part_in tables i) (are i) d))) (ticks (deleted_is i (part_in tables i) (are i) d)))
+        (source_same pair_eq no_counts with_gain settings.pairs (mentions_of settings journal i) (option_map (λ table. table.pairs) (part_in tables i)) (rows_are i (part_in tables i) (are i)) column d)
 
     same_control : (name : List ℕ) → cells_of (rows_shown control_rows (kept_other tables) rows) name ≡ cells_of (control_table settings journal) name
+    unfolding source_rows
     same_control = same_control_cells matrix_control no_rows set_to rows held journal is control_columns (with_index (kept_other tables)) (with_index (control_other settings journal)) (λ i row here. row_there matrix_control rows i row held here) same_other
 
     -- all three
     pub same_cells : (name : List ℕ) → kept control_rows matrix_collection rows tables now name ≡ matrix_cells settings journal name
-    unfolding matrix_collection
+    unfolding source_rows matrix_collection
     same_cells name = λ d. option_or (same_control name d) (option_or (same_sources name d) (same_destinations name d))

@@ -1,8 +1,8 @@
 -- What the rows and the pairs that are kept show.
-use Rattle.std.specs.Prelude.{◌≡◌, ℕ, pos, ◌%◌, ◌^◌, List, [], ◌∷◌, length, nat_eq, if◌then◌else◌, Option, None, option_map, refl}
+use Rattle.std.specs.Prelude.{◌≡◌, ℕ, pos, ◌%◌, ◌^◌, List, [], ◌∷◌, nat_eq, if◌then◌else◌, Option, None, option_map, refl}
 use Rattle.std.proofs.Common.{ap}
 use Rattle.std.specs.Option.{option_map_or}
-use Rattle.rm_val.specs.Val.{Val, int, counter, octets, ticks}
+use Rattle.rm_val.specs.Val.{Val, int, counter, octets}
 use Rattle.rm_model.specs.Cells.{Cells, Table}
 use Rattle.rm_status.specs.Rows.{row_number}
 use Rattle.rm_evicting.specs.declared.Row.{Row as Entry}
@@ -17,6 +17,7 @@ use Rattle.rm_pool.specs.declared.slot.Slot.{Slot}
 use Rattle.rm_pool.specs.Slots.{part_in}
 use Rattle.rm_matrix.specs.declared.pair_counts.PairCounts.{PairCounts}
 use Rattle.rm_matrix.specs.declared.matrix_table.MatrixTable.{MatrixTable}
+use Rattle.rm_keyed.specs.SourceControl.{source_value}
 use Rattle.rm_matrix.specs.Columns.{pair_columns, counter_in}
 use Rattle.rm_matrix.specs.SourceDestination.{source_entry}
 use Rattle.rm_matrix.specs.DestinationSource.{destination_entry}
@@ -31,19 +32,9 @@ entries_of table = table.pairs.rows.rows
 abbrev pub reverse_of : MatrixTable → List (Entry AddressPair Uncounted)
 reverse_of table = table.reverse.rows.rows
 
--- how many pairs are kept of a row, and when one of them last gave way to another
-abbrev pub size_in : Option MatrixTable → ℕ
-size_in o = option_map_or (λ table. length (entries_of table)) o 0
-
-abbrev pub deleted_in : Option MatrixTable → ℕ
-deleted_in o = option_map_or (λ table. table.pairs.last_delete) o 0
-
 -- what the columns of matrixControl show beside the index that can't be set
-abbrev pub other_value : Option MatrixTable → (column : ℕ) → Val
-other_value o column = if nat_eq column 3 then int (pos (size_in o)) else ticks (deleted_in o)
-
-abbrev pub kept_other : List (Slot MatrixTable) → ℕ → List ℕ → Val
-kept_other tables column index = other_value (part_in tables (row_number index)) column
+abbrev pub kept_other : List (Slot MatrixTable) → (column : ℕ) → List ℕ → Val
+kept_other tables column index = source_value (option_map (λ table. table.pairs) (part_in tables (row_number index))) column
 
 -- what a column shows of a pair, by the pairs of its row
 abbrev pub kept_value : (row : ℕ) → MatrixTable → AddressPair → (column : ℕ) → Val

@@ -3,10 +3,9 @@
 
 mod by_destination;
 mod by_source;
-mod control_cell;
-mod control_columns;
 mod counted_frame;
 mod matrix;
+mod matrix_control;
 mod matrix_room;
 mod matrix_table;
 mod pair_counts;

@@ -3,14 +3,13 @@ ghost use Rattle.std.specs.Prelude.{◌≡◌};
 
 use crate::by_destination::{ByDestination, DESTINATION_OBJECTS};
 use crate::by_source::{BySource, SOURCE_OBJECTS};
-use crate::control_cell::other_value;
-use crate::control_columns::{CONTROL_OBJECTS, ControlColumns};
 use crate::counted_frame::CountedFrame;
+use crate::matrix_control::{CONTROL_OBJECTS, ControlColumns};
 use crate::matrix_room::MatrixRoom;
 use crate::matrix_table::MatrixTable;
 use rm_collect::{Collected, Collecting};
 use rm_group::{Assigns, TableObjects};
-use rm_keyed::{PartRows, cell_of_two, judge_two, next_of_two};
+use rm_keyed::{PartRows, cell_of_two, judge_two, next_of_two, source_value};
 use rm_model::Verdict;
 use rm_pool::Pool;
 use rm_proto::Facts;
@@ -29,13 +28,13 @@ type Destinations<'a> = PartRows<'a, ByDestination>;
 /// The tables, the control table first.
 const OBJECTS: &[TableObjects] = &[CONTROL_OBJECTS, SOURCE_OBJECTS, DESTINATION_OBJECTS];
 
-#[tactic(auto, unfolding(crate::specs::Group::matrix_collection))]
+#[tactic(auto, unfolding(crate::specs::Collection::matrix_collection, rm_keyed::specs::SourceControl::source_rows))]
 impl Collected for MatrixTable {
     type Columns = ControlColumns;
 
     type Shared = MatrixRoom;
 
-    ghost use Rattle.rm_matrix.specs.Group.{matrix_collection};
+    ghost use Rattle.rm_matrix.specs.Collection.{matrix_collection};
     ghost use Rattle.rm_matrix.specs.Lawful.{matrix_lawful};
 
     ghost collection = { matrix_collection };
@@ -62,7 +61,11 @@ impl Collected for MatrixTable {
         _row: &Row<ControlColumns>,
         column: u32,
     ) -> Value<'static> {
-        other_value(parts.get(index), column)
+        let rows = match parts.get(index) {
+            Some(table) => Some(&table.pairs),
+            None => None,
+        };
+        source_value(rows, column)
     }
 
     fn inner_cell<'a>(parts: &'a Pool<MatrixTable>, name: &Oid, now: u32) -> Option<Value<'a>> {

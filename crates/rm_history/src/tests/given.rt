@@ -1,6 +1,6 @@
 // Sets of historyControl, and what becomes of them.
 ghost use Rattle.std.specs.Prelude.{◌≡◌, ◌≤◌, [], ◌∷◌, None};
-ghost use Rattle.rm_history.specs.Group.{IsStocked, frames_given, last_given};
+ghost use Rattle.rm_collect.specs.Group.{IsStocked, frames_given, last_given};
 
 use crate::History;
 use rm_group::{Assignments, Commits, Group, Look};

@@ -1,6 +1,6 @@
 // Rows that Sets make, begin and end, and their buckets. Status 1 is valid, 2 createRequest, 4 invalid.
 ghost use Rattle.std.specs.Prelude.{◌≡◌, ◌≤◌, ◌<◌, ◌+◌, IfOk};
-ghost use Rattle.rm_history.specs.Group.{IsStocked, frames_given, last_given};
+ghost use Rattle.rm_collect.specs.Group.{IsStocked, frames_given, last_given};
 
 use crate::History;
 use crate::tests::given::{answer, number};

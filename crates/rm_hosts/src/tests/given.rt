@@ -1,6 +1,6 @@
 // Sets of hostControl, and what becomes of them.
 ghost use Rattle.std.specs.Prelude.{◌≡◌, ◌≤◌, [], ◌∷◌, None};
-ghost use Rattle.rm_hosts.specs.Group.{IsStocked, frames_given, last_given};
+ghost use Rattle.rm_collect.specs.Group.{IsStocked, frames_given, last_given};
 
 use crate::Hosts;
 use rm_group::{Assignments, Commits, Group, Look};

@@ -1,6 +1,6 @@
 // Sets of matrixControl, and what becomes of them.
 ghost use Rattle.std.specs.Prelude.{◌≡◌, ◌≤◌, [], ◌∷◌, None};
-ghost use Rattle.rm_matrix.specs.Group.{IsStocked, frames_given, last_given};
+ghost use Rattle.rm_collect.specs.Group.{IsStocked, frames_given, last_given};
 
 use crate::Matrix;
 use rm_group::{Assignments, Commits, Group, Look};

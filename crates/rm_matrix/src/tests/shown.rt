@@ -1,6 +1,6 @@
 // A row with room for two pairs. What it shows was worked out by hand from RFC 1757, section 5. Status 1 is valid, 2 createRequest.
 ghost use Rattle.std.specs.Prelude.{◌≡◌, ◌≤◌, ◌<◌, ◌+◌, IfOk};
-ghost use Rattle.rm_matrix.specs.Group.{IsStocked, frames_given, last_given};
+ghost use Rattle.rm_collect.specs.Group.{IsStocked, frames_given, last_given};
 
 use crate::tests::given::{answer, number};
 use crate::{Matrix, MatrixRoom};

@@ -1,6 +1,6 @@
 use Rattle.rm_history.specs.Collection.{history_collection}
-use Rattle.rm_hosts.specs.Group.{host_collection}
-use Rattle.rm_matrix.specs.Group.{matrix_collection}
+use Rattle.rm_hosts.specs.Collection.{host_collection}
+use Rattle.rm_matrix.specs.Collection.{matrix_collection}
 use Rattle.rm_collectors.specs.Group.{Stands}
 use Rattle.rm_collectors.proofs.collectors.Collectors.new.Goals as goal
 

@@ -1,14 +1,15 @@
 use Rattle.std.proofs.Common.{◌≡◌, List, [], ◌∷◌, sym, ◌∙◌, ap, subst, filter}
 use Rattle.std.specs.Prelude.{flat_map}
 use Rattle.rm_model.specs.Interfaces.{is_interface}
+use Rattle.rm_keyed.specs.SourceControl.{source_rows}
 use Rattle.rm_hosts.specs.Control.{control_set}
 use Rattle.rm_hosts.specs.Mentions.{HostMention, mentioned, mentions_of}
 use Rattle.rm_hosts.specs.Tables.{Means}
-use Rattle.rm_hosts.specs.Group.{host_collection}
+use Rattle.rm_hosts.specs.Collection.{host_collection}
 use Rattle.rm_hosts.proofs.hosts.HostTableCollected.begin.Goals as goal
 
 pub returns-clause-is_of : goal.returns-clause-is_of
-unfolding host_collection
+unfolding source_rows host_collection
 returns-clause-is_of c settings journal row suits at fresh =
     let none : mentions_of settings journal row ≡ [] = ap (λ seen. flat_map (mentioned settings) (filter (λ each. is_interface (control_set journal (row ∷ []) 2) each.frame.interface) seen)) fresh.unseen in
     record {

@@ -1,7 +1,7 @@
 use Rattle.std.proofs.Common.{refl}
 use Rattle.rm_keyed.proofs.TwoLaws.{two_from}
 use Rattle.rm_hosts.specs.Shown.{addresses_table, ranks_table}
-use Rattle.rm_hosts.specs.Group.{host_collection}
+use Rattle.rm_hosts.specs.Collection.{host_collection}
 use Rattle.rm_hosts.proofs.hosts.HostTableCollected.inner_least.Goals as goal
 
 pub returns-clause-from : goal.returns-clause-from

@@ -3,7 +3,7 @@ use Rattle.rm_keyed.proofs.TwoLaws.{all_from}
 use Rattle.rm_hosts.specs.HostControl.{control_table}
 use Rattle.rm_hosts.specs.Host.{host_table}
 use Rattle.rm_hosts.specs.HostTime.{time_table}
-use Rattle.rm_hosts.specs.Group.{host_collection}
+use Rattle.rm_hosts.specs.Collection.{host_collection}
 use Rattle.rm_hosts.proofs.hosts.HostTableCollected.least.Goals as goal
 
 pub returns-clause-from : goal.returns-clause-from
