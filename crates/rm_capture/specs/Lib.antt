@@ -1,0 +1,5 @@
+pub mod BufferRows
+pub mod Captured
+pub mod Downloads
+pub mod FullAction
+pub mod Keeping

@@ -1,0 +1,12 @@
+//! Capture buffers: the columns of bufferControlTable, and the packets that a buffer keeps (RFC 1757, section 5).
+#![tactic(auto)]
+
+mod buffer_row;
+mod captured;
+mod full_action;
+#[cfg(test)]
+mod tests;
+
+pub use buffer_row::{BufferRow, MOST_GRANTED, MOST_SLICE};
+pub use captured::{Captured, PacketInfo};
+pub use full_action::FullAction;
