@@ -1,0 +1,10 @@
+mod Begins
+mod Cells
+mod Counts
+mod Examples
+mod Found
+mod Numbers
+mod Rooms
+mod Settled
+mod Settles
+mod SetRows

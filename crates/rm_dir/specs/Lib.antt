@@ -1,0 +1,14 @@
+pub mod DirectoryIndex
+pub mod BuiltIn
+pub mod BuiltInRows
+pub mod Support
+pub mod ProtocolDir
+pub mod LocalIndexes
+pub mod LastChange
+pub mod Tables
+pub mod DirectoryRows
+pub mod Shown
+pub mod Settling
+pub mod Kept
+pub mod Group
+pub mod FirstRows

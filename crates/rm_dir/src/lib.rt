@@ -1,0 +1,19 @@
+//! The directory of protocols (RFC 2021, section 6): protocolDirTable, and when it last changed.
+#![tactic(auto)]
+
+mod built_in;
+mod cell;
+mod directory;
+mod first_rows;
+mod keys;
+mod row;
+mod settle;
+mod support;
+#[cfg(test)]
+mod tests;
+
+pub use cell::Others;
+pub use directory::Directory;
+pub use keys::DirectoryKeys;
+pub use row::DirectoryRow;
+pub use support::Support;

@@ -1,0 +1,329 @@
+// What a manager may make of the directory, worked out from the protocols that have rows from the beginning, from which rows can be made below
+// them, and from the steps of RowStatus.
+ghost use Rattle.std.specs.Prelude.{IfOk};
+ghost use Rattle.rm_val.specs.Spellable.{IsSpellable};
+
+use crate::Directory;
+use rm_group::Assignments;
+use rm_model::Verdict;
+use rm_val::{ErrorStatus, Oid, Value};
+use std::test::Fail;
+
+/// A Set of at most four bindings.
+type Set = Assignments<'static, 4>;
+
+const LOCAL: u32 = 3;
+
+const DESCR: u32 = 4;
+
+const TYPE: u32 = 5;
+
+const MAP: u32 = 6;
+
+const HOST: u32 = 7;
+
+const MATRIX: u32 = 8;
+
+const OWNER: u32 = 9;
+
+const STATUS: u32 = 10;
+
+// The indexes of some rows: IP, ARP, UDP, snmp over UDP, and the ports 8080 of TCP and 9 of UDP.
+const IP: &[u32] = &[8, 0, 0, 0, 1, 0, 0, 8, 0, 2, 0, 0];
+
+const UDP: &[u32] = &[12, 0, 0, 0, 1, 0, 0, 8, 0, 0, 0, 0, 17, 3, 0, 0, 0];
+
+const ARP: &[u32] = &[8, 0, 0, 0, 1, 0, 0, 8, 6, 2, 0, 0];
+
+const SNMP: &[u32] = &[
+    16, 0, 0, 0, 1, 0, 0, 8, 0, 0, 0, 0, 17, 0, 0, 0, 161, 4, 0, 0, 0, 0,
+];
+
+const PORT_8080: &[u32] = &[
+    16, 0, 0, 0, 1, 0, 0, 8, 0, 0, 0, 0, 6, 0, 0, 31, 144, 4, 0, 0, 0, 0,
+];
+
+const DISCARD: &[u32] = &[
+    16, 0, 0, 0, 1, 0, 0, 8, 0, 0, 0, 0, 17, 0, 0, 0, 9, 4, 0, 0, 0, 0,
+];
+
+// The name of a column of a row.
+fn name_of(column: u32, index: &[u32]) -> Result<Oid, Fail>
+    ensures { IfOk result IsSpellable }
+{
+    let mut name = Oid::from_slice(&[1, 3, 6, 1, 2, 1, 16, 11, 2, 1, column])?;
+    for &number in index {
+        name.push(number)?;
+    }
+    Ok(name)
+}
+
+fn set_of(bindings: &[(u32, &[u32], i32)]) -> Result<Set, Fail> {
+    let mut set = Set::new();
+    for (column, index, number) in bindings {
+        if !set.is_full() {
+            set.push(name_of(*column, index)?, Value::Int(*number));
+        }
+    }
+    Ok(set)
+}
+
+// Does a Set at a moment, if nothing is wrong with it.
+fn apply(directory: &mut Directory, set: &Set, now: u32) -> Verdict {
+    let alone = directory.rows().judge_alone(set);
+    if alone != Verdict::Fine {
+        return alone;
+    }
+    let together = directory.rows().judge_rows(set);
+    if together != Verdict::Fine {
+        return together;
+    }
+    if directory.has_indexes(set) {
+        directory.assign(set, now);
+    }
+    together
+}
+
+// Which rows can be made: one layer more than ether2, IP, TCP or UDP, with no parameters.
+#[test]
+fn rows_can_be_made(rt: HostRuntime) -> Result<(), Fail> {
+    let directory = Directory::new();
+    let no_creation = Verdict::Wrong {
+        status: ErrorStatus::NoCreation,
+        index: 1,
+    };
+    let cases: [(&[u32], Verdict); 20] = [
+        (&[4, 0, 0, 0, 1, 1, 0], Verdict::Fine),
+        (&[8, 0, 0, 0, 1, 0, 0, 6, 0, 2, 0, 0], Verdict::Fine),
+        (&[8, 0, 0, 0, 1, 0, 0, 255, 255, 2, 0, 0], Verdict::Fine),
+        (&[8, 0, 0, 0, 1, 0, 0, 5, 255, 2, 0, 0], no_creation),
+        (&[8, 0, 0, 0, 1, 0, 1, 6, 0, 2, 0, 0], no_creation),
+        (&[8, 0, 0, 0, 1, 0, 0, 6, 256, 2, 0, 0], no_creation),
+        (&[8, 0, 0, 0, 1, 0, 0, 6, 0, 2, 0, 1], no_creation),
+        (&[8, 0, 0, 0, 2, 0, 0, 6, 0, 2, 0, 0], no_creation),
+        (&[8, 0, 0, 0, 1, 0, 0, 6, 0, 1, 0, 0], no_creation),
+        (&[8, 0, 0, 0, 1, 0, 0, 6, 0, 2, 0], no_creation),
+        (
+            &[12, 0, 0, 0, 1, 0, 0, 8, 0, 0, 0, 0, 0, 3, 0, 0, 0],
+            Verdict::Fine,
+        ),
+        (
+            &[12, 0, 0, 0, 1, 0, 0, 8, 0, 0, 0, 0, 255, 3, 0, 0, 0],
+            Verdict::Fine,
+        ),
+        (
+            &[12, 0, 0, 0, 1, 0, 0, 8, 0, 0, 0, 1, 0, 3, 0, 0, 0],
+            no_creation,
+        ),
+        (
+            &[12, 0, 0, 0, 1, 0, 0, 8, 6, 0, 0, 0, 1, 3, 0, 0, 0],
+            no_creation,
+        ),
+        (PORT_8080, Verdict::Fine),
+        (DISCARD, Verdict::Fine),
+        (
+            &[
+                16, 0, 0, 0, 1, 0, 0, 8, 0, 0, 0, 0, 6, 0, 0, 0, 0, 4, 0, 0, 0, 0,
+            ],
+            no_creation,
+        ),
+        (
+            &[
+                16, 0, 0, 0, 1, 0, 0, 8, 0, 0, 0, 0, 1, 0, 0, 0, 9, 4, 0, 0, 0, 0,
+            ],
+            no_creation,
+        ),
+        (&[1], no_creation),
+        (&[], no_creation),
+    ];
+    for (index, expected) in cases {
+        let set = set_of(&[(STATUS, index, 4)])?;
+        assert_eq!(rt; directory.rows().judge_alone(&set), expected, "{index:?}");
+    }
+    Ok(())
+}
+
+// The number in a column of a row, and whether a column shows a text.
+fn number_at(directory: &Directory, column: u32, index: &[u32]) -> Result<Option<i32>, Fail> {
+    let name = name_of(column, index)?;
+    match directory.cell(&name) {
+        Some(Value::Int(number)) => Ok(Some(number)),
+        _ => Ok(None),
+    }
+}
+
+fn has_text(directory: &Directory, column: u32, index: &[u32], text: &[u8]) -> Result<bool, Fail> {
+    let name = name_of(column, index)?;
+    match directory.cell(&name) {
+        Some(Value::Octets(octets)) => Ok(octets == text),
+        _ => Ok(false),
+    }
+}
+
+// A row is made, and made again: its local index is the next one each time.
+#[test]
+fn rows_are_made(rt: HostRuntime) -> Result<(), Fail> {
+    let mut directory = Directory::new();
+    assert_eq!(rt;
+        apply(&mut directory, &set_of(&[(STATUS, PORT_8080, 4)])?, 3000),
+        Verdict::Fine
+    );
+    for (column, expected) in [(LOCAL, 21), (MAP, 1), (HOST, 3), (MATRIX, 3), (STATUS, 1)] {
+        assert_eq!(rt;
+            number_at(&directory, column, PORT_8080)?,
+            Some(expected),
+            "{column}"
+        );
+    }
+    for (column, expected) in [(DESCR, b"".as_slice()), (TYPE, &[0x00]), (OWNER, b"")] {
+        assert!(rt;
+            has_text(&directory, column, PORT_8080, expected)?,
+            "{column}"
+        );
+    }
+    assert_eq!(rt; directory.last_change(), 3000);
+    assert_eq!(rt;
+        apply(&mut directory, &set_of(&[(STATUS, PORT_8080, 6)])?, 4000),
+        Verdict::Fine
+    );
+    assert_eq!(rt; number_at(&directory, LOCAL, PORT_8080)?, None);
+    assert_eq!(rt; directory.last_change(), 4000);
+    // two rows of one Set, in the order of their names, and not in that of the bindings
+    let both = set_of(&[(STATUS, DISCARD, 5), (STATUS, PORT_8080, 4)])?;
+    assert_eq!(rt; apply(&mut directory, &both, 5000), Verdict::Fine);
+    assert_eq!(rt; number_at(&directory, LOCAL, PORT_8080)?, Some(22));
+    assert_eq!(rt; number_at(&directory, LOCAL, DISCARD)?, Some(23));
+    assert_eq!(rt; number_at(&directory, STATUS, DISCARD)?, Some(2));
+    assert_eq!(rt; directory.last_change(), 5000);
+    Ok(())
+}
+
+// What of the rows can't be set, and what is no change.
+#[test]
+fn some_rows_stay(rt: HostRuntime) -> Result<(), Fail> {
+    let mut directory = Directory::new();
+    for (column, index, expected) in [
+        (LOCAL, SNMP, 19),
+        (HOST, SNMP, 3),
+        (STATUS, SNMP, 1),
+        (LOCAL, ARP, 3),
+        (HOST, ARP, 1),
+        (MATRIX, ARP, 1),
+    ] {
+        assert_eq!(rt;
+            number_at(&directory, column, index)?,
+            Some(expected),
+            "{column} {index:?}"
+        );
+    }
+    for (column, index, expected) in [
+        (DESCR, SNMP, b"ether2.ip.udp.snmp".as_slice()),
+        (OWNER, SNMP, b"monitor"),
+        (TYPE, SNMP, &[0x00]),
+        (TYPE, IP, &[0xc0]),
+        (TYPE, UDP, &[0x80]),
+    ] {
+        assert!(rt;
+            has_text(&directory, column, index, expected)?,
+            "{column} {index:?}"
+        );
+    }
+    for (column, index, number, status) in [
+        (STATUS, SNMP, 2, Some(ErrorStatus::InconsistentValue)),
+        (STATUS, SNMP, 4, Some(ErrorStatus::InconsistentValue)),
+        (STATUS, SNMP, 6, Some(ErrorStatus::InconsistentValue)),
+        (STATUS, SNMP, 1, None),
+        (HOST, ARP, 2, Some(ErrorStatus::NotWritable)),
+        (MATRIX, ARP, 3, Some(ErrorStatus::NotWritable)),
+        (HOST, SNMP, 1, Some(ErrorStatus::WrongValue)),
+        (HOST, SNMP, 3, None),
+        (HOST, DISCARD, 2, Some(ErrorStatus::InconsistentName)),
+    ] {
+        let expected = match status {
+            Some(status) => Verdict::Wrong { status, index: 1 },
+            None => Verdict::Fine,
+        };
+        let set = set_of(&[(column, index, number)])?;
+        assert_eq!(rt;
+            apply(&mut directory, &set, 3000),
+            expected,
+            "{column} {index:?} {number}"
+        );
+    }
+    assert_eq!(rt; directory.last_change(), 0);
+    assert_eq!(rt;
+        apply(&mut directory, &set_of(&[(HOST, SNMP, 2)])?, 4000),
+        Verdict::Fine
+    );
+    assert_eq!(rt; number_at(&directory, HOST, SNMP)?, Some(2));
+    assert_eq!(rt; directory.last_change(), 4000);
+    Ok(())
+}
+
+// There are 32 rows at most.
+#[test]
+fn there_is_room_for_so_many(rt: HostRuntime) -> Result<(), Fail> {
+    let mut directory = Directory::new();
+    for port in 1..=12 {
+        let index = [
+            16, 0, 0, 0, 1, 0, 0, 8, 0, 0, 0, 0, 6, 0, 0, 40, port, 4, 0, 0, 0, 0,
+        ];
+        let set = set_of(&[(STATUS, &index, 4)])?;
+        assert_eq!(rt; apply(&mut directory, &set, 3000), Verdict::Fine, "{port}");
+        assert_eq!(rt;
+            number_at(&directory, LOCAL, &index)?,
+            Some(20 + port as i32),
+            "{port}"
+        );
+    }
+    let crowded = Verdict::Wrong {
+        status: ErrorStatus::InconsistentName,
+        index: 1,
+    };
+    assert_eq!(rt;
+        apply(&mut directory, &set_of(&[(STATUS, DISCARD, 4)])?, 3000),
+        crowded
+    );
+    Ok(())
+}
+
+// A walk over what comes first: when the directory last changed, and the local indexes in the order of the names of rows.
+#[test]
+fn rows_are_walked(rt: HostRuntime) -> Result<(), Fail> {
+    let mut directory = Directory::new();
+    assert_eq!(rt;
+        apply(&mut directory, &set_of(&[(STATUS, PORT_8080, 4)])?, 3000),
+        Verdict::Fine
+    );
+    let mut name = Oid::from_slice(&[1, 3, 6, 1, 2, 1, 16, 11])?;
+    let mut last = Oid::new();
+    assert!(rt; matches!(directory.after(&name, &mut last), Some(Value::Ticks(300))));
+    assert!(rt;
+        last.compare(&Oid::from_slice(&[1, 3, 6, 1, 2, 1, 16, 11, 1, 0])?)
+            .is_eq()
+    );
+    // ether2, IP, ARP, ICMP, TCP, UDP, the ports of TCP, with 8080 last, and those of UDP
+    let locals = [
+        1, 2, 3, 4, 5, 6, 7, 8, 9, 10, 11, 12, 13, 14, 21, 15, 16, 17, 18, 19, 20,
+    ];
+    for expected in locals {
+        name = last;
+        last = Oid::new();
+        match directory.after(&name, &mut last) {
+            Some(Value::Int(local)) => assert_eq!(rt; local, expected),
+            _ => assert!(rt; false, "{expected}"),
+        }
+    }
+    // the first description follows
+    name = last;
+    last = Oid::new();
+    assert!(rt;
+        matches!(
+            directory.after(&name, &mut last),
+            Some(Value::Octets(b"ether2"))
+        )
+    );
+    let end = Oid::from_slice(&[1, 3, 6, 1, 2, 1, 16, 11, 2, 1, 11])?;
+    assert!(rt; directory.after(&end, &mut name).is_none());
+    Ok(())
+}

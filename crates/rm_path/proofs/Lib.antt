@@ -1,0 +1,6 @@
+mod Count
+mod Examples
+pub mod Identifiers
+mod OrderLemmas
+mod Searches
+mod SlotLemmas

@@ -1,0 +1,50 @@
+-- What slots have, and what their index says.
+use Rattle.std.proofs.Common.{◌≡◌, ℕ, zero, suc, ◌<◌, List, [], ◌∷◌, Bool, true, false, ◌&&◌, ◌||◌, Option, Some, None, option_map, refl, ap, subst, arith}
+use Rattle.std.proofs.lemmas.Bool.Decides.{nat_tests}
+use Rattle.rm_path.specs.Identifier.{number_of}
+use Rattle.rm_path.specs.declared.identifier.ProtocolIdentifier.{ProtocolIdentifier}
+use Rattle.rm_path.specs.declared.protocol.Protocol.{Protocol}
+use Rattle.rm_path.specs.Slots.{identifier_in, is_of, is_active, is_below, are_below}
+use Rattle.rm_path.proofs.Identifiers.{same_is, is_itself}
+
+of_it : (held : Option Protocol) (identifier : ProtocolIdentifier) → option_map (λ protocol. protocol.identifier) held ≡ Some identifier → is_of identifier held ≡ true
+of_it None identifier is = absurd (cc)
+of_it (Some protocol) identifier is = let same : protocol.identifier ≡ identifier = cc in rw same (is_itself identifier)
+
+both : (a b : Bool) → (a && b) ≡ true → (a ≡ true) × (b ≡ true)
+both true b is = (refl, is)
+both false b is = absurd (cc)
+
+-- a protocol that is in a slot is active
+pub active_in : (slots : List (Option Protocol)) (slot : ℕ) (identifier : ProtocolIdentifier) → identifier_in slots slot ≡ Some identifier → is_active slots identifier ≡ true
+active_in [] slot identifier is = absurd (cc)
+active_in (first ∷ slots) zero identifier is = rw (of_it first identifier is) refl
+active_in (first ∷ slots) (suc slot) identifier is = let more = active_in slots slot identifier is in or_true (is_of identifier first) _ more
+  where
+    or_true : (a b : Bool) → b ≡ true → (a || b) ≡ true
+    or_true true b is = refl
+    or_true false b is = is
+
+in_it : (held : Option Protocol) (identifier : ProtocolIdentifier) → is_of identifier held ≡ true → option_map (λ protocol. protocol.identifier) held ≡ Some identifier
+in_it None identifier is = absurd (cc)
+in_it (Some protocol) identifier is = ap Some (same_is protocol.identifier identifier is)
+
+-- a protocol that is in no slot isn't
+pub inactive : (slots : List (Option Protocol)) (identifier : ProtocolIdentifier) → ((slot : ℕ) → identifier_in slots slot ≡ Some identifier → ⊥) → is_active slots identifier ≡ false
+inactive [] identifier none = refl
+inactive (first ∷ slots) identifier none =
+    rw (not_first (is_of identifier first) refl) (inactive slots identifier (λ slot. none (suc slot)))
+  where
+    not_first : (b : Bool) → is_of identifier first ≡ b → is_of identifier first ≡ false
+    not_first true is = absurd (none 0 (in_it first identifier is))
+    not_first false is = is
+
+-- what is in a slot has a number below, where all have
+pub below_in : (slots : List (Option Protocol)) (number slot : ℕ) (identifier : ProtocolIdentifier) → are_below slots number ≡ true → identifier_in slots slot ≡ Some identifier → number_of identifier < number
+below_in [] number slot identifier all is = absurd (cc)
+below_in (first ∷ slots) number zero identifier all is = of_first first (both (is_below number first) _ all).0 is
+  where
+    of_first : (held : Option Protocol) → is_below number held ≡ true → option_map (λ protocol. protocol.identifier) held ≡ Some identifier → number_of identifier < number
+    of_first None below equal = absurd (cc)
+    of_first (Some protocol) below equal = let same : protocol.identifier ≡ identifier = cc in subst (λ k. number_of k < number) same (grind (arith, nat_tests))
+below_in (first ∷ slots) number (suc slot) identifier all is = below_in slots number slot identifier (both (is_below number first) _ all).1 is

@@ -1,0 +1,4 @@
+pub mod Identifier
+pub mod Layers
+pub mod Order
+pub mod Slots
