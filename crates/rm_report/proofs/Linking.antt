@@ -1,0 +1,129 @@
+-- The mentions of a control row since an earlier journal.
+use Rattle.std.proofs.Common.{◌≡◌, ℕ, ◌+◌, ◌*◌, ◌/◌, ◌<◌, ◌≤◌, Bool, true, false, cond, List, [], ◌∷◌, ◌++◌, length, filter, sym, ap, ◌∙◌, arith, subst, Option, Some, None}
+use Rattle.std.specs.Prelude.{flat_map}
+use Rattle.std.specs.List.{AllByRecursion}
+use Rattle.std.proofs.lemmas.List.{append-nil}
+use Rattle.std.proofs.lemmas.List.Concat.{flat_map-append}
+use Rattle.std.proofs.lemmas.List.Elements.{filter-append}
+use Rattle.rm_val.specs.Val.{Val}
+use Rattle.rm_model.specs.Counting.{Counting}
+use Rattle.rm_model.specs.Journal.{Journal, frames_in}
+use Rattle.rm_model.specs.Interfaces.{is_interface}
+use Rattle.rm_model.specs.FrameFacts.{frame_facts}
+use Rattle.rm_model.specs.ControlRows.{no_rows}
+use Rattle.rm_proto.specs.declared.known.Facts.{Facts}
+use Rattle.rm_proto.specs.declared.ethernet.Pair.{Pair}
+use Rattle.rm_acts.specs.Seen.{Seen, seen_since}
+use Rattle.rm_evicting.specs.Mention.{refers, strays}
+use Rattle.rm_evicting.specs.Held.{AllBefore}
+use Rattle.rm_hosts.specs.Control.{host_control, control_set}
+use Rattle.rm_hosts.specs.Counts.{gain_in, gain_out}
+use Rattle.rm_hosts.specs.Mentions.{HostMention, mentioned, mentioned_by, mentions_of}
+use Rattle.rm_report.specs.Linked.{AreLater, HasSeen, IsLinked, goes_on as seen_on, begins_anew as seen_anew}
+use Rattle.rm_report.specs.Rates.{mentions_after}
+use Rattle.rm_report.proofs.Persist.{AllFrom}
+use Rattle.rm_report.proofs.Gained.{Goes, goes_on, begins_anew}
+use Rattle.rm_report.proofs.SeenLaws.{IsEarlier, after, all_after, none_after, seen_earlier}
+
+from_both : (least : ℕ) (one other : List HostMention) → AllFrom least one → AllFrom least other → AllFrom least (one ++ other)
+from_both least [] other a b = b
+from_both least (refers key stamp tick gain ∷ one) other a b = (a.0, from_both least one other a.1 b)
+from_both least (strays key gain ∷ one) other a b = from_both least one other a b
+
+before_both : (limit : ℕ) (one other : List HostMention) → AllBefore limit one → AllBefore limit other → AllBefore limit (one ++ other)
+before_both limit [] other a b = b
+before_both limit (refers key stamp tick gain ∷ one) other a b = (a.0, before_both limit one other a.1 b)
+before_both limit (strays key gain ∷ one) other a b = before_both limit one other a b
+
+module _ (settings : Counting) where
+  -- the mentions of frames of a data source
+  abbrev mentions_in : Val → List Seen → List HostMention
+  mentions_in source seen = flat_map (mentioned settings) (filter (λ one. is_interface source one.frame.interface) seen)
+
+  from_one : (n m tick : ℕ) (facts : Facts) (pair : Option Pair) → n ≤ m → AllFrom (2 * n) (mentioned_by (2 * m) tick facts pair)
+  from_one n m tick facts None le = tt
+  from_one n m tick facts (Some pair) le = go facts.good
+    where
+      go : (good : Bool) → AllFrom (2 * n) (cond good (refers pair.dest (2 * m + 1) tick (gain_in facts) ∷ refers pair.source (2 * m) tick (gain_out facts) ∷ []) (strays pair.source (gain_out facts) ∷ []))
+      go true = (omega arith, (omega arith, tt))
+      go false = tt
+
+  before_one : (n m tick : ℕ) (facts : Facts) (pair : Option Pair) → m < n → AllBefore (2 * n) (mentioned_by (2 * m) tick facts pair)
+  before_one n m tick facts None lt = tt
+  before_one n m tick facts (Some pair) lt = go facts.good
+    where
+      go : (good : Bool) → AllBefore (2 * n) (cond good (refers pair.dest (2 * m + 1) tick (gain_in facts) ∷ refers pair.source (2 * m) tick (gain_out facts) ∷ []) (strays pair.source (gain_out facts) ∷ []))
+      go true = (omega arith, (omega arith, tt))
+      go false = tt
+
+  module _ (from : Journal) (source : Val) where
+    abbrev least : ℕ
+    least = 2 * length (frames_in from)
+
+    from_seen : (seen : List Seen) → AreLater from seen → AllFrom least (mentions_in source seen)
+    from_seen [] later = tt
+    from_seen (one ∷ seen) later = go (is_interface source one.frame.interface) (from_seen seen later.1)
+      where
+        go : (t : Bool) → AllFrom least (mentions_in source seen) → AllFrom least (flat_map (mentioned settings) (cond t (one ∷ filter (λ other. is_interface source other.frame.interface) seen) (filter (λ other. is_interface source other.frame.interface) seen)))
+        go true rest =
+            let facts = frame_facts settings one.frame in
+            from_both least (mentioned settings one) (mentions_in source seen)
+            (from_one (length (frames_in from)) (length (frames_in one.before)) (one.frame.moment / 10) facts facts.pair later.0.1) rest
+        go false rest = rest
+
+    before_seen : (seen : List Seen) → AllByRecursion (IsEarlier from) seen → AllBefore least (mentions_in source seen)
+    before_seen [] earlier = tt
+    before_seen (one ∷ seen) earlier = go (is_interface source one.frame.interface) (before_seen seen earlier.1)
+      where
+        go : (t : Bool) → AllBefore least (mentions_in source seen) → AllBefore least (flat_map (mentioned settings) (cond t (one ∷ filter (λ other. is_interface source other.frame.interface) seen) (filter (λ other. is_interface source other.frame.interface) seen)))
+        go true rest =
+            let facts = frame_facts settings one.frame in
+            before_both least (mentioned settings one) (mentions_in source seen)
+            (before_one (length (frames_in from)) (length (frames_in one.before)) (one.frame.moment / 10) facts facts.pair earlier.0.1) rest
+        go false rest = rest
+
+  mentions_both : (source : Val) (one other : List Seen) → mentions_in source (one ++ other) ≡ mentions_in source one ++ mentions_in source other
+  mentions_both source one other =
+      ap (flat_map (mentioned settings)) (filter-append (λ (seen : Seen). is_interface source seen.frame.interface) one other)
+      ∙ flat_map-append (mentioned settings) (filter (λ seen. is_interface source seen.frame.interface) one) (filter (λ seen. is_interface source seen.frame.interface) other)
+
+  module _ (from journal : Journal) (row : ℕ) where
+    abbrev early : List HostMention
+    early = mentions_of settings from row
+
+    abbrev now : List HostMention
+    now = mentions_of settings journal row
+
+    abbrev source_now : Val
+    source_now = control_set journal (row ∷ []) 2
+
+    abbrev seen_now : List Seen
+    seen_now = seen_since host_control no_rows journal (row ∷ [])
+
+    abbrev seen_then : List Seen
+    seen_then = seen_since host_control no_rows from (row ∷ [])
+
+    pub early_before : AllBefore (2 * length (frames_in from)) early
+    early_before = before_seen from (control_set from (row ∷ []) 2) seen_then (seen_earlier host_control (row ∷ []) from)
+
+    abbrev GoesNow : List HostMention → List HostMention → Type 0
+    GoesNow mentions later = Goes (2 * length (frames_in from)) early mentions later
+
+    by_seen : HasSeen from journal row → GoesNow now (mentions_after settings from journal row)
+    by_seen (seen_anew later) =
+        subst (λ (said : List HostMention). GoesNow now said) (sym (ap (mentions_in source_now) (all_after from seen_now later)))
+        (begins_anew now (from_seen from source_now seen_now later))
+    by_seen (seen_on later after_from same source) =
+        let said : List HostMention = mentions_in source_now later in
+        let all : now ≡ said ++ early =
+        ap (mentions_in source_now) same ∙ mentions_both source_now later seen_then ∙ ap (λ s. said ++ mentions_in s seen_then) source in
+        let those : filter (after from) seen_now ≡ later =
+        ap (filter (after from)) same ∙ filter-append (after from) later seen_then
+        ∙ (λ d. all_after from later after_from d ++ none_after from seen_then (seen_earlier host_control (row ∷ []) from) d) ∙ append-nil later in
+        subst (λ (mentions : List HostMention). GoesNow mentions (mentions_after settings from journal row)) (sym all)
+        (subst (λ (after_it : List HostMention). GoesNow (said ++ early) after_it) (sym (ap (mentions_in source_now) those))
+        (goes_on said (from_seen from source_now later after_from)))
+
+    -- the mentions go on from those at the earlier journal, or came all after it
+    pub mentions_go : IsLinked from journal row → GoesNow now (mentions_after settings from journal row)
+    mentions_go linked = by_seen linked.seen

@@ -1,0 +1,10 @@
+pub mod Columns
+pub mod Control
+pub mod ControlColumns
+pub mod Starts
+pub mod Reports
+pub mod HostTop
+pub mod Courses
+pub mod Shown
+pub mod Kept
+pub mod Ends
