@@ -126,7 +126,7 @@ impl<P: Collected> Unfired for Collecting<P> {
 impl<P: Collected> Unsampled for Collecting<P> {
     ghost use Rattle.rm_collect.specs.Sampled.{stands_sampled};
 
-    ghost begins = { λ s settings earlier moment alarm reading stands later. stands_sampled P.Columns.form P.collection P.laws settings earlier moment alarm reading later s stands };
+    ghost begins = { λ s settings earlier moment alarm reading stands later asked. stands_sampled P.Columns.form P.collection P.laws settings earlier moment alarm reading later s stands };
 }
 
 impl<P: Collected> NeverDue for Collecting<P> {

@@ -193,7 +193,7 @@ impl Unfired for Ether {
 impl Unsampled for Ether {
     ghost use Rattle.rm_ether.specs.Sampled.{ether_sampled};
 
-    ghost begins = { λ s settings earlier moment alarm reading stands later. ether_sampled settings earlier moment alarm reading s stands };
+    ghost begins = { λ s settings earlier moment alarm reading stands later asked. ether_sampled settings earlier moment alarm reading s stands };
 }
 
 impl NeverDue for Ether {

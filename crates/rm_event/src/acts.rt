@@ -22,7 +22,7 @@ impl Steps for Events {
 }
 
 impl Unsampled for Events {
-    ghost begins = { λ s settings earlier moment alarm reading stands later. (refl, begun s settings (samples moment alarm reading) earlier refl stands) };
+    ghost begins = { λ s settings earlier moment alarm reading stands later asked. (refl, begun s settings (samples moment alarm reading) earlier refl stands) };
 }
 
 impl NeverDue for Events {

@@ -21,7 +21,7 @@ pub trait Steps: Group {
     /// The group is in an act after a journal, of which it has taken these firings.
     ghost under_way: { Self → Counting → Act → Journal → List Fires → Type 0 };
 
-    /// A frame begins to pass, whose moment isn't below that of the last act. Fewer than `MOST_FRAMES` frames were given before.
+    /// A frame begins to pass, whose moment isn't below that of the last act, and at which the group may be asked. Fewer than `MOST_FRAMES` frames were given before.
     fn pass(&mut self, passing: &Passing<'_>)
         requires later { Self.Group.clock self.old ≤ passing.now.moment }
         requires room { Self.Group.frames self.old < MOST_FRAMES }
@@ -29,7 +29,7 @@ pub trait Steps: Group {
         ensures begins { (settings : Counting) (earlier : Journal) (frame : Frame)
             → IsOf settings frame passing.now.facts passing.now.octets.now passing.now.number passing.now.moment
             → Self.Group.stands self.old settings earlier → last_moment earlier ≤ passing.now.moment
-            → under_way self.new settings (passes frame) earlier [] }
+            → Self.Group.askable self.old passing.now.moment → under_way self.new settings (passes frame) earlier [] }
         ensures clock { Self.Group.clock self.new ≤ passing.now.moment }
         ensures frames { Self.Group.frames self.new ≤ Self.Group.frames self.old + 1 }
         ensures stocked { Self.Group.stocked self.old → Self.Group.stocked self.new };
@@ -50,7 +50,7 @@ pub trait Steps: Group {
 /// A group to which firings make no difference: once an act has begun, it stands for the journal with that act. What implements it is
 /// in `Steps` too.
 pub trait Unfired: Group {
-    /// Takes a frame that passes, whose moment isn't below that of the last act. Fewer than `MOST_FRAMES` frames were given before.
+    /// Takes a frame that passes, whose moment isn't below that of the last act, and at which the group may be asked. Fewer than `MOST_FRAMES` frames were given before.
     fn take_frame(&mut self, passing: &Passing<'_>)
         requires later { Self.Group.clock self.old ≤ passing.now.moment }
         requires room { Self.Group.frames self.old < MOST_FRAMES }
@@ -58,7 +58,7 @@ pub trait Unfired: Group {
         ensures stands { (settings : Counting) (earlier : Journal) (frame : Frame)
             → IsOf settings frame passing.now.facts passing.now.octets.now passing.now.number passing.now.moment
             → Self.Group.stands self.old settings earlier → last_moment earlier ≤ passing.now.moment
-            → Self.Group.stands self.new settings (passes frame ∷ earlier) }
+            → Self.Group.askable self.old passing.now.moment → Self.Group.stands self.new settings (passes frame ∷ earlier) }
         ensures clock { Self.Group.clock self.new ≤ passing.now.moment }
         ensures frames { Self.Group.frames self.new ≤ Self.Group.frames self.old + 1 }
         ensures stocked { Self.Group.stocked self.old → Self.Group.stocked self.new };
@@ -76,12 +76,13 @@ impl<G: Unfired> Steps for G {
     ghost ends = { λ s settings act earlier under. under };
 }
 
-/// A group in which the sample of an alarm begins without a call, where its moment isn't below that of the last act. What the sample
+/// A group in which the sample of an alarm begins without a call, where its moment isn't below that of the last act, and the group may
+/// be asked at it. What the sample
 /// reads and crosses makes no difference to it; the firings that come of it may.
 pub trait Unsampled: Steps {
     /// The sample has begun.
     ghost begins: { (s : Self) (settings : Counting) (earlier : Journal) (moment alarm : ℕ) (reading : Option ℤ)
-        → Self.Group.stands s settings earlier → last_moment earlier ≤ moment
+        → Self.Group.stands s settings earlier → last_moment earlier ≤ moment → Self.Group.askable s moment
         → Self.Steps.under_way s settings (samples moment alarm reading) earlier [] };
 }
 
@@ -90,7 +91,7 @@ impl Unfired for System {
 }
 
 impl Unsampled for System {
-    ghost begins = { λ s settings earlier moment alarm reading stands later. tt };
+    ghost begins = { λ s settings earlier moment alarm reading stands later asked. tt };
 }
 
 impl<G: Steps, H: Steps + Beside<G>> Steps for Both<G, H> {
@@ -112,10 +113,10 @@ impl<G: Steps, H: Steps + Beside<G>> Steps for Both<G, H> {
 }
 
 impl<G: Unsampled, H: Unsampled + Beside<G>> Unsampled for Both<G, H> {
-    ghost begins = { λ s settings earlier moment alarm reading stands later.
+    ghost begins = { λ s settings earlier moment alarm reading stands later asked.
         record {
-          first = G.begins s.first settings earlier moment alarm reading stands.first later;
-          second = H.begins s.second settings earlier moment alarm reading stands.second later;
+          first = G.begins s.first settings earlier moment alarm reading stands.first later asked.0;
+          second = H.begins s.second settings earlier moment alarm reading stands.second later asked.1;
           tied = stands.tied;
         } };
 }
@@ -127,7 +128,7 @@ pub fn pass_whole<G: Steps>(group: &mut G, passing: &Passing<'_>, firings: &[Fir
     requires length { passing.now.facts.length ≤ MOST_OCTETS }
     ensures stands { (settings : Counting) (earlier : Journal) (frame : Frame)
         → IsOf settings frame passing.now.facts passing.now.octets.now passing.now.number passing.now.moment
-        → G.stands group.old settings earlier → last_moment earlier ≤ passing.now.moment
+        → G.stands group.old settings earlier → last_moment earlier ≤ passing.now.moment → G.askable group.old passing.now.moment
         → firings.now ≡ act_fires settings (passes frame) earlier (fired settings earlier)
         → G.stands group.new settings (passes frame ∷ earlier) }
     ensures clock { G.clock group.new ≤ passing.now.moment }
@@ -141,7 +142,7 @@ pub fn pass_whole<G: Steps>(group: &mut G, passing: &Passing<'_>, firings: &[Fir
 /// A law: the sample of an alarm begins at a moment, in milliseconds. It does nothing.
 pub fn sample_begins<G: Unsampled>(group: &G, moment: u32)
     ensures { (settings : Counting) (earlier : Journal) (alarm : ℕ) (reading : Option ℤ)
-        → G.stands group.now settings earlier → last_moment earlier ≤ moment
+        → G.stands group.now settings earlier → last_moment earlier ≤ moment → G.askable group.now moment
         → G.under_way group.now settings (samples moment alarm reading) earlier [] }
 {}
 

@@ -66,10 +66,11 @@ pub trait Beside<G: Group>: Group {
             → Self.Group.reserves settings journal (A.bindings set.now) denied.index) }
         ensures within { IfErr result (λ denied. denied.index ≤ length (A.bindings set.now)) };
 
-    /// Begins a Set at a moment in milliseconds, for which it was made ready, and which the first group hasn't done yet. No memory
-    /// is taken.
+    /// Begins a Set at a moment in milliseconds, for which both groups were made ready, and which the first one hasn't done yet. No
+    /// memory is taken.
     fn begin<A: Assigns>(&mut self, first: &G, set: &A, now: u32)
         requires later { Self.Group.clock self.old ≤ now }
+        requires first_ready { G.prepared first.now now (A.bindings set.now) }
         requires ready { ready self.old first.now now (A.bindings set.now) }
         requires stocked { Self.Group.stocked self.old }
         ensures clock { Self.Group.clock self.new ≤ now }

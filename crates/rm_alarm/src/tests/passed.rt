@@ -172,7 +172,7 @@ impl Steps for Passed {
 }
 
 impl Unsampled for Passed {
-    ghost begins = { λ s settings earlier moment alarm reading is later. is };
+    ghost begins = { λ s settings earlier moment alarm reading is later asked. is };
 }
 
 fn identifier() -> Oid

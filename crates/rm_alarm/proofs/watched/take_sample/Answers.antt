@@ -11,7 +11,7 @@ pub returns-clause-under_way : goal.returns-clause-under_way
 returns-clause-under_way g c settings journal is later askable =
     let read = ap (option_map (λ reading. reading.value)) (reads g.G.Readable.sampleable (g.G.Readable.shown c.args.group.now.first c.args.moment) settings journal c.args.moment (c.shows.ensures settings journal is.first later askable) is.tied (variable_of journal c.args.index)) in
     record {
-      first = g.met.G.Unsampled.begins c.args.group.now.first settings journal c.args.moment c.args.index _ is.first later;
+      first = g.met.G.Unsampled.begins c.args.group.now.first settings journal c.args.moment c.args.index _ is.first later askable;
       second = record {
         stand = subst (λ (number : Option ℤ). Stands c.sample.new.self settings (samples c.args.moment c.args.index number ∷ journal)) read
             (c.sample.ensures.stands settings journal is.second.stand is.second.based);

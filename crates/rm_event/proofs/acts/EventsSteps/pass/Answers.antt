@@ -4,4 +4,4 @@ use Rattle.rm_event.specs.Acts.{begun}
 use Rattle.rm_event.proofs.acts.EventsSteps.pass.Goals as goal
 
 pub returns-clause-begins : goal.returns-clause-begins
-returns-clause-begins c settings earlier frame is stands later = (refl, begun c.args.self.now settings (passes frame) earlier refl stands)
+returns-clause-begins c settings earlier frame is stands later asked = (refl, begun c.args.self.now settings (passes frame) earlier refl stands)
