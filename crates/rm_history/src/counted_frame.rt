@@ -20,11 +20,11 @@ pub(crate) struct CountedFrame<'a> {
 impl Change<Run> for CountedFrame<'_> {
     ghost use Rattle.rm_history.specs.Runs.{IsReady, Counts};
 
-    ghost allows = { λ s run. IsReady s.moment run };
+    ghost allows = { λ s row run. IsReady s.moment run };
 
-    ghost makes = { λ s run new. Counts s.adding.facts.now s.moment run new };
+    ghost makes = { λ s row run new. Counts s.adding.facts.now s.moment run new };
 
-    fn change(&self, run: &mut Run) {
+    fn change(&self, _row: u32, run: &mut Run) {
         run.frame(&self.adding, self.moment);
     }
 }

@@ -20,11 +20,11 @@ pub(crate) struct CountedFrame<'a> {
 impl Change<MatrixTable> for CountedFrame<'_> {
     ghost use Rattle.rm_matrix.specs.Tables.{IsReady, Takes};
 
-    ghost allows = { λ s table. IsReady s.stamp s.moment table };
+    ghost allows = { λ s row table. IsReady s.stamp s.moment table };
 
-    ghost makes = { λ s table new. Takes s.facts.now s.stamp s.moment table new };
+    ghost makes = { λ s row table new. Takes s.facts.now s.stamp s.moment table new };
 
-    fn change(&self, table: &mut MatrixTable) {
+    fn change(&self, _row: u32, table: &mut MatrixTable) {
         table.take(self.facts, self.moment, self.stamp);
     }
 }

@@ -54,7 +54,7 @@ module _ {P : Type 0} where
     each_length (slot ∷ slots) (one ∷ more) h = ap suc (each_length slots more h.1)
 
   -- what may be changed of all may be of the one at a place
-  pub allowed_at : (allows : P → Type 0) (slots : List (Slot P)) (k : ℕ) (d : Slot P) → k < length slots → AreAllowed allows slots → IsAllowed allows (get_or slots k d)
+  pub allowed_at : (allows : ℕ → P → Type 0) (slots : List (Slot P)) (k : ℕ) (d : Slot P) → k < length slots → AreAllowed allows slots → IsAllowed allows (get_or slots k d)
   allowed_at allows [] k d lt h = absurd (omega (arith, lt))
   allowed_at allows (slot ∷ slots) zero d lt h = h.0
   allowed_at allows (slot ∷ slots) (suc k) d lt h = allowed_at allows slots k d (omega (arith, lt)) h.1
@@ -64,49 +64,52 @@ module _ {P : Type 0} where
   part_behind slot slots holder row = part_seen (cond (option_map_or (λ n. nat_eq n row) holder false) (Some slot) (find (is_of row) slots))
 
   -- each part of a row may be changed where the parts of all rows may
-  pub all_allowed : (allows : P → Type 0) (slots : List (Slot P)) → AreApart slots → ((row : ℕ) → Allowed allows (part_in slots row)) → AreAllowed allows slots
+  pub all_allowed : (allows : ℕ → P → Type 0) (slots : List (Slot P)) → AreApart slots → ((row : ℕ) → Allowed (allows row) (part_in slots row)) → AreAllowed allows slots
   all_allowed allows [] apart h = tt
   all_allowed allows (slot ∷ slots) apart h = (first, all_allowed allows slots apart.1 rest)
     where
-      first : (row : ℕ) → slot.row ≡ Some row → allows slot.part
+      first : (row : ℕ) → slot.row ≡ Some row → allows row slot.part
       first row is =
-          let at : Allowed allows (part_behind slot slots (Some row) row) = subst (λ (o : Option ℕ). Allowed allows (part_behind slot slots o row)) is (h row) in
-          subst (λ t. Allowed allows (part_seen (cond t (Some slot) (find (is_of row) slots)))) (eq_itself row) at
+          let at : Allowed (allows row) (part_behind slot slots (Some row) row) = subst (λ (o : Option ℕ). Allowed (allows row) (part_behind slot slots o row)) is (h row) in
+          subst (λ t. Allowed (allows row) (part_seen (cond t (Some slot) (find (is_of row) slots)))) (eq_itself row) at
 
       -- a row that has a part behind the first one has no other
-      behind : (holder : Option ℕ) (row : ℕ) → IsApart slots holder → Allowed allows (part_behind slot slots holder row) → Allowed allows (part_in slots row)
+      behind : (holder : Option ℕ) (row : ℕ) → IsApart slots holder → Allowed (allows row) (part_behind slot slots holder row) → Allowed (allows row) (part_in slots row)
       behind None row k a = a
-      behind (Some held) row k a = elim (nat_eq held row) as (λ t. nat_eq held row ≡ t → Allowed allows (part_seen (cond t (Some slot) (find (is_of row) slots))) → Allowed allows (part_in slots row)) [
-        | true ↦ λ e _. subst (Allowed allows) (sym (not_there (part_in slots row) (subst (λ n. has_part slots n ≡ false) (eq_is held row e) k.1))) tt
+      behind (Some held) row k a = elim (nat_eq held row) as (λ t. nat_eq held row ≡ t → Allowed (allows row) (part_seen (cond t (Some slot) (find (is_of row) slots))) → Allowed (allows row) (part_in slots row)) [
+        | true ↦ λ e _. subst (Allowed (allows row)) (sym (not_there (part_in slots row) (subst (λ n. has_part slots n ≡ false) (eq_is held row e) k.1))) tt
         | false ↦ λ _ b. b
       ] refl a
 
-      rest : (row : ℕ) → Allowed allows (part_in slots row)
+      rest : (row : ℕ) → Allowed (allows row) (part_in slots row)
       rest row = behind slot.row row apart.0 (h row)
 
-  module _ (makes : P → P → Type 0) where
-    still_there : (o new : Option P) → Became makes o new → is_some new ≡ is_some o
-    still_there None None b = refl
-    still_there None (Some new) b = absurd b
-    still_there (Some part) None b = absurd b
-    still_there (Some part) (Some new) b = refl
+  still_there : (makes : P → P → Type 0) (o new : Option P) → Became makes o new → is_some new ≡ is_some o
+  still_there makes None None b = refl
+  still_there makes None (Some new) b = absurd b
+  still_there makes (Some part) None b = absurd b
+  still_there makes (Some part) (Some new) b = refl
 
-    pub each_became : (slots new : List (Slot P)) → EachBecomes (SlotBecomes makes) slots new → (row : ℕ) → Became makes (part_in slots row) (part_in new row)
+  module _ (makes : ℕ → P → P → Type 0) where
+    pub each_became : (slots new : List (Slot P)) → EachBecomes (SlotBecomes makes) slots new → (row : ℕ) → Became (makes row) (part_in slots row) (part_in new row)
     each_became [] [] h row = tt
     each_became [] (one ∷ more) h row = absurd h
     each_became (slot ∷ slots) [] h row = absurd h
     each_became (slot ∷ slots) (one ∷ more) h row =
-        subst (λ (o : Option ℕ). Became makes (part_in (slot ∷ slots) row) (part_seen (cond (option_map_or (λ n. nat_eq n row) o false) (Some one) (find (is_of row) more)))) (sym h.0.0)
+        subst (λ (o : Option ℕ). Became (makes row) (part_in (slot ∷ slots) row) (part_seen (cond (option_map_or (λ n. nat_eq n row) o false) (Some one) (find (is_of row) more)))) (sym h.0.0)
         (by_holder (each_became slots more h.1 row) slot.row h.0.1)
       where
-        by_holder : Became makes (part_in slots row) (part_in more row) → (holder : Option ℕ) → PartBecomes makes holder slot.part one.part
-            → Became makes (part_seen (cond (option_map_or (λ n. nat_eq n row) holder false) (Some slot) (find (is_of row) slots))) (part_seen (cond (option_map_or (λ n. nat_eq n row) holder false) (Some one) (find (is_of row) more)))
+        by_holder : Became (makes row) (part_in slots row) (part_in more row) → (holder : Option ℕ) → PartBecomes makes holder slot.part one.part
+            → Became (makes row) (part_seen (cond (option_map_or (λ n. nat_eq n row) holder false) (Some slot) (find (is_of row) slots))) (part_seen (cond (option_map_or (λ n. nat_eq n row) holder false) (Some one) (find (is_of row) more)))
         by_holder rest None b = rest
-        by_holder rest (Some held) b = elim (nat_eq held row) as (λ t. Became makes (part_seen (cond t (Some slot) (find (is_of row) slots))) (part_seen (cond t (Some one) (find (is_of row) more)))) [ true ↦ b | false ↦ rest ]
+        by_holder rest (Some held) b = elim (nat_eq held row) as (λ t. nat_eq held row ≡ t → Became (makes row) (part_seen (cond t (Some slot) (find (is_of row) slots))) (part_seen (cond t (Some one) (find (is_of row) more)))) [
+          | true ↦ λ e. subst (λ n. makes n slot.part one.part) (eq_is held row e) b
+          | false ↦ λ _. rest
+        ] refl
 
     pub each_apart : (slots new : List (Slot P)) → EachBecomes (SlotBecomes makes) slots new → AreApart slots → AreApart new
     each_apart [] [] h apart = tt
     each_apart [] (one ∷ more) h apart = absurd h
     each_apart (slot ∷ slots) [] h apart = absurd h
     each_apart (slot ∷ slots) (one ∷ more) h apart =
-        (subst (IsApart more) (sym h.0.0) (apart_still slots more (λ row. still_there (part_in slots row) (part_in more row) (each_became slots more h.1 row)) slot.row apart.0), each_apart slots more h.1 apart.1)
+        (subst (IsApart more) (sym h.0.0) (apart_still slots more (λ row. still_there (makes row) (part_in slots row) (part_in more row) (each_became slots more h.1 row)) slot.row apart.0), each_apart slots more h.1 apart.1)

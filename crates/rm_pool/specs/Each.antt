@@ -3,12 +3,12 @@ use Rattle.std.specs.Prelude.{◌≡◌, ℕ, List, [], ◌∷◌, Option, Some,
 use Rattle.rm_pool.specs.declared.slot.Slot.{Slot}
 
 module _ {P : Type 0} where
-  -- a part of a row is related so to what it was, and a spare one isn't changed
-  abbrev pub PartBecomes : (P → P → Type 0) → Option ℕ → P → P → Type 0
+  -- a part of a row is related so to what it was, by the row's number, and a spare one isn't changed
+  abbrev pub PartBecomes : (ℕ → P → P → Type 0) → Option ℕ → P → P → Type 0
   PartBecomes makes None part new = new ≡ part
-  PartBecomes makes (Some row) part new = makes part new
+  PartBecomes makes (Some row) part new = makes row part new
 
-  abbrev pub SlotBecomes : (P → P → Type 0) → Slot P → Slot P → Type 0
+  abbrev pub SlotBecomes : (ℕ → P → P → Type 0) → Slot P → Slot P → Type 0
   SlotBecomes makes slot new = (new.row ≡ slot.row) × PartBecomes makes slot.row slot.part new.part
 
   -- each part became another
@@ -19,9 +19,9 @@ module _ {P : Type 0} where
   EachBecomes becomes (slot ∷ slots) [] = ⊥
 
   -- a part may be changed, unless it is spare
-  abbrev pub IsAllowed : (P → Type 0) → Slot P → Type 0
-  IsAllowed allows slot = (row : ℕ) → slot.row ≡ Some row → allows slot.part
+  abbrev pub IsAllowed : (ℕ → P → Type 0) → Slot P → Type 0
+  IsAllowed allows slot = (row : ℕ) → slot.row ≡ Some row → allows row slot.part
 
-  abbrev pub AreAllowed : (P → Type 0) → List (Slot P) → Type 0
+  abbrev pub AreAllowed : (ℕ → P → Type 0) → List (Slot P) → Type 0
   AreAllowed allows [] = Unit {0}
   AreAllowed allows (slot ∷ slots) = IsAllowed allows slot × AreAllowed allows slots

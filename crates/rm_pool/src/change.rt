@@ -8,25 +8,25 @@ use crate::part::Part;
 use crate::pool::Pool;
 use crate::slot::Slot;
 
-/// A change that the part of each row undergoes.
+/// A change that the part of each row undergoes, by the row's number.
 pub trait Change<P> {
     /// A part may be changed.
-    ghost allows: { Self → P → Type 0 };
+    ghost allows: { Self → ℕ → P → Type 0 };
 
     /// What becomes of a part.
-    ghost makes: { Self → P → P → Type 0 };
+    ghost makes: { Self → ℕ → P → P → Type 0 };
 
-    /// Changes a part.
-    fn change(&self, part: &mut P)
-        requires { allows self.now part.old }
-        ensures { makes self.now part.old part.new };
+    /// Changes the part of a row.
+    fn change(&self, row: u32, part: &mut P)
+        requires { allows self.now row part.old }
+        ensures { makes self.now row part.old part.new };
 }
 
 impl<P: Part> Pool<P> {
     /// Changes the part of each row. No row gets one or loses its own.
     pub fn change_each<V: Change<P>>(&mut self, how: &V)
-        requires { (row : ℕ) → Allowed (V.allows how.now) (part_in self.old row) }
-        ensures parts { (row : ℕ) → Became (V.makes how.now) (part_in self.old row) (part_in self.new row) }
+        requires { (row : ℕ) → Allowed (V.allows how.now row) (part_in self.old row) }
+        ensures parts { (row : ℕ) → Became (V.makes how.now row) (part_in self.old row) (part_in self.new row) }
         ensures size { length self.new ≡ length self.old }
     {
         change_all(&mut self.slots, how);
@@ -58,7 +58,7 @@ fn change_one<P: Part, V: Change<P>>(slot: &mut Slot<P>, how: &V)
     requires { IsAllowed (V.allows how.now) slot.old }
     ensures { SlotBecomes (V.makes how.now) slot.old slot.new }
 {
-    if slot.row.is_some() {
-        how.change(&mut slot.part);
+    if let Some(row) = slot.row {
+        how.change(row, &mut slot.part);
     }
 }

@@ -41,11 +41,11 @@ struct SetTo {
 impl Change<Tally> for SetTo {
     ghost use Rattle.std.specs.Prelude.{◌≡◌};
 
-    ghost allows = { λ s part. Unit {0} };
+    ghost allows = { λ s row part. Unit {0} };
 
-    ghost makes = { λ s part new. new.count ≡ s.count };
+    ghost makes = { λ s row part new. new.count ≡ s.count };
 
-    fn change(&self, part: &mut Tally) {
+    fn change(&self, _row: u32, part: &mut Tally) {
         part.count = self.count;
     }
 }

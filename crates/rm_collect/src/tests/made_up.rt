@@ -124,11 +124,11 @@ impl Change<Tally> for OneMore<'_> {
     ghost use Rattle.rm_group.specs.declared.bounds.TheConstants.{MOST_FRAMES};
     ghost use Rattle.rm_collect.specs.MadeUp.{Tallies};
 
-    ghost allows = { λ s tallied. tallied.count < MOST_FRAMES };
+    ghost allows = { λ s row tallied. tallied.count < MOST_FRAMES };
 
-    ghost makes = { λ s tallied new. Tallies s.facts.now tallied new };
+    ghost makes = { λ s row tallied new. Tallies s.facts.now tallied new };
 
-    fn change(&self, tally: &mut Tally) {
+    fn change(&self, _row: u32, tally: &mut Tally) {
         if tally.source == self.facts.interface {
             tally.count += 1;
         }

@@ -17,7 +17,7 @@ invariant_of-self g c = each_apart (g.V.Change.makes c.args.how.now) (kept c.sel
 pub returns-clause-parts : goal.returns-clause-parts
 returns-clause-parts g c = λ row.
     let makes = g.V.Change.makes c.args.how.now in
-    subst (λ (l : List (Slot g.row.P.Denot)). Became makes (part_in l row) (part_in (kept c.change_all.new.slots) row)) c.self.view_is
+    subst (λ (l : List (Slot g.row.P.Denot)). Became (makes row) (part_in l row) (part_in (kept c.change_all.new.slots) row)) c.self.view_is
     (each_became makes (kept c.self.inside.slots) (kept c.change_all.new.slots) c.change_all.ensures row)
 
 pub returns-clause-size : goal.returns-clause-size
