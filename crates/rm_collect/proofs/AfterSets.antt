@@ -1,15 +1,15 @@
 -- The rows of a control table, and what they have collected, after a Set with which nothing is wrong.
-use Rattle.std.proofs.Common.{◌≡◌, ℕ, ◌≤◌, List, [], ◌∷◌, Bool, true, false, cond, Option, Some, None, refl, sym, ◌∙◌, ap, subst}
+use Rattle.std.proofs.Common.{◌≡◌, ℕ, ◌<◌, ◌≤◌, List, [], ◌∷◌, length, Bool, true, false, cond, ◌&&◌, Option, Some, None, inl, inr, refl, sym, ◌∙◌, ap, subst}
 use Rattle.std.specs.Prelude.{is_some}
 use Rattle.std.specs.Option.{option_and_then}
 use Rattle.std.proofs.lemmas.Bool.{and_from, and_left}
 use Rattle.rm_val.specs.Val.{Val}
 use Rattle.rm_model.specs.Alike.{HasSameColumns}
 use Rattle.rm_model.specs.Counting.{Counting}
-use Rattle.rm_model.specs.Journal.{Assignments, Journal, assigns, last_moment}
+use Rattle.rm_model.specs.Journal.{Assignments, Journal, assigns, last_moment, value_given}
 use Rattle.rm_model.specs.ControlTable.{row_index}
-use Rattle.rm_model.specs.ControlRows.{no_rows, set_ask, next_state, is_absent, is_valid, state_of, set_value, stays_valid, activated}
-use Rattle.rm_model.specs.Judgement.{Bindings}
+use Rattle.rm_model.specs.ControlRows.{no_rows, cell_name, value_ask, set_ask, next_state, is_absent, is_valid, state_of, set_value, stays_valid, activated}
+use Rattle.rm_model.specs.Judgement.{Bindings, second_pass}
 use Rattle.rm_model.specs.declared.row.State.TheVariants.{Absent, Valid}
 use Rattle.rm_acts.specs.Seen.{with_act, seen_since}
 use Rattle.rm_columns.specs.RowForm.{RowForm}
@@ -18,17 +18,58 @@ use Rattle.rm_status.specs.Rows.{row_in, rows_before, state_seen, columns_seen, 
 use Rattle.rm_status.specs.RowsAfter.{AreRowsAfter}
 use Rattle.rm_status.proofs.RowFacts.{valid_is, valid_there}
 use Rattle.rm_status.proofs.RowsBefore.{state_before, set_before_at}
-use Rattle.rm_status.proofs.RowsAfterLemmas.{since_starts, frames_kept, is_after}
+use Rattle.rm_status.proofs.RowsAfterLemmas.{since_starts, frames_kept}
 use Rattle.rm_status.proofs.Committed.{IsCommitted, rows_committed}
 use Rattle.rm_status.proofs.RowsThen.{column_stays}
 use Rattle.rm_pool.specs.declared.slot.Slot.{Slot}
 use Rattle.rm_pool.specs.Slots.{part_in, has_part}
 use Rattle.rm_pool.specs.Pools.{valid_in, IsOfValid, IsThere, Allowed}
-use Rattle.rm_collect.specs.Rows.{IsFresh, GoesOn, IsKept}
+use Rattle.rm_collect.specs.Rows.{IsFresh, GoesOn, GoesOnOrSawNone, IsKept}
 use Rattle.rm_collect.specs.Collection.{Collection, IsLawful}
 use Rattle.rm_collect.specs.Begun.{if_valid, valid_columns, IsBegun, Begins}
 use Rattle.rm_collect.specs.WellHeld.{AllFit}
 use Rattle.rm_collect.proofs.Becoming.{fit_later}
+
+-- A row goes on that is valid before a Set with which nothing is wrong, and after it. One that isn't both has seen no frame after it.
+module _ {C : Type 0} (form : RowForm C) (journal : Journal) (now : ℕ) (later : last_moment journal ≤ now) (bs : Bindings) (values : Assignments)
+    (gives : (name : List ℕ) → value_given values name ≡ value_given bs name)
+    (rows : List (Row C)) (together : (k : ℕ) → k < length bs → second_pass form.table (rows_before form.table form.set_to rows) bs k ≡ None)
+    (stood : AreRowsAfter form.table no_rows form.set_to rows journal) (i : ℕ) where
+  abbrev place : List ℕ
+  place = row_index form.table i
+
+  abbrev after : Journal
+  after = assigns now values ∷ journal
+
+  asked : is_valid (state_of form.table no_rows journal place) ≡ true → is_valid (state_of form.table no_rows after place) ≡ true → is_valid (next_state (set_ask form.table bs place) Valid) ≡ true
+  asked old still =
+      ap (λ s. is_valid (next_state (set_ask form.table bs place) s)) (sym (valid_is (state_of form.table no_rows journal place) old))
+      ∙ ap (λ o. is_valid (next_state (value_ask form.table.status_kind o) (state_of form.table no_rows journal place))) (sym (gives (cell_name form.table.entry form.table.status place)))
+      ∙ still
+
+  pub goes_on_by : is_valid (state_of form.table no_rows journal place) ≡ true → is_valid (state_of form.table no_rows after place) ≡ true → GoesOn form.table i journal after
+  goes_on_by old still =
+      let stays : stays_valid form.table no_rows (assigns now values) journal place ≡ true = and_from (is_valid (state_of form.table no_rows journal place)) (is_valid (state_of form.table no_rows after place)) old still in
+      record {
+        set = λ column status fixed. column_stays form.table no_rows form.set_to journal now bs values gives rows together stood i column status fixed old (asked old still);
+        started = ap (λ t. cond t (activated form.table no_rows journal place) (cond (is_valid (state_of form.table no_rows after place)) now 0)) stays;
+        frames = frames_kept form.table no_rows now values journal place stays;
+        seen = ap (λ t. cond t (seen_since form.table no_rows journal place) []) stays;
+        moment = later;
+      }
+
+  pub goes_on_or_saw_none : GoesOnOrSawNone form.table i journal after
+  goes_on_or_saw_none = by_states (is_valid (state_of form.table no_rows journal place)) (is_valid (state_of form.table no_rows after place)) refl refl
+    where
+      none : (before then : Bool) → is_valid (state_of form.table no_rows journal place) ≡ before → is_valid (state_of form.table no_rows after place) ≡ then → (before && then) ≡ false
+          → seen_since form.table no_rows after place ≡ []
+      none before then old still gone = ap (λ t. cond t (seen_since form.table no_rows journal place) []) (ap (λ b. b && is_valid (state_of form.table no_rows after place)) old ∙ ap (λ t. before && t) still ∙ gone)
+
+      by_states : (before then : Bool) → is_valid (state_of form.table no_rows journal place) ≡ before → is_valid (state_of form.table no_rows after place) ≡ then → GoesOnOrSawNone form.table i journal after
+      by_states true true old still = inl (goes_on_by old still)
+      by_states true false old still = inr (none true false old still refl)
+      by_states false true old still = inr (none false true old still refl)
+      by_states false false old still = inr (none false false old still refl)
 
 module _ {C : Type 0} (form : RowForm C) (journal : Journal) (now : ℕ) (bs : Bindings) (values : Assignments) (rows new : List (Row C)) (set : IsCommitted form no_rows journal values bs rows new) where
   abbrev with_set : Journal
@@ -49,27 +90,8 @@ module _ {C : Type 0} (form : RowForm C) (journal : Journal) (now : ℕ) (bs : B
       pub valid_now : state_of form.table no_rows with_set index ≡ Valid
       valid_now = valid_is (state_of form.table no_rows with_set index) (ap is_valid (sym new_state) ∙ valid)
 
-      stays : stays_valid form.table no_rows (assigns now values) journal index ≡ true
-      stays = and_from (is_valid (state_of form.table no_rows journal index)) (is_valid (state_of form.table no_rows with_set index)) old (ap is_valid valid_now)
-
-      was_valid : state_in rows i ≡ Valid
-      was_valid = sym (state_before form.table form.set_to rows i) ∙ set.stood.alike.states i ∙ valid_is (state_of form.table no_rows journal index) old
-
-      next_is : (o p : Option (Row C)) → row_in rows i ≡ o → row_in new i ≡ p → is_valid (next_state (set_ask form.table bs index) Valid) ≡ true
-      next_is o None e k = let no : is_valid Absent ≡ true = ap (λ x. is_valid (state_seen x)) (sym k) ∙ valid in absurd (cc)
-      next_is o (Some row) e k =
-          let next = is_after form.table form.with_column form.blank bs i (row_in rows i) row (sym (set.after i) ∙ k) in
-          ap (λ s. is_valid (next_state (set_ask form.table bs index) s)) (sym was_valid) ∙ sym (ap is_valid next.0) ∙ ap (λ x. is_valid (state_seen x)) (sym k) ∙ valid
-
       pub goes_on : GoesOn form.table i journal with_set
-      goes_on = record {
-        set = λ column status fixed.
-            column_stays form.table no_rows form.set_to journal now bs values set.gives rows set.together set.stood i column status fixed old (next_is (row_in rows i) (row_in new i) refl refl);
-        started = ap (λ t. cond t (activated form.table no_rows journal index) (cond (is_valid (state_of form.table no_rows with_set index)) now 0)) stays;
-        frames = frames_kept form.table no_rows now values journal index stays;
-        seen = ap (λ t. cond t (seen_since form.table no_rows journal index) []) stays;
-        moment = later;
-      }
+      goes_on = goes_on_by form journal now later bs values set.gives rows set.together set.stood i old (ap is_valid valid_now)
 
     -- a row that becomes valid
     module _ (idle : is_valid (state_of form.table no_rows journal index) ≡ false) (row : Row C) (here : row_in new i ≡ Some row) (valid : is_valid row.state ≡ true) where

@@ -1,5 +1,5 @@
 -- The rows of a control table whose valid rows collect what frames bring, each in storage of its own.
-use Rattle.std.specs.Prelude.{◌≡◌, ℕ, ◌≤◌, [], false, nat_eq, Option, Some, None}
+use Rattle.std.specs.Prelude.{◌≡◌, ◌⊎◌, ℕ, ◌≤◌, [], false, nat_eq, Option, Some, None}
 use Rattle.rm_model.specs.Alike.{HasSameColumns}
 use Rattle.rm_model.specs.Counting.{Counting}
 use Rattle.rm_model.specs.Journal.{Journal, frames_in, last_moment}
@@ -26,6 +26,10 @@ pub record GoesOn (table : ControlTable) (row : ℕ) (earlier later : Journal) :
   pub frames : frames_in (since table no_rows later (row_index table row)) ≡ frames_in (since table no_rows earlier (row_index table row))
   pub seen : seen_since table no_rows later (row_index table row) ≡ seen_since table no_rows earlier (row_index table row)
   pub moment : last_moment earlier ≤ last_moment later
+
+-- over an act a row goes on, or has seen no frame after it
+abbrev pub GoesOnOrSawNone : (table : ControlTable) → (row : ℕ) → (earlier later : Journal) → Type 0
+GoesOnOrSawNone table row earlier later = GoesOn table row earlier later ⊎ (seen_since table no_rows later (row_index table row) ≡ [])
 
 -- What is kept of a row is what it has collected after a journal. Nothing is kept exactly of a row that isn't valid.
 abbrev pub IsKept : {P : Type 0} → ControlTable → (Counting → Journal → (row : ℕ) → P → Type 0) → Counting → Journal → (row : ℕ) → Option P → Type 0

@@ -57,7 +57,7 @@ module _ (table : ControlTable) (unsampled : table.is_sampled ≡ false) (journa
       by_test true e = refl
       by_test false e = sym (never_seen table index journal e)
 
-  goes_on : last_moment journal ≤ moment → (row : ℕ) → GoesOn table row journal after
+  pub goes_on : last_moment journal ≤ moment → (row : ℕ) → GoesOn table row journal after
   goes_on later row = record {
     set = λ column status fixed. refl;
     started = same_start (row_index table row);

@@ -2,6 +2,7 @@
 ghost use Rattle.std.specs.Prelude.{◌≡◌, ℕ, ◌≤◌, List, ◌∷◌};
 ghost use Rattle.rm_model.specs.Counting.{Counting};
 ghost use Rattle.rm_model.specs.Journal.{Assignments, Journal, assigns, last_moment, value_given};
+ghost use Rattle.rm_collect.specs.Rows.{GoesOnOrSawNone};
 ghost use Rattle.rm_collect.specs.Group.{Stands, IsPrepared, IsReleased, IsStocked, frames_given, last_given};
 
 use crate::collected::Collected;
@@ -32,6 +33,16 @@ impl<P: Collected> Collecting<P> {
         self.parts.follow(&table.rows, table);
         self.give_back();
     }
+
+    /// A law: over a Set at a moment in milliseconds, for which all was made ready, each row goes on, or has seen no frame after it. It
+    /// does nothing.
+    pub fn goes_on<A: Assigns>(&self, set: &A, now: u32)
+        requires ready { IsPrepared P.Columns.form P.collection self.now (A.bindings set.now) }
+        ensures { (settings : Counting) (journal : Journal) (values : Assignments) → Stands P.Columns.form P.collection self.now settings journal
+            → last_moment journal ≤ now
+            → ((name : List ℕ) → value_given values name ≡ value_given (A.bindings set.now) name)
+            → (row : ℕ) → GoesOnOrSawNone P.Columns.form.table row journal (assigns now values ∷ journal) }
+    {}
 
     /// Gives storage back that no valid row needs, but for that of one row. No variable changes.
     pub(crate) fn give_back(&mut self)
