@@ -1,6 +1,6 @@
 -- What a row shows of its report, by what is kept.
-use Rattle.std.specs.Prelude.{◌≡◌, ℕ, ◌+◌, ◌*◌, length, Bool, true, false, nat_le, is_some, if◌then◌else◌, Option, Some, None, refl}
-use Rattle.std.specs.Option.{option_map_or}
+use Rattle.std.specs.Prelude.{◌≡◌, ℕ, ◌+◌, ◌*◌, length, Bool, true, false, ◌&&◌, nat_le, is_some, if◌then◌else◌, Option, None, refl}
+use Rattle.std.specs.Option.{option_map, option_map_or}
 use Rattle.rm_report.specs.declared.ranked.Ranked.{Ranked}
 use Rattle.rm_report.specs.Ranking.{ranked_at}
 use Rattle.rm_topn.specs.declared.course.Course.{Course}
@@ -8,12 +8,18 @@ use Rattle.rm_topn.specs.declared.course.Run.{Run}
 
 -- when a report ends that began
 abbrev pub end_at : Run → ℕ
-end_at run = run.begun + 1000 * run.seconds
+end_at run = run.begun + 1000 * run.plan.seconds
 
 -- the same once it has ended
-abbrev pub ended_run : Option Run → Option Run
-ended_run None = None
-ended_run (Some run) = Some (record run { runs = false })
+abbrev pub ended_run : Run → Run
+ended_run run = record run { runs = false }
+
+-- whether one should end by a moment, and what it is then
+abbrev pub is_due : (moment : ℕ) → Run → Bool
+is_due moment run = run.runs && nat_le (end_at run) moment
+
+abbrev pub run_by : (moment : ℕ) → Option Run → Option Run
+run_by moment run = option_map (λ r. if is_due moment r then ended_run r else r) run
 
 -- whether one began that has ended by a moment
 abbrev pub has_ended : Course → (now : ℕ) → Bool

@@ -11,7 +11,7 @@ use rm_report::RateBase;
 use rm_val::{Oid, Value};
 
 /// The status column of hostTopNControl.
-pub const STATUS: u32 = 10;
+pub(crate) const STATUS: u32 = 10;
 
 /// How many octets an owner has at most.
 const MOST_OWNER: usize = 127;
@@ -39,7 +39,7 @@ const TABLE: ControlSheet = ControlSheet {
 
 /// The columns of a row of hostTopNControl that can be set (RFC 1757, section 5).
 #[derive(Drop)]
-pub struct ControlColumns {
+pub(crate) struct ControlColumns {
     /// hostTopNHostIndex, 1 to 65535, if it was set: the row of hostControl whose hosts are reported.
     pub host_index: Option<i32>,
     /// hostTopNRateBase: the counter by which they are compared.

@@ -1,35 +1,35 @@
 // What a row keeps of its reports.
-ghost use Rattle.std.specs.Prelude.{◌≡◌, ◌<◌, ◌≤◌, ◌∷◌, ℕ, true, false};
+ghost use Rattle.std.specs.Prelude.{◌≡◌, ◌<◌, ◌≤◌, ◌∷◌, ℕ, ℤ, true, false, nat_lt, Option};
 ghost use Rattle.std.specs.Option.{option_copied};
 ghost use Rattle.rm_keyed.specs.declared.keyed.TheConstants.{MOST_ROWS};
 ghost use Rattle.rm_model.specs.Counting.{Counting};
-ghost use Rattle.rm_model.specs.Journal.{Assignments, Frame, Journal, assigns, last_moment, passes};
+ghost use Rattle.rm_model.specs.Journal.{Assignments, Frame, Journal, assigns, samples, last_moment, passes};
 ghost use Rattle.rm_model.specs.ControlRows.{is_valid};
-ghost use Rattle.rm_collect.specs.Rows.{IsKept};
-ghost use Rattle.rm_hosts.specs.Control.{host_control};
-ghost use Rattle.rm_hosts.specs.Tables.{IsTable};
 ghost use Rattle.rm_report.specs.Measured.{IsMeasured};
-ghost use Rattle.rm_topn.specs.declared.course.Run.{Run as Ran};
-ghost use Rattle.rm_topn.specs.Control.{control_state, host_row, rate_base, seconds_set, size_granted};
-ghost use Rattle.rm_topn.specs.Kept.{DoHostsGoOn, HasEndedBy, IsAskable, IsCourse};
+ghost use Rattle.rm_topn.specs.Control.{control_state};
+ghost use Rattle.rm_topn.specs.Kept.{DoHostsGoOn, DoHostsStand, HasEndedBy, IsAskable, IsCourse};
+ghost use Rattle.rm_topn.specs.Changes.{BeginsNext, EndsBy};
+ghost use Rattle.rm_topn.specs.Plans.{IsPlan};
 ghost use Rattle.rm_topn.specs.Reports.{duration, host_shown, start_time, time_remaining};
 ghost use Rattle.rm_topn.specs.Starts.{is_start, last_start};
-ghost use Rattle.rm_topn.specs.Courses.{count_shown, end_at, ended_run, has_ended, shown_in};
+ghost use Rattle.rm_topn.specs.Times.{duration_kept, start_kept, time_kept};
+ghost use Rattle.rm_topn.specs.Courses.{count_shown, end_at, ended_run, has_ended, is_due, shown_in};
 
-use rm_hosts::HostTable;
+use crate::plan::Plan;
+use rm_hosts::Hosts;
 use rm_nested::NumberedPart;
 use rm_pool::Part;
-use rm_report::{Ranked, RateBase, Report};
+use rm_report::{Ranked, Report};
 use rm_val::NoMemory;
 use std::alloc::Global;
 
 /// A report that began.
 #[derive(Clone, Copy, Debug)]
-pub struct Run {
+pub(crate) struct Run {
+    /// What was asked of it.
+    pub plan: Plan,
     /// When it began, in milliseconds.
     pub begun: u32,
-    /// For how many seconds it runs.
-    pub seconds: u32,
     /// Whether it hasn't ended yet.
     pub runs: bool,
 }
@@ -39,15 +39,24 @@ impl Run {
     pub fn end(&self) -> u64
         ensures { result ≡ end_at self.now }
     {
-        u64::from(self.begun) + 1000 * u64::from(self.seconds)
+        u64::from(self.begun) + 1000 * u64::from(self.plan.seconds)
+    }
+
+    // Whether it should end by a moment in milliseconds.
+    fn is_due(&self, moment: u32) -> bool
+        ensures { result ≡ is_due moment self.now }
+    {
+        self.runs && self.end() <= u64::from(moment)
     }
 }
 
 /// What a valid row of hostTopNControl keeps of its reports.
 #[derive(Drop)]
-pub struct Course {
+pub(crate) struct Course {
     /// The last report that began since the row became valid, if one did.
     pub run: Option<Run>,
+    /// The report that begins once the hosts have done the Set that is under way, if one does.
+    pub next: Option<Plan>,
     /// Its storage.
     pub report: Report,
 }
@@ -55,46 +64,78 @@ pub struct Course {
 impl Part for Course {
     fn spare(alloc: Global) -> Result<Course, NoMemory> {
         let report = Report::spare(alloc)?;
-        Ok(Course { run: None, report })
+        Ok(Course {
+            run: None,
+            next: None,
+            report,
+        })
     }
 }
 
 impl Course {
-    /// The row has become valid, and no report begins.
-    pub fn idle(&mut self)
-        ensures { (settings : Counting) (journal : Journal) (row : ℕ) → last_start row journal ≡ None → IsCourse settings journal row self.new }
+    /// The row has become valid. No report has begun, and this one begins next, if there is one.
+    pub fn idle(&mut self, next: Option<Plan>)
+        ensures course { (settings : Counting) (journal : Journal) (row : ℕ) → last_start row journal ≡ None → IsCourse settings journal row self.new }
+        ensures run { self.new.run ≡ None }
+        ensures next { self.new.next ≡ next }
     {
         self.run = None;
+        self.next = next;
     }
 
-    /// A report begins at a moment in milliseconds, which runs for so many seconds and compares that counter of the hosts of a table, if
-    /// there is one. The hosts that were shown go.
-    pub fn begin(&mut self, hosts: Option<&HostTable>, base: RateBase, begun: u32, seconds: u32)
-        ensures { (settings : Counting) (journal : Journal) (row : ℕ) → last_start row journal ≡ Some journal → base ≡ rate_base journal row
-            → begun ≡ last_moment journal → seconds ≡ seconds_set journal row
-            → IsKept host_control IsTable settings journal (host_row journal row) (option_copied hosts.entry) → IsCourse settings journal row self.new }
+    /// A report begins that was asked for so, at a moment in milliseconds: a copy of the counters of the hosts of its row is taken, and
+    /// the hosts that were shown go.
+    pub fn begin(&mut self, hosts: &Hosts, plan: Plan, begun: u32)
+        ensures course { (settings : Counting) (journal : Journal) (row : ℕ) → last_start row journal ≡ Some journal → IsPlan plan journal row
+            → last_moment journal ≡ begun → DoHostsStand hosts.now settings journal → IsCourse settings journal row self.new }
+        ensures run { self.new.run ≡ Some (record { plan = plan; begun = begun; runs = nat_lt 0 plan.seconds }) }
+        ensures next { self.new.next ≡ self.old.next }
     {
-        self.report.begin(hosts, base);
+        self.report.begin(hosts.part(plan.host), plan.base);
         self.run = Some(Run {
+            plan,
             begun,
-            seconds,
-            runs: seconds > 0,
+            runs: plan.seconds > 0,
         });
     }
 
-    /// The report that runs ends: the hosts of the table, if there is one, are kept that gained most by that counter, so many at most.
-    pub fn end(&mut self, hosts: Option<&HostTable>, base: RateBase, most: u32)
-        ensures run { self.new.run ≡ ended_run self.old.run }
-        ensures kept { (settings : Counting) (from journal : Journal) (row : ℕ) (run : Ran) → last_start row journal ≡ Some from
-            → self.old.run ≡ Some run → run.runs ≡ true → last_moment journal < end_at run → IsMeasured settings journal
-            → base ≡ rate_base from row → most ≡ size_granted from row
-            → IsKept host_control IsTable settings journal (host_row from row) (option_copied hosts.entry)
-            → IsCourse settings journal row self.old → IsCourse settings journal row self.new }
+    /// The report that is to begin begins at a moment in milliseconds, once the hosts have done the Set. Nothing happens where none is to.
+    pub fn begin_next(&mut self, hosts: &Hosts, now: u32)
+        ensures { BeginsNext hosts.now now self.old self.new }
     {
-        self.report.end(hosts, base, most);
-        if let Some(run) = &mut self.run {
-            run.runs = false;
+        if let Some(plan) = self.next.take() {
+            self.begin(hosts, plan, now);
         }
+    }
+
+    /// The report that runs ends, where it is due by a moment in milliseconds: the hosts are kept that gained most.
+    pub fn end_by(&mut self, hosts: &Hosts, moment: u32)
+        ensures { EndsBy hosts.now moment self.old self.new }
+    {
+        if let Some(run) = &self.run {
+            if run.is_due(moment) {
+                let ended = *run;
+                self.end(hosts, &ended);
+            }
+        }
+    }
+
+    // The report that runs ends: the hosts of its row are kept that gained most.
+    fn end(&mut self, hosts: &Hosts, run: &Run)
+        requires it { self.old.run ≡ Some run.now }
+        requires runs { run.now.runs ≡ true }
+        ensures run { self.new.run ≡ Some (ended_run run.now) }
+        ensures next { self.new.next ≡ self.old.next }
+        ensures course { (settings : Counting) (journal : Journal) (row : ℕ) → last_moment journal < end_at run.now → IsMeasured settings journal
+            → DoHostsStand hosts.now settings journal → IsCourse settings journal row self.old → IsCourse settings journal row self.new }
+    {
+        let plan = run.plan;
+        self.report.end(hosts.part(plan.host), plan.base, plan.most);
+        self.run = Some(Run {
+            plan,
+            begun: run.begun,
+            runs: false,
+        });
     }
 
     /// The host that is shown at a place, from 1, at a moment in milliseconds, with its rate. None where there is none: while the report
@@ -113,17 +154,19 @@ impl Course {
 
     /// For how many seconds the last report that began runs; 0 where none did.
     pub fn duration(&self) -> u32
-        ensures { (settings : Counting) (journal : Journal) (row : ℕ) → IsCourse settings journal row self.now → result ≡ duration journal row }
+        ensures value { result ≡ duration_kept self.now }
+        ensures defined { (settings : Counting) (journal : Journal) (row : ℕ) → IsCourse settings journal row self.now → result ≡ duration journal row }
     {
         match &self.run {
-            Some(run) => run.seconds,
+            Some(run) => run.plan.seconds,
             None => 0,
         }
     }
 
     /// When it began, in hundredths of a second; 0 where none did.
     pub fn start_time(&self) -> u32
-        ensures { (settings : Counting) (journal : Journal) (row : ℕ) → IsCourse settings journal row self.now → result ≡ start_time journal row }
+        ensures value { result ≡ start_kept self.now }
+        ensures defined { (settings : Counting) (journal : Journal) (row : ℕ) → IsCourse settings journal row self.now → result ≡ start_time journal row }
     {
         match &self.run {
             Some(run) => run.begun / 10,
@@ -133,11 +176,13 @@ impl Course {
 
     /// How many seconds of it are left at a moment in milliseconds; 0 where none began.
     pub fn time_remaining(&self, now: u32) -> u32
-        ensures { (settings : Counting) (journal : Journal) (row : ℕ) → IsCourse settings journal row self.now
+        ensures value { result ≡ time_kept self.now now }
+        ensures defined { (settings : Counting) (journal : Journal) (row : ℕ) → IsCourse settings journal row self.now
             → is_valid (control_state journal row) ≡ true → result ≡ time_remaining journal row now }
     {
         match &self.run {
             Some(run) => run
+                .plan
                 .seconds
                 .saturating_sub(now.saturating_sub(run.begun) / 1000),
             None => 0,
@@ -158,6 +203,12 @@ impl Course {
             → is_valid (control_state (assigns moment values ∷ journal) row) ≡ true → is_start row (assigns moment values) journal ≡ false
             → DoHostsGoOn journal (assigns moment values ∷ journal)
             → IsCourse settings journal row self.now → IsCourse settings (assigns moment values ∷ journal) row self.now }
+    {}
+
+    /// A law: what is kept of a row stays so by the sample of an alarm at a moment in milliseconds. It does nothing.
+    pub fn sample_passes(&self, moment: u32)
+        ensures { (settings : Counting) (journal : Journal) (row alarm : ℕ) (reading : Option ℤ) → last_moment journal ≤ moment
+            → IsCourse settings journal row self.now → IsCourse settings (samples moment alarm reading ∷ journal) row self.now }
     {}
 
     // Whether a report began that has ended by a moment in milliseconds.

@@ -1,14 +1,20 @@
 //! Reports of the hosts that gained most: hostTopNControlTable and hostTopNTable (RFC 1757, section 5).
 #![tactic(auto)]
 
+mod acts;
+mod asking;
+mod assigning;
+mod beside;
 mod control_columns;
 mod course;
-mod ends;
+mod ending;
+mod group;
+mod keeping;
+mod plan;
+mod reports;
+mod shown;
 #[cfg(test)]
 mod tests;
 mod top_rows;
 
-pub use control_columns::{ControlColumns, STATUS};
-pub use course::{Course, Run};
-pub use ends::{ENDS, next_end};
-pub use top_rows::TopRows;
+pub use reports::Reports;

@@ -22,7 +22,7 @@ pub(crate) const REPORT_OBJECTS: TableObjects = TableObjects {
 
 /// The hosts that the rows of hostTopNControl report.
 #[derive(Clone, Copy, Drop)]
-pub struct TopRows<'a> {
+pub(crate) struct TopRows<'a> {
     /// What the rows keep.
     pub courses: &'a Pool<Course>,
 }
