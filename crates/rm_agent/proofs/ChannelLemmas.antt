@@ -31,6 +31,10 @@ use Rattle.rm_matrix.specs.Control.{control_entry as matrix_control_entry}
 use Rattle.rm_matrix.specs.SourceDestination.{source_entry}
 use Rattle.rm_matrix.specs.DestinationSource.{destination_entry}
 use Rattle.rm_matrix.specs.Collection.{matrix_collection, matrix_tables}
+use Rattle.rm_topn.specs.Columns.{control_columns as top_control_columns, report_columns}
+use Rattle.rm_topn.specs.Control.{control_entry as top_control_entry}
+use Rattle.rm_topn.specs.Group.{top_tables}
+use Rattle.rm_topn.specs.HostTop.{report_entry}
 use Rattle.rm_collectors.specs.Group.{collected_objects}
 use Rattle.rm_event.specs.Columns.{event_columns, log_columns}
 use Rattle.rm_event.specs.EventTable.{event_entry}
@@ -68,15 +72,17 @@ not_channel name =
     by_either (is_listed system_tables name) _ (under_others system_tables (λ n. of_another_entry system_entry system_columns n (λ column. refl), tt) name)
     (by_either (is_listed event_tables name) _
     (under_others event_tables (λ n. of_another_entry event_entry event_columns n (λ column. refl), (λ n. of_another_entry log_entry log_columns n (λ column. refl), tt)) name)
-    (by_either (is_listed ether_tables name || (is_listed history_tables name || (is_listed host_tables name || is_listed matrix_tables name))) _
+    (by_either (is_listed ether_tables name || (is_listed history_tables name || ((is_listed host_tables name || is_listed top_tables name) || is_listed matrix_tables name))) _
     (by_either (is_listed ether_tables name) _ (under_others ether_tables (λ n. of_another_entry ether_entry ether_columns n (λ column. refl), tt) name)
     (by_either (is_listed history_tables name) _
     (under_others history_tables (λ n. of_another_entry control_entry control_columns n (λ column. refl), (λ n. of_another_entry sample_entry sample_columns n (λ column. refl), tt)) name)
+    (by_either (is_listed host_tables name || is_listed top_tables name) _
     (by_either (is_listed host_tables name) _
     (under_others host_tables (
       λ n. of_another_entry hosts_control_entry hosts_control_columns n (λ column. refl),
       (λ n. of_another_entry host_entry host_columns n (λ column. refl), (λ n. of_another_entry time_entry host_columns n (λ column. refl), tt)),
     ) name)
+    (under_others top_tables (λ n. of_another_entry top_control_entry top_control_columns n (λ column. refl), (λ n. of_another_entry report_entry report_columns n (λ column. refl), tt)) name))
     (under_others matrix_tables (
       λ n. of_another_entry matrix_control_entry matrix_control_columns n (λ column. refl),
       (λ n. of_another_entry source_entry pair_columns n (λ column. refl), (λ n. of_another_entry destination_entry pair_columns n (λ column. refl), tt)),

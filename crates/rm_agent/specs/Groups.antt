@@ -31,7 +31,7 @@ abbrev pub together : Settings → Journal → ℕ → Bindings → ℕ → Opti
 together settings = all_groups.together (counting_by settings)
 
 -- After a journal there may be no memory for the row that the binding with that number, from 1, makes valid: it is one of
--- eventTable, of historyControl, of hostControl or of matrixControl, and not the only valid one of its table.
+-- eventTable, of historyControl, of hostControl, of hostTopNControl or of matrixControl, and not the only valid one of its table.
 abbrev pub Reserves : Journal → Bindings → ℕ → Type 0
 Reserves = all_groups.reserves
 
@@ -56,10 +56,11 @@ clock_of = all_groups.clock
 abbrev pub frames_of : Groups → ℕ
 frames_of = all_groups.frames
 
--- something of the groups falls due next, and a bound of how many are left to take up to a moment, in milliseconds
-abbrev pub FallsDueOf : Groups → Due → Type 0
-FallsDueOf = all_groups.falls_due
+-- they may be asked at a moment in milliseconds: the reports of hosts have ended that are due by then
+abbrev pub AreAskable : Groups → ℕ → Type 0
+AreAskable = all_groups.askable
 
+-- a bound of how many samples are left to take up to a moment, in milliseconds
 abbrev pub left_of : Groups → ℕ → ℕ
 left_of = all_groups.left
 

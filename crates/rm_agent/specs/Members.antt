@@ -1,5 +1,5 @@
--- The groups of objects that the agent answers for: the system group, the events, etherStats, the history, the hosts, the matrix, and
--- the alarms that sample variables of these four. What holds of a group is a record; two groups are one, and their record is made of both.
+-- The groups of objects that the agent answers for: the system group, the events, etherStats, the history, the hosts with their reports,
+-- the matrix, and the alarms that sample variables of these but for the first two. What holds of a group is a record; two groups are one, and their record is made of both.
 use Rattle.std.specs.Prelude.{◌||◌, ◌⊎◌, ℕ, ◌+◌, List, Bool, max, Option, None}
 use Rattle.std.specs.Option.{option_or}
 use Rattle.rm_val.specs.Val.{Val}
@@ -16,17 +16,16 @@ use Rattle.rm_group.specs.Listed.{is_listed}
 use Rattle.rm_group.specs.System.{system_entry, system_columns, system_tables, system_table}
 use Rattle.rm_acts.specs.Recurring.{Sampleable}
 use Rattle.rm_group.specs.Both.{StandAsOne}
-use Rattle.rm_group.specs.declared.due.Due.{Due}
 use Rattle.rm_group.specs.declared.both.Both.{Both}
 use Rattle.rm_group.specs.declared.system.System.{System}
 use Rattle.rm_ether.specs.EtherStats.{ether_stats, ether_beginning, ether_table}
 use Rattle.rm_ether.specs.Group.{Stands as EtherStands, frames_given as ether_frames, last_given as ether_last, ether_tables, ether_alone}
 use Rattle.rm_ether.specs.declared.ether.Ether.{Ether}
-use Rattle.rm_collectors.specs.Group.{Stands as CollectorsStand, IsStocked as AreCollectorsStocked, frames_given as collectors_frames, last_given as collectors_last, collected_cells, collected_objects, collected_alone, collected_together, CollectedReserves}
+use Rattle.rm_collectors.specs.Group.{Stands as CollectorsStand, IsAskable as AreCollectorsAskable, IsStocked as AreCollectorsStocked, frames_given as collectors_frames, last_given as collectors_last, collected_cells, collected_objects, collected_alone, collected_together, CollectedReserves}
 use Rattle.rm_collectors.specs.declared.collectors.Collectors.{Collectors}
 use Rattle.rm_alarm.specs.AlarmTable.{alarms_table}
 use Rattle.rm_alarm.specs.Group.{alarm_tables, alarm_alone, alarm_together}
-use Rattle.rm_alarm.specs.Left.{IsSampleDue, samples_left}
+use Rattle.rm_alarm.specs.Left.{samples_left}
 use Rattle.rm_alarm.specs.Standing.{AreWhole}
 use Rattle.rm_alarm.specs.Watched.{ReadsFrom}
 use Rattle.rm_alarm.specs.declared.alarms.Alarms.{Alarms}
@@ -71,9 +70,7 @@ pub record OfObjects (Keeps : Type 0) : Type 1 where
   pub stocked : Keeps → Type 0
   -- its variables that have a value, at a moment in milliseconds
   pub cells : Counting → Journal → ℕ → Cells
-  -- something falls due next
-  pub falls_due : Keeps → Due → Type 0
-  -- a bound of how many are left to take up to a moment, in milliseconds
+  -- a bound of how many of those that fall due are left to take up to a moment, in milliseconds
   pub left : Keeps → ℕ → ℕ
   -- whether a name begins with the identifier of one of its objects
   pub objects : List ℕ → Bool
@@ -93,7 +90,6 @@ both one other = record {
   askable = λ keeps moment. one.askable keeps.first moment × other.askable keeps.second moment;
   frames = λ keeps. max (one.frames keeps.first) (other.frames keeps.second);
   stocked = λ keeps. one.stocked keeps.first × other.stocked keeps.second;
-  falls_due = λ keeps due. one.falls_due keeps.first due ⊎ other.falls_due keeps.second due;
   left = λ keeps latest. one.left keeps.first latest + other.left keeps.second latest;
   cells = λ settings journal now name. option_or (one.cells settings journal now name) (other.cells settings journal now name);
   objects = λ name. one.objects name || other.objects name;
@@ -110,7 +106,6 @@ system = record {
   askable = λ keeps moment. Unit {0};
   frames = λ keeps. 0;
   stocked = λ keeps. Unit {0};
-  falls_due = λ keeps due. ⊥;
   left = λ keeps latest. 0;
   cells = λ settings journal now. cells_of (system_table now);
   objects = is_listed system_tables;
@@ -127,7 +122,6 @@ events = record {
   askable = λ keeps moment. Unit {0};
   frames = λ keeps. 0;
   stocked = IsEventStocked;
-  falls_due = λ keeps due. ⊥;
   left = λ keeps latest. 0;
   cells = λ settings journal now. event_cells settings journal;
   objects = is_listed event_tables;
@@ -144,7 +138,6 @@ ether = record {
   askable = λ keeps moment. Unit {0};
   frames = ether_frames;
   stocked = λ keeps. Unit {0};
-  falls_due = λ keeps due. ⊥;
   left = λ keeps latest. 0;
   cells = λ settings journal now. cells_of (ether_table settings journal);
   objects = is_listed ether_tables;
@@ -153,16 +146,15 @@ ether = record {
   reserves = λ journal bindings index. ⊥;
 }
 
--- the history, the hosts and the matrix, whose control rows collect what frames bring
+-- the history, the hosts with their reports, and the matrix, whose control rows collect what frames bring
 abbrev pub collectors : OfObjects Collectors
 collectors = record {
   stands = CollectorsStand;
   tied = λ settings. Unit {0};
   clock = collectors_last;
-  askable = λ keeps moment. Unit {0};
+  askable = AreCollectorsAskable;
   frames = collectors_frames;
   stocked = AreCollectorsStocked;
-  falls_due = λ keeps due. ⊥;
   left = λ keeps latest. 0;
   cells = collected_cells;
   objects = collected_objects;
@@ -180,7 +172,6 @@ alarms sampleable = record {
   askable = λ keeps moment. Unit {0};
   frames = λ keeps. 0;
   stocked = λ keeps. Unit {0};
-  falls_due = IsSampleDue;
   left = samples_left;
   cells = λ settings journal now. cells_of (alarms_table settings journal);
   objects = is_listed alarm_tables;

@@ -5,6 +5,6 @@ use Rattle.rm_model.specs.Journal.{Journal}
 use Rattle.rm_model.specs.Cells.{Cells}
 use Rattle.rm_agent.specs.Members.{sources}
 
--- those of etherStats, of the history, of the hosts and of the matrix
+-- those of etherStats, of the history, of the hosts, of their reports and of the matrix
 abbrev pub watched_cells : Counting → Journal → ℕ → Cells
 watched_cells = sources.cells

@@ -4,10 +4,10 @@ ghost use Rattle.std.specs.Option.{option_map};
 ghost use Rattle.rm_agent.specs.Groups.{AreStocked, clock_of, frames_of, sample_in};
 
 use crate::answer::{Answer, Reason};
-use crate::groups::{Groups, all_groups, next_due};
+use crate::groups::{Groups, all_groups, end_by, next_due, pass};
 use crate::notification::notification;
 use crate::sampling::take;
-use rm_group::{Due, MOST_FRAMES, Passing, pass_whole};
+use rm_group::{Due, MOST_FRAMES, Passing};
 use rm_pcap::Frame;
 use rm_pdu::{Places, read_message};
 use rm_proto::facts;
@@ -19,7 +19,8 @@ use std::alloc::Global;
 // How many request-ids notifications have: they are numbers of 31 bits.
 const REQUEST_IDS: u32 = 0x8000_0000;
 
-/// The agent: what it was set to, and the groups of objects that it answers for.
+/// The agent: what it was set to, and the groups of objects that it answers for. A report of hosts ends before what comes next at its end
+/// or later: no act tells of it, and nothing is sent.
 #[derive(Drop)]
 pub struct Agent {
     settings: Settings,
@@ -82,8 +83,7 @@ impl Agent {
             number: frame.number,
             moment: frame.moment,
         };
-        // Frames fire by channels, and the agent has none.
-        pass_whole(&mut *self.groups, &passing, &[]);
+        pass(&mut self.groups, &passing);
         self.last = frame.moment;
         self.frames += 1;
     }
@@ -123,6 +123,7 @@ impl Agent {
             message,
             bindings,
         };
+        end_by(&mut self.groups, now);
         let draft = respond(&mut *self.groups, alloc, &request, may_write, now);
         Answer::Reply(draft.finish(out))
     }

@@ -1,21 +1,23 @@
 // The groups of objects that the agent answers for. Only here is it said how they stand in one another.
-ghost use Rattle.std.specs.Prelude.{◌≡◌, ℕ, ◌≤◌, ◌<◌, [], ◌∷◌, Some, IfOk, OnOk};
+ghost use Rattle.std.specs.Prelude.{◌≡◌, ℕ, ◌+◌, ◌≤◌, ◌<◌, max, [], ◌∷◌, Some, IfOk, OnOk};
 ghost use Rattle.rm_model.specs.Counting.{Counting};
-ghost use Rattle.rm_model.specs.Journal.{Act, Journal, samples, moment_of, last_moment};
+ghost use Rattle.rm_model.specs.Journal.{Act, Frame, Journal, passes, samples, moment_of, last_moment};
+ghost use Rattle.rm_group.specs.Passing.{IsOf};
+ghost use Rattle.rm_group.specs.declared.bounds.TheConstants.{MOST_FRAMES, MOST_OCTETS};
 ghost use Rattle.rm_acts.specs.Alarms.{due_of, IsNextDue, sampled};
 ghost use Rattle.rm_acts.specs.Fired.{act_fires, fired};
 ghost use Rattle.rm_alarm.specs.Group.{due_in};
 ghost use Rattle.rm_alarm.specs.Watched.{number_read};
 ghost use Rattle.rm_agent.specs.Members.{alarms_of, events_of, sources, watched};
 ghost use Rattle.rm_agent.specs.Known.{counting_by};
-ghost use Rattle.rm_agent.specs.Groups.{GroupsStand, AreUnderWay, AreStocked, clock_of, frames_of, left_of, sample_in};
+ghost use Rattle.rm_agent.specs.Groups.{GroupsStand, AreAskable, AreUnderWay, AreStocked, clock_of, frames_of, left_of, sample_in};
 
 use rm_acts::Firing;
 use rm_alarm::{Alarms, Sampled, Watched, reads_cells, take_sample};
 use rm_collectors::Collectors;
 use rm_ether::Ether;
 use rm_event::Events;
-use rm_group::{Both, Due, FallsDue, System, sample_begins, take_whole};
+use rm_group::{Both, Due, FallsDue, Passing, System, pass_whole, sample_begins, take_whole};
 use rm_settings::Settings;
 use rm_val::NoMemory;
 use std::alloc::Global;
@@ -119,14 +121,45 @@ pub(crate) fn next_due(groups: &Groups) -> Option<Due>
     groups.second.second.second.next_due()
 }
 
-/// Takes the sample of an alarm that is due at a moment, in milliseconds, and tells what it comes to. All groups are then in that
-/// act, and its firings are to be taken.
+/// Ends the reports of hosts that are due up to a moment, in milliseconds: the groups may then be asked at it.
+pub(crate) fn end_by(groups: &mut Groups, moment: u32)
+    ensures stands { (settings : Counting) (journal : Journal) → GroupsStand groups.old settings journal → GroupsStand groups.new settings journal }
+    ensures askable { AreAskable groups.new moment }
+    ensures clock { clock_of groups.new ≤ max (clock_of groups.old) moment }
+    ensures frames { frames_of groups.new ≡ frames_of groups.old }
+    ensures stocked { AreStocked groups.old → AreStocked groups.new }
+    ensures events { events_of groups.new ≡ events_of groups.old }
+    ensures alarms { alarms_of groups.new ≡ alarms_of groups.old }
+    ensures left { (latest : ℕ) → left_of groups.new latest ≡ left_of groups.old latest }
+{
+    groups.second.second.first.second.end_by(moment);
+}
+
+/// A frame passes, once the reports of hosts have ended that are due by its moment. Frames fire by channels, and the agent has none.
+pub(crate) fn pass(groups: &mut Groups, passing: &Passing<'_>)
+    requires later { clock_of groups.old ≤ passing.now.moment }
+    requires room { frames_of groups.old < MOST_FRAMES }
+    requires length { passing.now.facts.length ≤ MOST_OCTETS }
+    ensures stands { (settings : Counting) (earlier : Journal) (frame : Frame)
+        → IsOf settings frame passing.now.facts passing.now.octets.now passing.now.number passing.now.moment
+        → GroupsStand groups.old settings earlier → last_moment earlier ≤ passing.now.moment
+        → [] ≡ act_fires settings (passes frame) earlier (fired settings earlier) → GroupsStand groups.new settings (passes frame ∷ earlier) }
+    ensures clock { clock_of groups.new ≤ passing.now.moment }
+    ensures frames { frames_of groups.new ≤ frames_of groups.old + 1 }
+    ensures stocked { AreStocked groups.old → AreStocked groups.new }
+{
+    end_by(groups, passing.moment);
+    pass_whole(groups, passing, &[]);
+}
+
+/// Takes the sample of an alarm that is due at a moment, in milliseconds, at which the groups may be asked, and tells what it comes to.
+/// All groups are then in that act, and its firings are to be taken.
 pub(crate) fn sample(groups: &mut Groups, index: u32, moment: u32) -> Sampled
     requires { due_in (alarms_of groups.old) index ≡ Some moment }
     ensures under_way { (settings : Counting) (journal : Journal) → GroupsStand groups.old settings journal → last_moment journal ≤ moment
-        → AreUnderWay groups.new settings (samples moment index (number_read settings journal moment index)) journal }
+        → AreAskable groups.old moment → AreUnderWay groups.new settings (samples moment index (number_read settings journal moment index)) journal }
     ensures result { (settings : Counting) (journal : Journal) → GroupsStand groups.old settings journal → last_moment journal ≤ moment
-        → result ≡ sampled settings journal moment index (number_read settings journal moment index) }
+        → AreAskable groups.old moment → result ≡ sampled settings journal moment index (number_read settings journal moment index) }
     ensures events { events_of groups.new ≡ events_of groups.old }
     ensures clock { clock_of groups.new ≡ clock_of groups.old }
     ensures frames { frames_of groups.new ≡ frames_of groups.old }

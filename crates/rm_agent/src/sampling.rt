@@ -1,5 +1,5 @@
 // The samples of alarms, and their firings.
-ghost use Rattle.std.specs.Prelude.{◌≡◌, ℕ, ◌≤◌, ◌<◌, [], ◌∷◌, true, Some, is_some};
+ghost use Rattle.std.specs.Prelude.{◌≡◌, ℕ, ◌≤◌, ◌<◌, max, [], ◌∷◌, true, Some, is_some};
 ghost use Rattle.rm_val.specs.Val.{int};
 ghost use Rattle.rm_val.specs.Contents.{natural_in};
 ghost use Rattle.rm_model.specs.Counting.{Counting};
@@ -15,7 +15,7 @@ ghost use Rattle.rm_agent.specs.Groups.{GroupsStand, AreUnderWay, AreStocked, cl
 ghost use Rattle.rm_agent.specs.Notifications.{trap_of};
 ghost use Rattle.rm_agent.specs.Told.{IsTaken, firings_by};
 
-use crate::groups::{Groups, alarms, events, sample, take_each};
+use crate::groups::{Groups, alarms, end_by, events, sample, take_each};
 use rm_acts::Firing;
 use rm_alarm::{Alarms, Sampled};
 use rm_columns::natural_in;
@@ -30,17 +30,19 @@ pub(crate) struct Taken {
     pub fired: Fired,
 }
 
-/// Takes the sample of an alarm that is due at a moment, in milliseconds, and its firing. An event without a valid row doesn't fire.
+/// Takes the sample of an alarm that is due at a moment, in milliseconds, and its firing, once the reports of hosts have ended that are due
+/// by then. An event without a valid row doesn't fire.
 pub(crate) fn take(groups: &mut Groups, index: u32, moment: u32) -> Taken
     requires { due_in (alarms_of groups.old) index ≡ Some moment }
     ensures taken { (settings : Counting) (journal : Journal) → GroupsStand groups.old settings journal → last_moment journal ≤ moment
         → due_of journal index ≡ Some moment → IsTaken settings journal moment index groups.new result }
-    ensures clock { clock_of groups.new ≡ clock_of groups.old }
+    ensures clock { clock_of groups.new ≤ max (clock_of groups.old) moment }
     ensures frames { frames_of groups.new ≡ frames_of groups.old }
     ensures stocked { AreStocked groups.old → AreStocked groups.new }
     ensures fewer { (latest : ℕ) → moment ≤ latest
         → left_of groups.new latest < left_of groups.old latest }
 {
+    end_by(groups, moment);
     let comes = sample(groups, index, moment);
     let event = event_asked(alarms(groups), index, comes);
     let fired = events(groups).becomes(event);

@@ -1,4 +1,4 @@
--- The control tables whose valid rows collect, as one group: the history, the hosts and the matrix. Where more than one had a variable of
+-- The control tables whose valid rows collect, as one group: the history, the hosts, their reports and the matrix. Where more than one had a variable of
 -- a name, or found something wrong with a binding, the first one's would count.
 use Rattle.std.specs.Prelude.{◌≡◌, ◌||◌, ◌⊎◌, ℕ, List, Bool, max, Option}
 use Rattle.std.specs.Option.{option_or}
@@ -19,6 +19,13 @@ use Rattle.rm_history.specs.ControlColumns.{control_rows as history_rows}
 use Rattle.rm_history.specs.Collection.{history_collection}
 use Rattle.rm_hosts.specs.ControlColumns.{control_rows as host_rows}
 use Rattle.rm_hosts.specs.Collection.{host_collection}
+use Rattle.rm_topn.specs.Control.{top_control}
+use Rattle.rm_topn.specs.Group.{top_alone, top_tables, AreFine as AreReportsFine, IsPrepared as AreReportsPrepared, IsStocked as AreReportsStocked, IsReleased as AreReportsReleased}
+use Rattle.rm_topn.specs.Held.{AreAskable}
+use Rattle.rm_topn.specs.HostTop.{top_cells}
+use Rattle.rm_topn.specs.Shown.{cells_kept}
+use Rattle.rm_topn.specs.Standing.{Stands as ReportsStand}
+use Rattle.rm_topn.specs.declared.reports.Reports.{Reports}
 use Rattle.rm_matrix.specs.ControlColumns.{control_rows as matrix_rows}
 use Rattle.rm_matrix.specs.Collection.{matrix_collection}
 use Rattle.rm_collectors.specs.declared.collectors.Collectors.{Collectors}
@@ -28,59 +35,67 @@ pub record IsSetTo (settings : Settings) (counting : Counting) : Type 0 where
   pub hosts : counting.hosts ≡ settings.hosts
   pub pairs : counting.pairs ≡ settings.pairs
 
--- It stands for a journal where each of the three does.
+-- the reports of hosts that are held
+abbrev pub reports_of : Collectors → Reports
+reports_of held = held.groups.second.first.second
+
+-- It stands for a journal where each of the four does.
 unfoldable pub Stands : Collectors → Counting → Journal → Type 0
 Stands held settings journal =
     StandAsOne (HeldStands history_rows history_collection held.groups.first settings journal)
-    (StandAsOne (HeldStands host_rows host_collection held.groups.second.first settings journal)
+    (StandAsOne (StandAsOne (HeldStands host_rows host_collection held.groups.second.first.first settings journal) (ReportsStand (reports_of held) settings journal) (Unit {0}))
     (HeldStands matrix_rows matrix_collection held.groups.second.second settings journal) (Unit {0}))
     (Unit {0})
 
--- how many frames it was given, and the moment of the frame or the Set that it was given last, 0 before the first
+-- it may be asked at a moment where the reports that are due have ended, and the others may always be asked
+abbrev pub IsAskable : Collectors → (moment : ℕ) → Type 0
+IsAskable held moment = Unit {0} × ((Unit {0} × AreAskable (reports_of held).courses moment) × Unit {0})
+
+-- how many frames it was given, and the moment of the frame, the Set or the end of a report that it was given last, 0 before the first
 abbrev pub frames_given : Collectors → ℕ
-frames_given held = max (frames_of held.groups.first) (max (frames_of held.groups.second.first) (frames_of held.groups.second.second))
+frames_given held = max (frames_of held.groups.first) (max (max (frames_of held.groups.second.first.first) (reports_of held).frames) (frames_of held.groups.second.second))
 
 abbrev pub last_given : Collectors → ℕ
-last_given held = max (last_of held.groups.first) (max (last_of held.groups.second.first) (last_of held.groups.second.second))
+last_given held = max (last_of held.groups.first) (max (max (last_of held.groups.second.first.first) (reports_of held).last) (last_of held.groups.second.second))
 
 -- there is the storage of one row of each control table, whether it is spare or not
 abbrev pub IsStocked : Collectors → Type 0
 IsStocked held =
-    IsHeldStocked held.groups.first × (IsHeldStocked held.groups.second.first × IsHeldStocked held.groups.second.second)
+    IsHeldStocked held.groups.first × ((IsHeldStocked held.groups.second.first.first × AreReportsStocked (reports_of held)) × IsHeldStocked held.groups.second.second)
 
 -- the cells of all tables
 unfoldable pub collected_cells : Counting → Journal → (now : ℕ) → Cells
 collected_cells settings journal now name =
     option_or (history_collection.cells settings journal now name)
-    (option_or (host_collection.cells settings journal now name) (matrix_collection.cells settings journal now name))
+    (option_or (option_or (host_collection.cells settings journal now name) (top_cells settings journal now name)) (matrix_collection.cells settings journal now name))
 
 -- what all tables show at a moment, by what is held
 abbrev pub shown : Collectors → (now : ℕ) → Cells
 shown held now name =
     option_or (kept history_rows history_collection held.groups.first.rows held.groups.first.parts now name)
-    (option_or (kept host_rows host_collection held.groups.second.first.rows held.groups.second.first.parts now name)
+    (option_or (option_or (kept host_rows host_collection held.groups.second.first.first.rows held.groups.second.first.first.parts now name) (cells_kept (reports_of held).rows (reports_of held).courses now name))
     (kept matrix_rows matrix_collection held.groups.second.second.rows held.groups.second.second.parts now name))
 
 -- whether a name begins with the identifier of an object of one of the tables, and whether that can be set
 unfoldable pub collected_objects : List ℕ → Bool
 collected_objects name =
-    is_listed history_collection.tables name || (is_listed host_collection.tables name || is_listed matrix_collection.tables name)
+    is_listed history_collection.tables name || ((is_listed host_collection.tables name || is_listed top_tables name) || is_listed matrix_collection.tables name)
 
 unfoldable pub collected_settable : List ℕ → Bool
 collected_settable name =
-    is_settable history_rows.table name || (is_settable host_rows.table name || is_settable matrix_rows.table name)
+    is_settable history_rows.table name || ((is_settable host_rows.table name || is_settable top_control name) || is_settable matrix_rows.table name)
 
 -- what is wrong with a binding alone
 unfoldable pub collected_alone : List ℕ → Val → Option ErrorStatus
 collected_alone name value =
     option_or (alone history_rows history_collection name value)
-    (option_or (alone host_rows host_collection name value) (alone matrix_rows matrix_collection name value))
+    (option_or (option_or (alone host_rows host_collection name value) (top_alone name value)) (alone matrix_rows matrix_collection name value))
 
 -- what is wrong with the binding at a place together with the others of its row, after a journal
 unfoldable pub collected_together : Journal → Bindings → (place : ℕ) → Option ErrorStatus
 collected_together journal bindings place =
     option_or (second_pass history_rows.table (rows_after history_rows.table no_rows journal) bindings place)
-    (option_or (second_pass host_rows.table (rows_after host_rows.table no_rows journal) bindings place)
+    (option_or (option_or (second_pass host_rows.table (rows_after host_rows.table no_rows journal) bindings place) (second_pass top_control (rows_after top_control no_rows journal) bindings place))
     (second_pass matrix_rows.table (rows_after matrix_rows.table no_rows journal) bindings place))
 
 -- After a journal there may be no memory for the row that the binding with that number, from 1, makes valid: it isn't the only valid one
@@ -88,7 +103,7 @@ collected_together journal bindings place =
 unfoldable pub CollectedReserves : Journal → Bindings → (index : ℕ) → Type 0
 CollectedReserves journal bindings index =
     Reserves history_rows.table (rows_after history_rows.table no_rows journal) bindings index
-    ⊎ (Reserves host_rows.table (rows_after host_rows.table no_rows journal) bindings index
+    ⊎ ((Reserves host_rows.table (rows_after host_rows.table no_rows journal) bindings index ⊎ Reserves top_control (rows_after top_control no_rows journal) bindings index)
     ⊎ Reserves matrix_rows.table (rows_after matrix_rows.table no_rows journal) bindings index)
 
 -- both passes find nothing wrong with a Set, by the rows that are held; there is storage for each row that is valid after it, too; there
@@ -96,14 +111,14 @@ CollectedReserves journal bindings index =
 abbrev pub AreFine : Collectors → Bindings → Type 0
 AreFine held bindings =
     AreHeldFine history_rows history_collection held.groups.first bindings
-    × (AreHeldFine host_rows host_collection held.groups.second.first bindings × AreHeldFine matrix_rows matrix_collection held.groups.second.second bindings)
+    × ((AreHeldFine host_rows host_collection held.groups.second.first.first bindings × AreReportsFine (reports_of held) bindings) × AreHeldFine matrix_rows matrix_collection held.groups.second.second bindings)
 
 abbrev pub ArePrepared : Collectors → Bindings → Type 0
 ArePrepared held bindings =
     IsPrepared history_rows history_collection held.groups.first bindings
-    × (IsPrepared host_rows host_collection held.groups.second.first bindings × IsPrepared matrix_rows matrix_collection held.groups.second.second bindings)
+    × ((IsPrepared host_rows host_collection held.groups.second.first.first bindings × AreReportsPrepared (reports_of held) bindings) × IsPrepared matrix_rows matrix_collection held.groups.second.second bindings)
 
 abbrev pub AreReleased : Collectors → Type 0
 AreReleased held =
     IsReleased history_rows held.groups.first
-    × (IsReleased host_rows held.groups.second.first × IsReleased matrix_rows held.groups.second.second)
+    × ((IsReleased host_rows held.groups.second.first.first × AreReportsReleased (reports_of held)) × IsReleased matrix_rows held.groups.second.second)

@@ -1,13 +1,16 @@
--- The laws of the three tables as one group.
-use Rattle.std.specs.Prelude.{◌≤◌, ℕ, ◌∷◌, ◌||◌, Option, ℤ}
+-- The laws of the tables as one group.
+use Rattle.std.specs.Prelude.{◌≤◌, ℕ, [], ◌∷◌, ◌||◌, List, Bool, Option, ℤ, refl}
 use Rattle.std.specs.Option.{option_or}
 use Rattle.rm_model.specs.Counting.{Counting}
 use Rattle.rm_model.specs.Journal.{Journal, samples, last_moment}
+use Rattle.rm_val.specs.Val.{Val}
+use Rattle.rm_val.specs.declared.error.ErrorStatus.{ErrorStatus}
+use Rattle.rm_model.specs.Cells.{Cells, cells_of}
 use Rattle.rm_model.specs.Finite.{AreFinite}
 use Rattle.rm_model.proofs.Finite.{both_finite}
 use Rattle.rm_acts.specs.Recurring.{ReadBefore}
 use Rattle.rm_acts.proofs.ShownLaws.{both_before}
-use Rattle.rm_group.specs.Listed.{is_listed, is_settable, AreOfObjects, AreRefused, both_of_objects, both_refused}
+use Rattle.rm_group.specs.Listed.{is_listed, is_settable, AreOfObjects, AreRefused, beside_listed, both_of_objects, both_refused, of_table, with_table}
 use Rattle.rm_collect.specs.Collection.{alone}
 use Rattle.rm_collect.specs.Sampled.{stands_sampled}
 use Rattle.rm_history.specs.ControlColumns.{control_rows as history_rows}
@@ -16,58 +19,92 @@ use Rattle.rm_history.specs.Lawful.{history_lawful}
 use Rattle.rm_hosts.specs.ControlColumns.{control_rows as host_rows}
 use Rattle.rm_hosts.specs.Collection.{host_collection}
 use Rattle.rm_hosts.specs.Lawful.{host_lawful}
+use Rattle.rm_topn.specs.Columns.{control_columns as top_columns}
+use Rattle.rm_topn.specs.Control.{top_control}
+use Rattle.rm_topn.specs.Finite.{top_finite}
+use Rattle.rm_topn.specs.Group.{report_listed, top_alone, top_tables}
+use Rattle.rm_topn.specs.HostTop.{control_table, report_table, top_cells}
+use Rattle.rm_topn.specs.Sampled.{stands_sampled as reports_sampled}
 use Rattle.rm_matrix.specs.ControlColumns.{control_rows as matrix_rows}
 use Rattle.rm_matrix.specs.Collection.{matrix_collection}
 use Rattle.rm_matrix.specs.Lawful.{matrix_lawful}
-use Rattle.rm_collectors.specs.Group.{Stands, collected_cells, collected_objects, collected_settable, collected_alone}
+use Rattle.rm_collectors.specs.Group.{Stands, IsAskable, reports_of, collected_cells, collected_objects, collected_settable, collected_alone}
 use Rattle.rm_collectors.specs.declared.collectors.Collectors.{Collectors}
+
+-- the hosts and their reports
+abbrev host_cells : Counting → Journal → (now : ℕ) → Cells
+host_cells settings journal now name = option_or (host_collection.cells settings journal now name) (top_cells settings journal now name)
+
+abbrev host_objects : List ℕ → Bool
+host_objects name = is_listed host_collection.tables name || is_listed top_tables name
+
+abbrev host_settable : List ℕ → Bool
+host_settable name = is_settable host_rows.table name || is_settable top_control name
+
+abbrev host_alone : List ℕ → Val → Option ErrorStatus
+host_alone name value = option_or (alone host_rows host_collection name value) (top_alone name value)
+
+top_listed : (settings : Counting) (journal : Journal) (now : ℕ) → AreOfObjects (is_listed top_tables) (top_cells settings journal now)
+top_listed settings journal now =
+    with_table (control_table journal now) (report_listed ∷ []) (cells_of (report_table settings journal now)) (of_table (report_table settings journal now))
 
 -- the cells are finitely many
 pub all_finite : (settings : Counting) (journal : Journal) (now : ℕ) → AreFinite (collected_cells settings journal now)
 unfolding collected_cells
 all_finite settings journal now =
-    both_finite (history_collection.cells settings journal now) (λ name. option_or (host_collection.cells settings journal now name) (matrix_collection.cells settings journal now name))
+    both_finite (history_collection.cells settings journal now) (λ name. option_or (host_cells settings journal now name) (matrix_collection.cells settings journal now name))
     (history_lawful.finite settings journal now)
-    (both_finite (host_collection.cells settings journal now) (matrix_collection.cells settings journal now) (host_lawful.finite settings journal now) (matrix_lawful.finite settings journal now))
+    (both_finite (host_cells settings journal now) (matrix_collection.cells settings journal now)
+    (both_finite (host_collection.cells settings journal now) (top_cells settings journal now) (host_lawful.finite settings journal now) (top_finite settings journal now))
+    (matrix_lawful.finite settings journal now))
 
 -- they depend on what alarms read after earlier acts only
 pub all_recurring : ReadBefore collected_cells
 unfolding collected_cells
 all_recurring =
-    both_before history_collection.cells (λ settings journal now name. option_or (host_collection.cells settings journal now name) (matrix_collection.cells settings journal now name))
+    both_before history_collection.cells (λ settings journal now name. option_or (host_cells settings journal now name) (matrix_collection.cells settings journal now name))
     history_lawful.recurring
-    (both_before host_collection.cells matrix_collection.cells host_lawful.recurring matrix_lawful.recurring)
+    (both_before host_cells matrix_collection.cells
+    (both_before host_collection.cells top_cells host_lawful.recurring (λ settings one other journal alike now name. refl))
+    matrix_lawful.recurring)
 
 -- each has a name that begins with one of the objects
 pub all_listed : (settings : Counting) (journal : Journal) (now : ℕ) → AreOfObjects collected_objects (collected_cells settings journal now)
 unfolding collected_cells collected_objects
 all_listed settings journal now =
-    both_of_objects (is_listed history_collection.tables) (λ name. is_listed host_collection.tables name || is_listed matrix_collection.tables name)
-    (history_collection.cells settings journal now) (λ name. option_or (host_collection.cells settings journal now name) (matrix_collection.cells settings journal now name))
+    both_of_objects (is_listed history_collection.tables) (λ name. host_objects name || is_listed matrix_collection.tables name)
+    (history_collection.cells settings journal now) (λ name. option_or (host_cells settings journal now name) (matrix_collection.cells settings journal now name))
     (history_lawful.shows_listed settings journal now)
-    (both_of_objects (is_listed host_collection.tables) (is_listed matrix_collection.tables)
-    (host_collection.cells settings journal now) (matrix_collection.cells settings journal now)
-    (host_lawful.shows_listed settings journal now) (matrix_lawful.shows_listed settings journal now))
+    (both_of_objects host_objects (is_listed matrix_collection.tables) (host_cells settings journal now) (matrix_collection.cells settings journal now)
+    (both_of_objects (is_listed host_collection.tables) (is_listed top_tables) (host_collection.cells settings journal now) (top_cells settings journal now)
+    (host_lawful.shows_listed settings journal now) (top_listed settings journal now))
+    (matrix_lawful.shows_listed settings journal now))
 
 -- an object that can't be set is notWritable
 pub all_refused : AreRefused collected_objects collected_settable collected_alone
 unfolding collected_objects collected_settable collected_alone
 all_refused =
-    both_refused (is_listed history_collection.tables) (λ name. is_listed host_collection.tables name || is_listed matrix_collection.tables name)
-    (is_settable history_rows.table) (λ name. is_settable host_rows.table name || is_settable matrix_rows.table name)
-    (alone history_rows history_collection) (λ name value. option_or (alone host_rows host_collection name value) (alone matrix_rows matrix_collection name value))
+    both_refused (is_listed history_collection.tables) (λ name. host_objects name || is_listed matrix_collection.tables name)
+    (is_settable history_rows.table) (λ name. host_settable name || is_settable matrix_rows.table name)
+    (alone history_rows history_collection) (λ name value. option_or (host_alone name value) (alone matrix_rows matrix_collection name value))
     history_lawful.refuses_listed
-    (both_refused (is_listed host_collection.tables) (is_listed matrix_collection.tables) (is_settable host_rows.table) (is_settable matrix_rows.table)
-    (alone host_rows host_collection) (alone matrix_rows matrix_collection) host_lawful.refuses_listed matrix_lawful.refuses_listed)
+    (both_refused host_objects (is_listed matrix_collection.tables) host_settable (is_settable matrix_rows.table) host_alone (alone matrix_rows matrix_collection)
+    (both_refused (is_listed host_collection.tables) (is_listed top_tables) (is_settable host_rows.table) (is_settable top_control)
+    (alone host_rows host_collection) top_alone host_lawful.refuses_listed (beside_listed top_control top_columns report_listed))
+    matrix_lawful.refuses_listed)
 
 -- the sample of an alarm makes no difference to them
 pub all_begin : (held : Collectors) (settings : Counting) (earlier : Journal) (moment alarm : ℕ) (reading : Option ℤ)
-    → Stands held settings earlier → last_moment earlier ≤ moment → Stands held settings (samples moment alarm reading ∷ earlier)
+    → Stands held settings earlier → last_moment earlier ≤ moment → IsAskable held moment → Stands held settings (samples moment alarm reading ∷ earlier)
 unfolding Stands
-all_begin held settings earlier moment alarm reading stands later = record {
+all_begin held settings earlier moment alarm reading stands later asked = record {
   first = stands_sampled history_rows history_collection history_lawful settings earlier moment alarm reading later held.groups.first stands.first;
   second = record {
-    first = stands_sampled host_rows host_collection host_lawful settings earlier moment alarm reading later held.groups.second.first stands.second.first;
+    first = record {
+      first = stands_sampled host_rows host_collection host_lawful settings earlier moment alarm reading later held.groups.second.first.first stands.second.first.first;
+      second = reports_sampled settings earlier moment alarm reading later (reports_of held) asked.1.0.1 stands.second.first.second;
+      tied = tt;
+    };
     second = stands_sampled matrix_rows matrix_collection matrix_lawful settings earlier moment alarm reading later held.groups.second.second stands.second.second;
     tied = tt;
   };

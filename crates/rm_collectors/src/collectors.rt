@@ -1,22 +1,26 @@
 // The control tables whose valid rows collect.
-ghost use Rattle.std.specs.Prelude.{◌≡◌, [], OnOk};
+ghost use Rattle.std.specs.Prelude.{◌≡◌, ◌≤◌, max, [], OnOk};
 ghost use Rattle.rm_model.specs.Counting.{Counting};
 ghost use Rattle.rm_model.specs.Journal.{Journal};
-ghost use Rattle.rm_collectors.specs.Group.{Stands, IsStocked, IsSetTo, frames_given, last_given};
+ghost use Rattle.rm_collectors.specs.Group.{Stands, IsAskable, IsStocked, IsSetTo, frames_given, last_given};
 
 use rm_group::Both;
 use rm_history::History;
 use rm_hosts::{HostRoom, Hosts};
 use rm_matrix::{Matrix, MatrixRoom};
 use rm_settings::Settings;
+use rm_topn::Reports;
 use rm_val::NoMemory;
 use std::alloc::Global;
 
-/// The history, the hosts and the matrix.
-pub(crate) type Groups = Both<History, Both<Hosts, Matrix>>;
+/// The history, the hosts with their reports, and the matrix.
+pub(crate) type Groups = Both<History, Both<ReportedHosts, Matrix>>;
 
-/// The control tables whose valid rows collect what frames bring, with what they have collected: those of the history, of the hosts and
-/// of the matrix (RFC 1757, section 4).
+/// The hosts, and beside them the reports of those that gained most.
+type ReportedHosts = Both<Hosts, Reports>;
+
+/// The control tables whose valid rows collect what frames bring, with what they have collected: those of the history, of the hosts, of
+/// the reports of hosts, and of the matrix (RFC 1757, section 5). It may be asked at a moment where the reports that are due have ended.
 #[derive(Drop)]
 pub struct Collectors {
     pub(crate) groups: Groups,
@@ -39,7 +43,10 @@ impl Collectors {
             groups: Both {
                 first: History::new(()),
                 second: Both {
-                    first: hosts,
+                    first: Both {
+                        first: hosts,
+                        second: Reports::new(),
+                    },
                     second: matrix,
                 },
             },
@@ -55,7 +62,20 @@ impl Collectors {
         ensures frames { frames_given self.new ≡ frames_given self.old }
     {
         self.groups.first.reserve(alloc)?;
-        self.groups.second.first.reserve(alloc)?;
+        self.groups.second.first.first.reserve(alloc)?;
+        self.groups.second.first.second.reserve(alloc)?;
         self.groups.second.second.reserve(alloc)
+    }
+
+    /// Ends the reports that are due up to a moment, in milliseconds. The tables may then be asked at that moment. It takes no memory.
+    pub fn end_by(&mut self, moment: u32)
+        ensures stands { (settings : Counting) (journal : Journal) → Stands self.old settings journal → Stands self.new settings journal }
+        ensures askable { IsAskable self.new moment }
+        ensures stocked { IsStocked self.old → IsStocked self.new }
+        ensures last { last_given self.new ≤ max (last_given self.old) moment }
+        ensures frames { frames_given self.new ≡ frames_given self.old }
+    {
+        let hosts = &mut self.groups.second.first;
+        hosts.second.end_by(&hosts.first, moment);
     }
 }

@@ -1,9 +1,8 @@
-// The control tables whose valid rows collect, as one group of objects: what the pair of the history with the pair of the hosts and the
-// matrix does.
+// The control tables whose valid rows collect, as one group of objects: what the pair of the history does with the pair of the hosts and
+// the matrix, beside the hosts their reports.
 use crate::collectors::{Collectors, Groups};
 use rm_group::{
-    Assigns, Commits, Denied, Group, Look, NeverDue, Objects, Passing, Readable, Steps, Unfired,
-    Unsampled,
+    Assigns, Commits, Denied, Group, Look, Objects, Passing, Readable, Steps, Unfired, Unsampled,
 };
 use rm_model::Verdict;
 use rm_val::{Oid, Value};
@@ -11,14 +10,14 @@ use std::alloc::Global;
 
 #[tactic(auto, unfolding(crate::specs::Group::Stands, crate::specs::Group::collected_cells, crate::specs::Group::collected_alone, crate::specs::Group::collected_together, crate::specs::Group::CollectedReserves))]
 impl Group for Collectors {
-    ghost use Rattle.rm_collectors.specs.Group.{Stands, AreFine, ArePrepared, IsStocked, AreReleased, collected_cells, collected_alone, collected_together, CollectedReserves, frames_given, last_given};
+    ghost use Rattle.rm_collectors.specs.Group.{Stands, IsAskable, AreFine, ArePrepared, IsStocked, AreReleased, collected_cells, collected_alone, collected_together, CollectedReserves, frames_given, last_given};
     ghost use Rattle.rm_collectors.specs.Laws.{all_finite};
 
     ghost stands = { Stands };
 
     ghost clock = { last_given };
 
-    ghost askable = { λ s moment. Unit {0} };
+    ghost askable = { IsAskable };
 
     ghost frames = { frames_given };
 
@@ -131,8 +130,4 @@ impl Unsampled for Collectors {
     ghost use Rattle.rm_collectors.specs.Laws.{all_begin};
 
     ghost begins = { all_begin };
-}
-
-impl NeverDue for Collectors {
-    ghost always_asked = { λ s moment. tt };
 }

@@ -1,4 +1,5 @@
-//! The control tables whose valid rows collect what frames bring, as one group of objects: the history, the hosts and the matrix.
+//! The control tables whose valid rows collect what frames bring, as one group of objects: the history, the hosts with their
+//! reports, and the matrix.
 #![tactic(auto)]
 
 mod collectors;

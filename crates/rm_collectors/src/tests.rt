@@ -7,7 +7,7 @@ use rm_val::Oid;
 use std::process::Abort;
 use std::test::Fail;
 
-// The groups of the RMON MIB with the tables (RFC 1757, section 4).
+// The groups of the RMON MIB with the tables (RFC 1757, section 5).
 const HISTORY: u32 = 2;
 
 const HOSTS: u32 = 4;

@@ -23,10 +23,11 @@ returns-clause-taken c settings journal stands later due =
     let moment = c.args.moment in
     let reading = number_read settings journal moment index in
     let act : Act = samples moment index reading in
-    let comes = c.sample-comes.ensures.result settings journal stands later in
-    let under = c.sample-comes.ensures.under_way settings journal stands later in
+    let ended = c.end_by.ensures.stands settings journal stands in
+    let comes = c.sample-comes.ensures.result settings journal ended later c.end_by.ensures.askable in
+    let under = c.sample-comes.ensures.under_way settings journal ended later c.end_by.ensures.askable in
     let stand : AlarmsStand c.alarms.result.now settings (act ∷ journal) = subst (λ (a : Alarms). AlarmsStand a settings (act ∷ journal)) (sym c.alarms.ensures) under.1.second.stand in
-    let rows : HasRows c.events.result.now journal = subst (λ (e : Events). HasRows e journal) (sym (c.events.ensures ∙ c.sample-comes.ensures.events)) stands.second.first.rows in
+    let rows : HasRows c.events.result.now journal = subst (λ (e : Events). HasRows e journal) (sym (c.events.ensures ∙ c.sample-comes.ensures.events ∙ c.end_by.ensures.events)) stands.second.first.rows in
     let event : c.event_asked-event.result ≡ event_asked journal index c.sample-comes.result =
     c.event_asked-event.ensures settings (act ∷ journal) stand
     (λ crossing. valid_after settings journal moment index reading (valid_if_due journal index moment due) (ap (λ (s : Sampled). is_some (trap_of s)) (sym comes) ∙ crossing))
@@ -49,4 +50,8 @@ pub returns-clause-fewer : goal.returns-clause-fewer
 returns-clause-fewer c latest within =
     let less = c.sample-comes.ensures.fewer latest within in
     let same = ap (λ (a : Alarms). samples_left a latest) c.take_firing.ensures.alarms in
+    let left = c.end_by.ensures.left latest in
     omega arith
+
+pub returns-clause-stocked : goal.returns-clause-stocked
+returns-clause-stocked c stocked = c.take_firing.ensures.stocked (c.sample-comes.ensures.stocked (c.end_by.ensures.stocked stocked))

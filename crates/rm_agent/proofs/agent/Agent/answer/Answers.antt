@@ -8,13 +8,20 @@ use Rattle.rm_agent.specs.Known.{counting_by}
 use Rattle.rm_agent.specs.Groups.{cells, objects, alone, together, Reserves}
 use Rattle.rm_reply.specs.Responses.{IsReplyBy}
 use Rattle.rm_agent.specs.Answers.{reason_for}
-use Rattle.rm_agent.proofs.Askable.{groups_askable}
 use Rattle.rm_agent.proofs.Written.{written}
 use Rattle.rm_agent.proofs.CountLemmas.{same_count}
 use Rattle.rm_agent.proofs.ChannelLemmas.{reply_makes_none}
 use Rattle.rm_reply.proofs.ReadLemmas.{read_one}
 use Rattle.rm_agent.proofs.RepliesOrderly.{reply_orderly}
 use Rattle.rm_agent.proofs.agent.Agent.answer.Goals as goal
+
+pub respond-draft-requires-clause-asked : goal.respond-draft-requires-clause-asked
+respond-draft-requires-clause-asked c =
+    let (v, is_parse, answers) = c.in-Ok.ensures.parse in
+    let read = read_one c.args.datagram.now c.in-Ok.message c.read_message.new.into v is_parse answers in
+    let known = c.is_known.ensures.short c.if-not-is_known.false in
+    let (few, spelled, is_request) = read.parse in
+    (read.request, record { told = read.is_told; short = omega (arith, known, ap length read.is_told.community) }, is_request)
 
 pub returns-clause-reply : goal.returns-clause-reply
 returns-clause-reply c journal stands =
@@ -26,7 +33,7 @@ returns-clause-reply c journal stands =
     let known_m : is_known settings m.community ≡ true = ap (is_known settings) (sym read.is_told.community) ∙ sym c.is_known.ensures.known ∙ c.if-not-is_known.false in
     let why : reason_for settings (message m) ≡ None = ap (λ (b : Bool). let reason : Option Reason = (if b then None else Some Community) in reason) known_m in
     let short : length m.community ≤ 127 = omega (arith, known, ap length read.is_told.community) in
-    let (after, stood, moment, (reply, by, drafted_so)) = c.respond-draft.ensures.reply (counting_by settings) journal m (rw c.deref_mut.ensures.value stands.groups) (omega (arith, stands.last, c.requires)) (groups_askable c.deref_mut.result.now c.args.now) (record { told = read.is_told; short = short }) in
+    let (after, stood, moment, (reply, by, drafted_so)) = c.respond-draft.ensures.reply (counting_by settings) journal m (rw c.deref_mut-2.ensures.value (c.end_by.ensures.stands (counting_by settings) journal (rw c.deref_mut.ensures.value stands.groups))) (omega (arith, stands.last, c.requires)) (rw c.deref_mut-2.ensures.value c.end_by.ensures.askable) (record { told = read.is_told; short = short }) in
     let may : c.may_write-may_write.result ≡ may_write settings m.community = c.may_write-may_write.ensures ∙ ap (may_write settings) read.is_told.community in
     let is = subst (λ (b : Bool). IsReplyBy (cells settings journal c.args.now) objects alone (together settings journal c.args.now) (Reserves journal) b c.args.now journal m.kind m reply after) may by in
     let counted = same_count (counting_by settings) (cells settings journal c.args.now) objects alone (together settings journal c.args.now) (Reserves journal) (may_write settings m.community) c.args.now journal m.kind m reply after is in (

@@ -12,7 +12,7 @@ returns-clause-stands c journal stands none =
     let counting = counting_by c.args.self.now.settings in
     let frame = frame_of c.args.frame.now in
     record {
-      groups = c.pass_whole.ensures.stands counting journal frame (record { known = c.facts.ensures; captured = refl; counted = refl; at = refl })
+      groups = c.pass.ensures.stands counting journal frame (record { known = c.facts.ensures; captured = refl; counted = refl; at = refl })
           (rw c.deref_mut.ensures.value stands.groups) (omega (arith, stands.last, c.requires.later)) (sym (no_channel_fires counting frame journal (fired counting journal) stands.channels));
       last = omega arith;
       orderly = orderly_passes journal frame none stands.orderly;

@@ -4,4 +4,4 @@ use Rattle.rm_collectors.proofs.group.CollectorsCommits.commit.Goals as goal
 pub returns-clause-stands : goal.returns-clause-stands
 unfolding Stands
 returns-clause-stands g c settings journal values stands later asked same =
-    c.commit.ensures.stands settings journal values stands later (tt, (tt, tt)) same
+    c.commit.ensures.stands settings journal values stands later asked same
