@@ -2,25 +2,36 @@
 
     make_keyed.py ROWS TABLE..
 
-A table is `hosts` (hostControl) or `matrix` (matrixControl).
+A table is `hosts` (hostControl), `matrix` (matrixControl) or `reports` (hostTopNControl, whose rows report the hosts of row 1 that sent
+most octets in REPORT seconds).
 """
 
 import sys
 
-from make_requests import CREATE_REQUEST, RMON, ROWS, VALID, set_status
+from make_requests import CREATE_REQUEST, RMON, ROWS, VALID, integer, set_status, setting
 
 MOMENT = 0
+REPORT = 600
+OUT_OCTETS = 4
 
 # The entry of each table with the columns of its owner and of its status.
-TABLES = {"hosts": (RMON + (4, 1, 1), 5, 6), "matrix": (RMON + (6, 1, 1), 5, 6)}
+TABLES = {"hosts": (RMON + (4, 1, 1), 5, 6), "matrix": (RMON + (6, 1, 1), 5, 6), "reports": (RMON + (5, 1, 1), 9, 10)}
+
+# What the rows of a table are given before they become valid, by the numbers of the columns: hostTopNHostIndex, RateBase and
+# TimeRemaining.
+GIVEN = {"reports": {2: 1, 3: OUT_OCTETS, 4: REPORT}}
+
+
+def made_valid(word, row):
+    """The SetRequests that make a row of a table valid."""
+    table = TABLES[word]
+    given = [(table[0] + (column, row), integer(number)) for column, number in GIVEN.get(word, {}).items()]
+    return [set_status(table, row, CREATE_REQUEST)] + ([setting(given)] if given else []) + [set_status(table, row, VALID)]
 
 
 def main():
     rows = ROWS[: int(sys.argv[1])]
-    tables = [TABLES[word] for word in sys.argv[2:]]
-    datagrams = [
-        set_status(table, row, value) for table in tables for row in rows for value in (CREATE_REQUEST, VALID)
-    ]
+    datagrams = [octets for word in sys.argv[2:] for row in rows for octets in made_valid(word, row)]
     sys.stdout.writelines(f"{MOMENT} {octets.hex()}\n" for octets in datagrams)
 
 
