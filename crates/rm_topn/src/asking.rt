@@ -6,16 +6,13 @@ ghost use Rattle.rm_model.specs.Journal.{value_given};
 ghost use Rattle.rm_topn.specs.Asking.{plan_in};
 ghost use Rattle.rm_topn.specs.Control.{control_entry};
 
-use crate::control_columns::{CONTROL_OBJECTS, ControlColumns};
+use crate::control_columns::{CONTROL_OBJECTS, ControlColumns, TIME};
 use crate::course::Course;
 use crate::plan::Plan;
 use rm_group::Assigns;
 use rm_pool::{Begin, Change};
 use rm_status::Controls;
 use rm_val::Oid;
-
-// The column TimeRemaining.
-const TIME: u32 = 4;
 
 /// A Set, as it asks reports of rows that stay valid: one of them is to begin where the Set gives TimeRemaining to its row.
 #[derive(Drop)]
@@ -55,10 +52,7 @@ impl Begin<Course> for Idle<'_> {
     ghost begun = { λ s. IsIdle s.rows.now };
 
     fn begin(&self, row: u32, course: &mut Course) {
-        course.idle(match plan_in(self.rows, row) {
-            Some(plan) => { if plan.seconds == 0 { None } else { Some(plan) } }
-            None => None,
-        });
+        course.idle(plan_in(self.rows, row).filter(|plan| plan.seconds != 0));
     }
 }
 

@@ -13,6 +13,9 @@ use rm_val::{Oid, Value};
 /// The status column of hostTopNControl.
 pub(crate) const STATUS: u32 = 10;
 
+/// The column TimeRemaining.
+pub(crate) const TIME: u32 = 4;
+
 /// How many octets an owner has at most.
 const MOST_OWNER: usize = 127;
 

@@ -8,7 +8,7 @@ ghost use Rattle.rm_status.specs.Rows.{AreControlRows, row_number};
 ghost use Rattle.rm_topn.specs.Control.{top_control};
 ghost use Rattle.rm_topn.specs.Shown.{cells_kept, control_kept, counted, duration_of, granted_of, seconds_in, start_of, time_of, time_row, time_shown};
 
-use crate::control_columns::{CONTROL_OBJECTS, ControlColumns};
+use crate::control_columns::{CONTROL_OBJECTS, ControlColumns, TIME};
 use crate::course::Course;
 use crate::plan::natural;
 use crate::reports::Reports;
@@ -20,9 +20,6 @@ use rm_nested::{inner_cell, next_inner_cell};
 use rm_pool::Pool;
 use rm_status::{Controls, OtherColumns, Row};
 use rm_val::{Oid, Value};
-
-// The column TimeRemaining.
-const TIME: u32 = 4;
 
 // The columns of hostTopNControl that can't be set, by what its rows keep.
 #[derive(Drop)]
