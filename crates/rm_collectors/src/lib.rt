@@ -4,7 +4,5 @@
 
 mod collectors;
 mod group;
-#[cfg(test)]
-mod tests;
 
 pub use collectors::Collectors;
