@@ -1,8 +1,11 @@
+mod Actives
+mod Asked
 mod Begins
 mod Cells
 mod Counts
 mod Examples
 mod Found
+mod Judged
 mod Numbers
 mod Rooms
 mod Settled

@@ -9,6 +9,10 @@ pub mod Tables
 pub mod DirectoryRows
 pub mod Shown
 pub mod Settling
+pub mod Judging
 pub mod Kept
 pub mod Group
 pub mod FirstRows
+pub mod Active
+pub mod Finite
+pub mod Idle

@@ -43,6 +43,8 @@ abbrev pub directory_cells : Journal → Cells
 directory_cells journal name = option_or (cells_of (directory_table journal) name) (cells_of (change_table journal) name)
 
 -- the tables, as they are listed
+abbrev pub change_listed : ListedTable
+change_listed = record { entry = change_entry; columns = 1 ∷ [] }
+
 abbrev pub directory_tables : List ListedTable
-directory_tables =
-    record { entry = directory_entry; columns = directory_columns } ∷ record { entry = change_entry; columns = 1 ∷ [] } ∷ []
+directory_tables = record { entry = directory_entry; columns = directory_columns } ∷ change_listed ∷ []

@@ -12,14 +12,19 @@ ghost use Rattle.rm_dir.specs.Kept.{AreNumbered, AreNoted};
 use crate::built_in::built_in_rows;
 use crate::cell::Others;
 use crate::first_rows::insert_all;
+use crate::locals::judge_locals;
 use crate::row::DirectoryRow;
-use crate::settle::{MOST_LOCAL, settle};
-use rm_group::{Assigns, OneRow, TableObjects, choose_nearer, instance_of, next_name};
+use crate::settle::settle;
+use rm_group::{
+    Assigns, OneRow, TableObjects, choose_nearer, instance_of, judge_read_only, lower_verdict,
+    next_name,
+};
+use rm_model::Verdict;
 use rm_status::{Controls, MAX_ROWS};
 use rm_val::{Oid, Value};
 
 /// The scalars of the group: protocolDirLastChange.
-const CHANGE_OBJECTS: TableObjects = TableObjects {
+pub(crate) const CHANGE_OBJECTS: TableObjects = TableObjects {
     entry: &[1, 3, 6, 1, 2, 1, 16, 11],
     columns: &[1],
 };
@@ -35,15 +40,13 @@ pub struct Directory {
     given: u32,
     // The moment of the last change of a row, in milliseconds.
     changed: u32,
-    // The moment of the last Set, in milliseconds.
-    last: u32,
     ghost numbered: { AreNumbered rows },
     ghost noted: { AreNoted rows },
     ghost few: { given ≤ 2147483647 },
 }
 
 impl Directory {
-    ghost use Rattle.std.specs.Prelude.{ℕ, List, [], ◌∷◌, ◌+◌, length, IsTrue};
+    ghost use Rattle.std.specs.Prelude.{ℕ, List, [], ◌∷◌, ◌+◌, length};
     ghost use Rattle.rm_model.specs.Journal.{Assignments, Journal, assigns, value_given};
     ghost use Rattle.rm_model.specs.Judgement.{IsFirstFault, first_pass, second_pass};
     ghost use Rattle.rm_model.specs.declared.verdict.Verdict.TheVariants.{Fine};
@@ -51,12 +54,13 @@ impl Directory {
     ghost use Rattle.rm_dir.specs.DirectoryRows.{set_to};
     ghost use Rattle.rm_dir.specs.ProtocolDir.{protocol_dir};
     ghost use Rattle.rm_dir.specs.Tables.{directory_cells};
-    ghost use Rattle.rm_dir.specs.Group.{Stands, HasIndexes, last_given};
+    ghost use Rattle.rm_dir.specs.Group.{Stands, AreFine, HasIndexes};
+    ghost use Rattle.rm_dir.specs.Judging.{directory_alone, directory_together};
+    ghost use Rattle.rm_group.specs.Alone.{alone_at, AreFineAlone, IsWithin};
 
     /// The directory before the first act, with the rows that it has from the beginning.
     pub fn new() -> Directory
-        ensures stands { Stands result [] }
-        ensures last { last_given result ≡ 0 }
+        ensures { Stands result [] }
     {
         let first = built_in_rows();
         let mut rows = Controls::new();
@@ -65,12 +69,11 @@ impl Directory {
             rows,
             given: first.len() as u32,
             changed: 0,
-            last: 0,
         }
     }
 
     /// The value of the cell with that name, in protocolDirTable or of protocolDirLastChange. None where there is no such cell.
-    pub fn cell(&self, name: &Oid) -> Option<Value<'_>>
+    pub(crate) fn shown_at(&self, name: &Oid) -> Option<Value<'_>>
         ensures value { (journal : Journal) → Stands self.now journal → option_map val_of result ≡ directory_cells journal name.now }
         ensures spelling { IfSome result (λ value. HasSpelling (val_of value)) }
     {
@@ -82,7 +85,7 @@ impl Directory {
 
     /// The value of the cell with the least name above that one (RFC 1905, section 4.2.2). Its name is put into `out`. None where no cell
     /// has a greater name; `out` is then as before.
-    pub fn after(&self, name: &Oid, out: &mut Oid) -> Option<Value<'_>>
+    pub(crate) fn shown_after(&self, name: &Oid, out: &mut Oid) -> Option<Value<'_>>
         ensures next { (journal : Journal) → Stands self.now journal → IsNext (directory_cells journal) name.now (option_map val_of result) out.new }
         ensures stays { IfNone result (out.new ≡ out.old) }
         ensures name_spelling { OnSome result (IsSpellable out.new) }
@@ -109,25 +112,37 @@ impl Directory {
         self.changed
     }
 
-    /// Whether so many local indexes are left that there is one for each row of any Set of which the first pass found nothing wrong.
-    pub fn has_indexes<A: Assigns>(&self, set: &A) -> bool
-        requires { IsFirstFault (length (A.bindings set.now)) (first_pass protocol_dir (A.bindings set.now)) Fine }
-        ensures enough { IsTrue result → HasIndexes self.now (A.bindings set.now) }
-        ensures left { self.now.given + length (A.bindings set.now) ≤ 2147483647 → IsTrue result }
+    /// The first pass of a Set: each binding alone, of either table.
+    pub(crate) fn judge_bindings<A: Assigns>(&self, set: &A) -> Verdict
+        ensures { let bindings = A.bindings set.now in IsFirstFault (length bindings) (alone_at directory_alone bindings) result }
     {
-        self.given as usize + set.count() <= MOST_LOCAL as usize
+        let rows = self.rows.judge_alone(set);
+        let scalars = judge_read_only(set, &change_entry(), CHANGE_OBJECTS.columns);
+        lower_verdict(rows, scalars)
+    }
+
+    /// The second pass of a Set of which the first found nothing wrong: the bindings of each row together, by what the rows are now.
+    /// Where a local index of a row that it makes would be above 2147483647, each binding of each row that it makes is wrong.
+    pub(crate) fn judge_together<A: Assigns>(&self, set: &A) -> Verdict
+        requires { AreFineAlone directory_alone (A.bindings set.now) }
+        ensures accepted { result ≡ Fine → AreFine self.now (A.bindings set.now) }
+        ensures verdict { let bindings = A.bindings set.now in (journal : Journal) → Stands self.now journal → IsFirstFault (length bindings) (directory_together journal bindings) result }
+        ensures within { IsWithin (length (A.bindings set.now)) result }
+    {
+        let locals = judge_locals(&self.rows, self.given, set);
+        let rows = self.rows.judge_rows(set);
+        lower_verdict(locals, rows)
     }
 
     /// Does a Set with which both passes found nothing wrong, at a moment in milliseconds. There is a local index for each row that
     /// it makes.
-    pub fn assign<A: Assigns>(&mut self, set: &A, now: u32)
+    pub(crate) fn assign<A: Assigns>(&mut self, set: &A, now: u32)
         requires fine { IsFirstFault (length (A.bindings set.now)) (first_pass protocol_dir (A.bindings set.now)) Fine }
         requires together { let bindings = A.bindings set.now in IsFirstFault (length bindings) (second_pass protocol_dir (rows_before protocol_dir set_to self.old.rows) bindings) Fine }
         requires indexes { HasIndexes self.old (A.bindings set.now) }
-        ensures stands { (journal : Journal) (values : Assignments) → Stands self.old journal
+        ensures { (journal : Journal) (values : Assignments) → Stands self.old journal
             → ((name : List ℕ) → value_given values name ≡ value_given (A.bindings set.now) name)
             → Stands self.new (assigns now values ∷ journal) }
-        ensures last { last_given self.new ≡ now }
     {
         let before = self.rows.len();
         self.rows.commit(set);
@@ -137,7 +152,6 @@ impl Directory {
         let after = self.rows.len();
         self.changed = change_of(settled.changed, after < before + made, now, self.changed);
         self.given = settled.given;
-        self.last = now;
     }
 }
 

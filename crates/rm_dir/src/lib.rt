@@ -1,11 +1,14 @@
 //! The directory of protocols (RFC 2021, section 6): protocolDirTable, and when it last changed.
 #![tactic(auto)]
 
+mod active;
 mod built_in;
 mod cell;
 mod directory;
 mod first_rows;
+mod group;
 mod keys;
+mod locals;
 mod row;
 mod settle;
 mod support;

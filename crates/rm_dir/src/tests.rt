@@ -1,12 +1,15 @@
 // What a manager may make of the directory, worked out from the protocols that have rows from the beginning, from which rows can be made below
 // them, and from the steps of RowStatus.
-ghost use Rattle.std.specs.Prelude.{IfOk};
+ghost use Rattle.std.specs.Prelude.{IfOk, None};
 ghost use Rattle.rm_val.specs.Spellable.{IsSpellable};
 
 use crate::Directory;
-use rm_group::Assignments;
-use rm_model::Verdict;
+use crate::locals::judge_locals;
+use rm_group::{Assignments, Commits, Group, Look};
+use rm_model::{Reading, Verdict};
+use rm_path::{Protocol, ProtocolIdentifier};
 use rm_val::{ErrorStatus, Oid, Value};
+use std::alloc::Global;
 use std::test::Fail;
 
 /// A Set of at most four bindings.
@@ -68,18 +71,29 @@ fn set_of(bindings: &[(u32, &[u32], i32)]) -> Result<Set, Fail> {
     Ok(set)
 }
 
-// Does a Set at a moment, if nothing is wrong with it.
-fn apply(directory: &mut Directory, set: &Set, now: u32) -> Verdict {
-    let alone = directory.rows().judge_alone(set);
+// No variable has a reading.
+struct Unread;
+
+impl Look for Unread {
+    ghost readings = { λ s now name. None };
+
+    fn reading(&self, _name: &Oid, _now: u32) -> Option<Reading> {
+        None
+    }
+}
+
+// Judges a Set at a moment, and does it where nothing is wrong with it.
+fn apply(alloc: Global, directory: &mut Directory, set: &Set, now: u32) -> Verdict {
+    let alone = directory.judge_alone(set);
     if alone != Verdict::Fine {
         return alone;
     }
-    let together = directory.rows().judge_rows(set);
+    let together = directory.judge_rows(set, now, &Unread);
     if together != Verdict::Fine {
         return together;
     }
-    if directory.has_indexes(set) {
-        directory.assign(set, now);
+    if let Ok(()) = directory.prepare(alloc, set, now, &Unread) {
+        directory.commit(set, now);
     }
     together
 }
@@ -138,7 +152,7 @@ fn rows_can_be_made(rt: HostRuntime) -> Result<(), Fail> {
     ];
     for (index, expected) in cases {
         let set = set_of(&[(STATUS, index, 4)])?;
-        assert_eq!(rt; directory.rows().judge_alone(&set), expected, "{index:?}");
+        assert_eq!(rt; directory.judge_alone(&set), expected, "{index:?}");
     }
     Ok(())
 }
@@ -146,7 +160,7 @@ fn rows_can_be_made(rt: HostRuntime) -> Result<(), Fail> {
 // The number in a column of a row, and whether a column shows a text.
 fn number_at(directory: &Directory, column: u32, index: &[u32]) -> Result<Option<i32>, Fail> {
     let name = name_of(column, index)?;
-    match directory.cell(&name) {
+    match directory.cell(&name, 0) {
         Some(Value::Int(number)) => Ok(Some(number)),
         _ => Ok(None),
     }
@@ -154,7 +168,7 @@ fn number_at(directory: &Directory, column: u32, index: &[u32]) -> Result<Option
 
 fn has_text(directory: &Directory, column: u32, index: &[u32], text: &[u8]) -> Result<bool, Fail> {
     let name = name_of(column, index)?;
-    match directory.cell(&name) {
+    match directory.cell(&name, 0) {
         Some(Value::Octets(octets)) => Ok(octets == text),
         _ => Ok(false),
     }
@@ -165,7 +179,12 @@ fn has_text(directory: &Directory, column: u32, index: &[u32], text: &[u8]) -> R
 fn rows_are_made(rt: HostRuntime) -> Result<(), Fail> {
     let mut directory = Directory::new();
     assert_eq!(rt;
-        apply(&mut directory, &set_of(&[(STATUS, PORT_8080, 4)])?, 3000),
+        apply(
+            rt.alloc(),
+            &mut directory,
+            &set_of(&[(STATUS, PORT_8080, 4)])?,
+            3000
+        ),
         Verdict::Fine
     );
     for (column, expected) in [(LOCAL, 21), (MAP, 1), (HOST, 3), (MATRIX, 3), (STATUS, 1)] {
@@ -183,14 +202,22 @@ fn rows_are_made(rt: HostRuntime) -> Result<(), Fail> {
     }
     assert_eq!(rt; directory.last_change(), 3000);
     assert_eq!(rt;
-        apply(&mut directory, &set_of(&[(STATUS, PORT_8080, 6)])?, 4000),
+        apply(
+            rt.alloc(),
+            &mut directory,
+            &set_of(&[(STATUS, PORT_8080, 6)])?,
+            4000
+        ),
         Verdict::Fine
     );
     assert_eq!(rt; number_at(&directory, LOCAL, PORT_8080)?, None);
     assert_eq!(rt; directory.last_change(), 4000);
     // two rows of one Set, in the order of their names, and not in that of the bindings
     let both = set_of(&[(STATUS, DISCARD, 5), (STATUS, PORT_8080, 4)])?;
-    assert_eq!(rt; apply(&mut directory, &both, 5000), Verdict::Fine);
+    assert_eq!(rt;
+        apply(rt.alloc(), &mut directory, &both, 5000),
+        Verdict::Fine
+    );
     assert_eq!(rt; number_at(&directory, LOCAL, PORT_8080)?, Some(22));
     assert_eq!(rt; number_at(&directory, LOCAL, DISCARD)?, Some(23));
     assert_eq!(rt; number_at(&directory, STATUS, DISCARD)?, Some(2));
@@ -245,14 +272,19 @@ fn some_rows_stay(rt: HostRuntime) -> Result<(), Fail> {
         };
         let set = set_of(&[(column, index, number)])?;
         assert_eq!(rt;
-            apply(&mut directory, &set, 3000),
+            apply(rt.alloc(), &mut directory, &set, 3000),
             expected,
             "{column} {index:?} {number}"
         );
     }
     assert_eq!(rt; directory.last_change(), 0);
     assert_eq!(rt;
-        apply(&mut directory, &set_of(&[(HOST, SNMP, 2)])?, 4000),
+        apply(
+            rt.alloc(),
+            &mut directory,
+            &set_of(&[(HOST, SNMP, 2)])?,
+            4000
+        ),
         Verdict::Fine
     );
     assert_eq!(rt; number_at(&directory, HOST, SNMP)?, Some(2));
@@ -269,7 +301,11 @@ fn there_is_room_for_so_many(rt: HostRuntime) -> Result<(), Fail> {
             16, 0, 0, 0, 1, 0, 0, 8, 0, 0, 0, 0, 6, 0, 0, 40, port, 4, 0, 0, 0, 0,
         ];
         let set = set_of(&[(STATUS, &index, 4)])?;
-        assert_eq!(rt; apply(&mut directory, &set, 3000), Verdict::Fine, "{port}");
+        assert_eq!(rt;
+            apply(rt.alloc(), &mut directory, &set, 3000),
+            Verdict::Fine,
+            "{port}"
+        );
         assert_eq!(rt;
             number_at(&directory, LOCAL, &index)?,
             Some(20 + port as i32),
@@ -281,7 +317,12 @@ fn there_is_room_for_so_many(rt: HostRuntime) -> Result<(), Fail> {
         index: 1,
     };
     assert_eq!(rt;
-        apply(&mut directory, &set_of(&[(STATUS, DISCARD, 4)])?, 3000),
+        apply(
+            rt.alloc(),
+            &mut directory,
+            &set_of(&[(STATUS, DISCARD, 4)])?,
+            3000
+        ),
         crowded
     );
     Ok(())
@@ -292,12 +333,22 @@ fn there_is_room_for_so_many(rt: HostRuntime) -> Result<(), Fail> {
 fn rows_are_walked(rt: HostRuntime) -> Result<(), Fail> {
     let mut directory = Directory::new();
     assert_eq!(rt;
-        apply(&mut directory, &set_of(&[(STATUS, PORT_8080, 4)])?, 3000),
+        apply(
+            rt.alloc(),
+            &mut directory,
+            &set_of(&[(STATUS, PORT_8080, 4)])?,
+            3000
+        ),
         Verdict::Fine
     );
     let mut name = Oid::from_slice(&[1, 3, 6, 1, 2, 1, 16, 11])?;
     let mut last = Oid::new();
-    assert!(rt; matches!(directory.after(&name, &mut last), Some(Value::Ticks(300))));
+    assert!(rt;
+        matches!(
+            directory.after(&name, 0, &mut last),
+            Some(Value::Ticks(300))
+        )
+    );
     assert!(rt;
         last.compare(&Oid::from_slice(&[1, 3, 6, 1, 2, 1, 16, 11, 1, 0])?)
             .is_eq()
@@ -309,7 +360,7 @@ fn rows_are_walked(rt: HostRuntime) -> Result<(), Fail> {
     for expected in locals {
         name = last;
         last = Oid::new();
-        match directory.after(&name, &mut last) {
+        match directory.after(&name, 0, &mut last) {
             Some(Value::Int(local)) => assert_eq!(rt; local, expected),
             _ => assert!(rt; false, "{expected}"),
         }
@@ -319,11 +370,95 @@ fn rows_are_walked(rt: HostRuntime) -> Result<(), Fail> {
     last = Oid::new();
     assert!(rt;
         matches!(
-            directory.after(&name, &mut last),
+            directory.after(&name, 0, &mut last),
             Some(Value::Octets(b"ether2"))
         )
     );
     let end = Oid::from_slice(&[1, 3, 6, 1, 2, 1, 16, 11, 2, 1, 11])?;
-    assert!(rt; directory.after(&end, &mut name).is_none());
+    assert!(rt; directory.after(&end, 0, &mut name).is_none());
+    Ok(())
+}
+
+// What is wrong with a Set where so many local indexes were given.
+fn judged(directory: &Directory, given: u32, set: &Set) -> Verdict {
+    let alone = directory.rows().judge_alone(set);
+    if alone != Verdict::Fine {
+        return alone;
+    }
+    judge_locals(directory.rows(), given, set)
+}
+
+// The greatest local index is 2147483647. Where fewer are left than the rows that a Set makes, the first binding of these is wrong, also of a
+// row for which there would be an index; a status that is given twice makes one row.
+#[test]
+fn local_indexes_run_out(rt: HostRuntime) -> Result<(), Fail> {
+    let directory = Directory::new();
+    let both = set_of(&[
+        (HOST, SNMP, 2),
+        (HOST, DISCARD, 2),
+        (STATUS, PORT_8080, 4),
+        (STATUS, DISCARD, 5),
+    ])?;
+    let used_up = Verdict::Wrong {
+        status: ErrorStatus::InconsistentName,
+        index: 2,
+    };
+    assert_eq!(rt; judged(&directory, 2_147_483_645, &both), Verdict::Fine);
+    assert_eq!(rt; judged(&directory, 2_147_483_646, &both), used_up);
+    assert_eq!(rt; judged(&directory, 2_147_483_647, &both), used_up);
+    let twice = set_of(&[(STATUS, DISCARD, 4), (STATUS, DISCARD, 4)])?;
+    assert_eq!(rt; judged(&directory, 2_147_483_646, &twice), Verdict::Fine);
+    let removal = set_of(&[(STATUS, DISCARD, 6), (HOST, SNMP, 2)])?;
+    assert_eq!(rt; judged(&directory, 2_147_483_647, &removal), Verdict::Fine);
+    Ok(())
+}
+
+// A protocol is active while its row is, and hosts and matrices of it are counted as its configurations say.
+#[test]
+fn protocols_are_active(rt: HostRuntime) -> Result<(), Fail> {
+    let mut directory = Directory::new();
+    let arp = Protocol {
+        identifier: ProtocolIdentifier::Ether(0x0806),
+        local: 3,
+        host: false,
+        matrix: false,
+    };
+    assert_eq!(rt; directory.protocol(arp.identifier), Some(arp));
+    let discard = Protocol {
+        identifier: ProtocolIdentifier::Udp(9),
+        local: 21,
+        host: false,
+        matrix: true,
+    };
+    assert_eq!(rt; directory.protocol(discard.identifier), None);
+    let waiting = set_of(&[(STATUS, DISCARD, 5), (HOST, DISCARD, 2)])?;
+    assert_eq!(rt;
+        apply(rt.alloc(), &mut directory, &waiting, 3000),
+        Verdict::Fine
+    );
+    assert_eq!(rt; directory.protocol(discard.identifier), None);
+    let active = set_of(&[(STATUS, DISCARD, 1)])?;
+    assert_eq!(rt;
+        apply(rt.alloc(), &mut directory, &active, 4000),
+        Verdict::Fine
+    );
+    assert_eq!(rt; directory.protocol(discard.identifier), Some(discard));
+    Ok(())
+}
+
+// protocolDirLastChange can't be set.
+#[test]
+fn last_change_is_read_only(rt: HostRuntime) -> Result<(), Fail> {
+    let directory = Directory::new();
+    let mut set = Set::new();
+    set.push(
+        Oid::from_slice(&[1, 3, 6, 1, 2, 1, 16, 11, 1, 0])?,
+        Value::Ticks(5),
+    );
+    let read_only = Verdict::Wrong {
+        status: ErrorStatus::NotWritable,
+        index: 1,
+    };
+    assert_eq!(rt; directory.judge_alone(&set), read_only);
     Ok(())
 }

@@ -25,8 +25,8 @@ invariant_of-self g c =
       few = omega (arith, asked, enough, given);
     }
 
-pub returns-clause-stands : goal.returns-clause-stands
-returns-clause-stands g c journal values stands gives =
+pub returns : goal.returns
+returns g c journal values stands gives =
     let bs = g.A.Assigns.bindings c.args.set.now in
     let fine = all_fine protocol_dir bs c.requires.fine in
     let given = c.settle-settled.ensures.given in

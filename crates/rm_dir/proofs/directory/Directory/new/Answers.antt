@@ -10,7 +10,7 @@ invariant_of-result c =
     let are : (i : ℕ) → row_in c.insert_all.new.rows i ≡ first_in built_in_rows i = λ i. c.insert_all.ensures.rows i ∙ ap (λ rows. first_in rows i) c.built_in_rows-first.ensures.rows in
     record { numbered = numbered_first c.insert_all.new.rows are; noted = noted_first c.insert_all.new.rows are; few = omega (arith, c.built_in_rows-first.ensures.count) }
 
-pub returns-clause-stands : goal.returns-clause-stands
-returns-clause-stands c =
+pub returns : goal.returns
+returns c =
     let are : (i : ℕ) → row_in c.insert_all.new.rows i ≡ first_in built_in_rows i = λ i. c.insert_all.ensures.rows i ∙ ap (λ rows. first_in rows i) c.built_in_rows-first.ensures.rows in
     record { rows = rows_first c.insert_all.new.rows are; locals = locals_first c.insert_all.new.rows are; given = c.built_in_rows-first.ensures.count; changed = refl }
