@@ -1,2 +1,12 @@
 pub mod FindLemmas
 pub mod MatchLemmas
+pub mod FilterCells
+pub mod ChannelCells
+pub mod MatchCounts
+pub mod Assigned
+pub mod JudgeLemmas
+pub mod MatchRows
+pub mod Passed
+pub mod Turned
+pub mod ValidRows
+pub mod AcceptingLists

@@ -1,6 +1,15 @@
 pub mod AcceptType
-pub mod ChannelRows
 pub mod DataControl
 pub mod EventStatus
 pub mod FilterRows
+pub mod ChannelRows
 pub mod Matching
+pub mod ChannelForm
+pub mod Tables
+pub mod Finite
+pub mod Shown
+pub mod Changes
+pub mod Judging
+pub mod Standing
+pub mod Acts
+pub mod Group

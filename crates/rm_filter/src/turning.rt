@@ -9,6 +9,7 @@ ghost use Rattle.rm_acts.specs.declared.firing.Firing.{Firing};
 ghost use Rattle.rm_acts.specs.Channels.{channel_table};
 ghost use Rattle.rm_acts.specs.Fired.{switched, spent, is_by};
 ghost use Rattle.rm_filter.specs.declared.channel_row.ChannelRow.{ChannelRow as Channel};
+ghost use Rattle.rm_filter.specs.Changes.{turned, status_after};
 ghost use Rattle.rm_filter.specs.ChannelRows.{set_to};
 ghost use Rattle.rm_filter.specs.DataControl.{control_number};
 ghost use Rattle.rm_filter.specs.EventStatus.{status_number};
@@ -21,7 +22,8 @@ impl ChannelRow {
     /// What becomes of channelDataControl where an event fires while the channel is valid: off becomes on by its turn-on event,
     /// and on becomes off by its turn-off event (RFC 1757, section 5).
     pub fn switched(&self, present: DataControl, event: u32) -> DataControl
-        ensures { (journal : Journal) (rows : List (Row Channel)) (index : ℕ) (firing : Firing)
+        ensures value { result ≡ turned self.now present event }
+        ensures turned { (journal : Journal) (rows : List (Row Channel)) (index : ℕ) (firing : Firing)
             → AreRowsAfter channel_table no_rows set_to rows journal
             → is_valid (state_in rows index) ≡ true → columns_in rows index ≡ Some self.now → firing.event ≡ event
             → control_number result ≡ switched journal index firing (control_number present) }
@@ -37,7 +39,8 @@ impl ChannelRow {
 impl EventStatus {
     /// What becomes of channelEventStatus where an event fires, by this channel or not (RFC 1757, section 5).
     pub fn spent(self, by_this: bool) -> EventStatus
-        ensures { (journal : Journal) (channel : ℕ) (firing : Firing) → is_by channel firing ≡ by_this
+        ensures value { result ≡ status_after self by_this }
+        ensures spent { (journal : Journal) (channel : ℕ) (firing : Firing) → is_by channel firing ≡ by_this
             → status_number result ≡ spent journal channel firing (status_number self) }
     {
         match self {

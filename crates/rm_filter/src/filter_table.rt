@@ -1,0 +1,156 @@
+// filterTable, as a group of objects.
+ghost use Rattle.std.specs.Prelude.{◌≡◌};
+
+use crate::filter_row::{FILTER_OBJECTS, FilterRow};
+use rm_group::{Assigns, Commits, Denied, Group, Look, Readable, TableObjects, Tables};
+use rm_model::Verdict;
+use rm_status::{Controls, OtherColumns, Row};
+use rm_val::{Oid, Value};
+use std::alloc::Global;
+
+/// The tables of the group.
+const OBJECTS: &[TableObjects] = &[FILTER_OBJECTS];
+
+/// The filters: filterTable (RFC 1757, section 5).
+#[derive(Drop)]
+pub struct FilterTable {
+    pub(crate) rows: Controls<FilterRow>,
+}
+
+impl FilterTable {
+    ghost use Rattle.std.specs.Prelude.{[]};
+    ghost use Rattle.rm_filter.specs.Tables.{HasFilters};
+
+    /// No filter.
+    pub(crate) fn new() -> FilterTable
+        ensures { HasFilters result [] }
+    {
+        FilterTable {
+            rows: Controls::new(),
+        }
+    }
+}
+
+/// Every column of filterTable but the index can be set.
+#[derive(Clone, Copy)]
+struct Nothing;
+
+impl OtherColumns<FilterRow> for Nothing {
+    ghost use Rattle.rm_filter.specs.Tables.{nothing_else};
+
+    ghost others = { λ s rows. nothing_else };
+
+    fn other(&self, _index: u32, _row: &Row<FilterRow>, _column: u32) -> Value<'static> {
+        Value::Null
+    }
+}
+
+impl Group for FilterTable {
+    ghost use Rattle.rm_model.specs.Cells.{cells_of};
+    ghost use Rattle.rm_model.specs.ControlRows.{no_rows};
+    ghost use Rattle.rm_model.specs.Judgement.{second_pass, rows_after};
+    ghost use Rattle.rm_acts.specs.Filters.{filter_table};
+    ghost use Rattle.rm_filter.specs.Tables.{HasFilters, filters_shown, filter_alone, AreFiltersFine};
+    ghost use Rattle.rm_filter.specs.Finite.{filters_finite};
+
+    ghost stands = { λ s settings journal. HasFilters s journal };
+
+    ghost clock = { λ s. 0 };
+
+    ghost askable = { λ s moment. Unit {0} };
+
+    ghost frames = { λ s. 0 };
+
+    ghost stocked = { λ s. Unit {0} };
+
+    ghost cells = { λ settings journal now. cells_of (filters_shown journal) };
+
+    ghost alone = { filter_alone };
+
+    ghost together = { λ settings journal now readings bindings place. second_pass filter_table (rows_after filter_table no_rows journal) bindings place };
+
+    ghost reserves = { λ settings journal bindings index. ⊥ };
+
+    ghost accepts = { λ s now readings bindings. AreFiltersFine s bindings };
+
+    ghost prepared = { λ s now bindings. AreFiltersFine s bindings };
+
+    ghost released = { λ s. Unit {0} };
+
+    ghost finite = { λ settings journal now. filters_finite journal };
+
+    fn least() -> &'static [u32] {
+        FILTER_OBJECTS.entry
+    }
+
+    fn cell(&self, name: &Oid, _now: u32) -> Option<Value<'_>> {
+        self.rows.cell(&Nothing, name)
+    }
+
+    fn after(&self, name: &Oid, _now: u32, out: &mut Oid) -> Option<Value<'_>> {
+        self.rows.next_cell(&Nothing, name, out)
+    }
+
+    fn judge_alone<A: Assigns>(&self, set: &A) -> Verdict {
+        self.rows.judge_alone(set)
+    }
+
+    fn judge_rows<A: Assigns, L: Look>(&self, set: &A, _now: u32, _look: &L) -> Verdict {
+        self.rows.judge_rows(set)
+    }
+
+    fn prepare<A: Assigns, L: Look>(
+        &mut self,
+        _alloc: Global,
+        _set: &A,
+        _now: u32,
+        _look: &L,
+    ) -> Result<(), Denied> {
+        Ok(())
+    }
+
+    fn discard(&mut self) {}
+}
+
+impl Commits for FilterTable {
+    fn commit<A: Assigns>(&mut self, set: &A, _now: u32) {
+        prove!(self.rows.len() <= 32);
+        self.rows.commit(set);
+    }
+}
+
+impl Tables for FilterTable {
+    ghost use Rattle.rm_acts.specs.Filters.{filter_table};
+    ghost use Rattle.rm_filter.specs.FilterRows.{filter_columns};
+    ghost use Rattle.rm_filter.specs.Tables.{filter_tables, filters_shown};
+    ghost use Rattle.rm_group.specs.Listed.{is_settable, of_table, control_listed};
+
+    ghost tables = { filter_tables };
+
+    ghost can_be_set = { is_settable filter_table };
+
+    fn tables() -> &'static [TableObjects] {
+        OBJECTS
+    }
+
+    ghost shows_listed = { λ settings journal now. of_table (filters_shown journal) };
+
+    ghost refuses_listed = { control_listed filter_table filter_columns };
+}
+
+// Alarms sample none of its variables.
+impl Readable for FilterTable {
+    ghost use Rattle.std.specs.Prelude.{refl, None};
+
+    ghost sampleable = { λ settings journal now name. None };
+
+    ghost shown = { λ s now name. None };
+
+    fn value(&self, _name: &Oid, _now: u32) -> Option<Value<'_>> {
+        None
+    }
+
+    fn shows(&self, _now: u32) {}
+
+    ghost recurring = { λ settings one other journal alike now name. refl };
+}
