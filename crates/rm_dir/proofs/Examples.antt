@@ -1,5 +1,5 @@
 -- Indexes and judgements worked out by hand.
-use Rattle.std.proofs.Common.{◌≡◌, ℕ, List, [], ◌∷◌, ◌++◌, Some, None, map, refl}
+use Rattle.std.proofs.Common.{◌≡◌, ℕ, List, [], ◌∷◌, ◌++◌, true, Option, Some, None, map, refl}
 use Rattle.std.specs.Prelude.{pos, codes}
 use Rattle.rm_val.specs.Val.{Val, int, octets}
 use Rattle.rm_val.specs.declared.error.ErrorStatus.TheVariants.{NoCreation, NotWritable, InconsistentValue, WrongValue}
@@ -11,6 +11,10 @@ use Rattle.rm_dir.specs.DirectoryIndex.{directory_index, directory_number, index
 use Rattle.rm_dir.specs.BuiltIn.{built_in_local}
 use Rattle.rm_dir.specs.ProtocolDir.{directory_entry, protocol_dir, directory_beginning, directory_state, directory_value}
 use Rattle.rm_dir.specs.LocalIndexes.{greatest_given}
+use Rattle.rm_dir.specs.Paths.{path_after}
+use Rattle.rm_proto.specs.declared.known.Facts.{Facts}
+use Rattle.rm_proto.specs.declared.ports.Ports.{Ports}
+use Rattle.rm_proto.specs.declared.ethernet.Cast.TheVariants.{Uni}
 
 -- snmp over UDP
 abbrev snmp : List ℕ
@@ -81,3 +85,25 @@ arp_config = refl
 
 snmp_config : second_pass protocol_dir directory_beginning (binds 7 snmp (int (pos 2))) 0 ≡ None
 snmp_config = refl
+
+-- the facts of a frame of IP, by its protocol and its ports
+abbrev of_ip : Option ℕ → Option Ports → Facts
+of_ip proto ports = record { interface = 1; length = 64; good = true; status = 0; pair = None; cast = Uni; ether = Some 0x0800; ip = None; proto = proto; ports = ports }
+
+-- a datagram of UDP, from one port to the other
+abbrev datagram : (source dest : ℕ) → Facts
+datagram source dest = of_ip (Some 17) (Some (record { source = source; dest = dest }))
+
+-- paths by the protocols that are active from the beginning: of a datagram to port 161, of one between ports without rows, and of a later fragment
+to_snmp : path_after [] (datagram 40000 161) ≡ Ether2 ∷ Ether 0x0800 ∷ Ip 17 ∷ Udp 161 ∷ []
+to_snmp = refl
+
+between_others : path_after [] (datagram 40000 40001) ≡ Ether2 ∷ Ether 0x0800 ∷ Ip 17 ∷ []
+between_others = refl
+
+of_fragment : path_after [] (of_ip None None) ≡ Ether2 ∷ Ether 0x0800 ∷ []
+of_fragment = refl
+
+-- the port of the receiver comes first
+to_domain : path_after [] (datagram 161 53) ≡ Ether2 ∷ Ether 0x0800 ∷ Ip 17 ∷ Udp 53 ∷ []
+to_domain = refl

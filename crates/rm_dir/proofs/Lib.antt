@@ -5,6 +5,7 @@ mod Cells
 mod Counts
 mod Examples
 mod Found
+mod InSlots
 mod Judged
 mod Numbers
 mod Rooms

@@ -1,10 +1,13 @@
 -- Which protocols are active: those whose rows are (RFC 2021, protocolDirStatus).
-use Rattle.std.specs.Prelude.{ℕ, List, Bool, ◌&&◌, nat_eq, if◌then◌else◌, Option, Some, None}
+use Rattle.std.specs.Prelude.{ℕ, List, Bool, ◌&&◌, nat_eq, if◌then◌else◌, option_and_then, Option, Some, None}
 use Rattle.rm_model.specs.Journal.{Journal}
 use Rattle.rm_model.specs.ControlRows.{is_valid}
 use Rattle.rm_model.specs.declared.row.State.{State}
 use Rattle.rm_path.specs.declared.identifier.ProtocolIdentifier.{ProtocolIdentifier}
 use Rattle.rm_path.specs.declared.protocol.Protocol.{Protocol}
+use Rattle.rm_path.specs.Identifier.{number_of}
+use Rattle.rm_status.specs.declared.row.Row.{Row}
+use Rattle.rm_status.specs.Rows.{row_in}
 use Rattle.rm_dir.specs.declared.row.DirectoryRow.{DirectoryRow}
 use Rattle.rm_dir.specs.DirectoryIndex.{index_with, may_have_row}
 use Rattle.rm_dir.specs.LastChange.{config_of}
@@ -39,3 +42,8 @@ protocol_kept identifier state columns =
       matrix = nat_eq (support_number columns.matrix) 3;
     })
     else None
+
+-- the same by the rows that are held
+abbrev pub held_protocol : List (Row DirectoryRow) → ProtocolIdentifier → Option Protocol
+held_protocol rows identifier =
+    if may_have_row identifier then option_and_then (λ row. protocol_kept identifier row.state row.columns) (row_in rows (number_of identifier)) else None

@@ -174,7 +174,7 @@ directory_back n = elim (is_directory_row n) as (λ t. is_directory_row n ≡ t 
 pub is_numbered : (n : ℕ) → is_directory_row n ≡ true → (number_of (identified n) ≡ n) × (may_have_row (identified n) ≡ true)
 is_numbered n is = let parts = both (nat_eq (number_of (identified n)) n) _ is in (equal _ n parts.0, parts.1)
 
-number_within : (protocol : ProtocolIdentifier) → may_have_row protocol ≡ true → (0 < number_of protocol) × (number_of protocol < 327680)
+pub number_within : (protocol : ProtocolIdentifier) → may_have_row protocol ≡ true → (0 < number_of protocol) × (number_of protocol < 327680)
 number_within Ether2 may = (omega arith, omega arith)
 number_within (Ether type) may = let parts = both (nat_le 1536 type) (nat_le type 65535) may in (omega arith, grind (arith, nat_tests))
 number_within (Ip protocol) may = (omega arith, grind (arith, nat_tests))

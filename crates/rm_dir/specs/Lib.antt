@@ -14,5 +14,6 @@ pub mod Kept
 pub mod Group
 pub mod FirstRows
 pub mod Active
+pub mod Paths
 pub mod Finite
 pub mod Idle

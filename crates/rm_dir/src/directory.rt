@@ -8,6 +8,7 @@ ghost use Rattle.rm_model.specs.Cells.{cells_of, IsNext};
 ghost use Rattle.rm_dir.specs.ProtocolDir.{change_entry};
 ghost use Rattle.rm_dir.specs.Shown.{kept_change};
 ghost use Rattle.rm_dir.specs.Kept.{AreNumbered, AreNoted};
+ghost use Rattle.rm_dir.specs.Paths.{AreOfRows, DoStay};
 
 use crate::built_in::built_in_rows;
 use crate::cell::Others;
@@ -15,11 +16,13 @@ use crate::first_rows::insert_all;
 use crate::locals::judge_locals;
 use crate::row::DirectoryRow;
 use crate::settle::settle;
+use crate::slots::follow;
 use rm_group::{
     Assigns, OneRow, TableObjects, choose_nearer, instance_of, judge_read_only, lower_verdict,
     next_name,
 };
 use rm_model::Verdict;
+use rm_path::Protocols;
 use rm_status::{Controls, MAX_ROWS};
 use rm_val::{Oid, Value};
 
@@ -40,9 +43,12 @@ pub struct Directory {
     given: u32,
     // The moment of the last change of a row, in milliseconds.
     changed: u32,
+    // The protocols whose rows are active.
+    pub(crate) protocols: Protocols,
     ghost numbered: { AreNumbered rows },
     ghost noted: { AreNoted rows },
     ghost few: { given ≤ 2147483647 },
+    ghost active: { AreOfRows rows protocols },
 }
 
 impl Directory {
@@ -65,10 +71,13 @@ impl Directory {
         let first = built_in_rows();
         let mut rows = Controls::new();
         insert_all(&mut rows, first);
+        let mut protocols = Protocols::new();
+        follow(&mut protocols, &rows);
         Directory {
             rows,
             given: first.len() as u32,
             changed: 0,
+            protocols,
         }
     }
 
@@ -140,14 +149,16 @@ impl Directory {
         requires fine { IsFirstFault (length (A.bindings set.now)) (first_pass protocol_dir (A.bindings set.now)) Fine }
         requires together { let bindings = A.bindings set.now in IsFirstFault (length bindings) (second_pass protocol_dir (rows_before protocol_dir set_to self.old.rows) bindings) Fine }
         requires indexes { HasIndexes self.old (A.bindings set.now) }
-        ensures { (journal : Journal) (values : Assignments) → Stands self.old journal
+        ensures stands { (journal : Journal) (values : Assignments) → Stands self.old journal
             → ((name : List ℕ) → value_given values name ≡ value_given (A.bindings set.now) name)
             → Stands self.new (assigns now values ∷ journal) }
+        ensures stay { DoStay self.new.rows self.old.protocols self.new.protocols }
     {
         let before = self.rows.len();
         self.rows.commit(set);
         prove!(self.rows.len() <= MAX_ROWS);
         let settled = settle(&mut self.rows, self.given);
+        follow(&mut self.protocols, &self.rows);
         let made = (settled.given - self.given) as usize;
         let after = self.rows.len();
         self.changed = change_of(settled.changed, after < before + made, now, self.changed);

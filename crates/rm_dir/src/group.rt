@@ -78,7 +78,20 @@ impl Group for Directory {
 }
 
 impl Commits for Directory {
-    fn commit<A: Assigns>(&mut self, set: &A, now: u32) {
+    ghost use Rattle.std.specs.Prelude.{◌≡◌, ℕ, ◌≤◌, List, ◌∷◌};
+    ghost use Rattle.rm_model.specs.Counting.{Counting};
+    ghost use Rattle.rm_model.specs.Journal.{Assignments, Journal, assigns, last_moment, value_given};
+    ghost use Rattle.rm_dir.specs.Group.{AreFine, Stands};
+    ghost use Rattle.rm_dir.specs.Paths.{DoStay};
+
+    /// Does a Set (`Commits::commit`). Protocols that stay active stay in their slots.
+    fn commit<A: Assigns>(&mut self, set: &A, now: u32)
+        requires ready { AreFine self.old (A.bindings set.now) }
+        ensures stands { (settings : Counting) (journal : Journal) (values : Assignments) → Stands self.old journal → last_moment journal ≤ now
+            → Unit {0} → ((name : List ℕ) → value_given values name ≡ value_given (A.bindings set.now) name)
+            → Stands self.new (assigns now values ∷ journal) }
+        ensures stay { DoStay self.new.rows self.old.protocols self.new.protocols }
+    {
         self.assign(set, now);
     }
 }

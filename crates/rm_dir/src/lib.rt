@@ -11,6 +11,7 @@ mod keys;
 mod locals;
 mod row;
 mod settle;
+mod slots;
 mod support;
 #[cfg(test)]
 mod tests;

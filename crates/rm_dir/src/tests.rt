@@ -8,8 +8,10 @@ use crate::locals::judge_locals;
 use rm_group::{Assignments, Commits, Group, Look};
 use rm_model::{Reading, Verdict};
 use rm_path::{Protocol, ProtocolIdentifier};
+use rm_proto::{Cast, Facts, Ports};
 use rm_val::{ErrorStatus, Oid, Value};
 use std::alloc::Global;
+use std::process::Abort;
 use std::test::Fail;
 
 /// A Set of at most four bindings.
@@ -443,6 +445,76 @@ fn protocols_are_active(rt: HostRuntime) -> Result<(), Fail> {
         Verdict::Fine
     );
     assert_eq!(rt; directory.protocol(discard.identifier), Some(discard));
+    Ok(())
+}
+
+// A datagram of UDP, from one port to the other.
+fn datagram(source: u16, dest: u16) -> Facts {
+    Facts {
+        interface: 1,
+        length: 64,
+        good: true,
+        status: 0,
+        pair: None,
+        cast: Cast::Uni,
+        ether: Some(0x0800),
+        ip: None,
+        proto: Some(17),
+        ports: Some(Ports { source, dest }),
+    }
+}
+
+// A frame has these protocols on its path.
+fn check_path(
+    rt: &impl Abort,
+    directory: &Directory,
+    facts: &Facts,
+    expected: &[ProtocolIdentifier],
+) {
+    let path = directory.path(facts);
+    assert_eq!(rt; path.len(), expected.len());
+    for (place, identifier) in expected.iter().enumerate() {
+        let slot = directory.protocols().slot_of(*identifier);
+        assert_eq!(rt; path.as_slice().get(place).copied(), slot);
+    }
+}
+
+// The port of the receiver comes before that of the sender, where its row is active, and a protocol stays in its slot meanwhile.
+#[test]
+fn frames_have_paths(rt: HostRuntime) -> Result<(), Fail> {
+    let mut directory = Directory::new();
+    let base = [
+        ProtocolIdentifier::Ether2,
+        ProtocolIdentifier::Ether(0x0800),
+        ProtocolIdentifier::Ip(17),
+    ];
+    let of_snmp = [base[0], base[1], base[2], ProtocolIdentifier::Udp(161)];
+    let of_discard = [base[0], base[1], base[2], ProtocolIdentifier::Udp(9)];
+    check_path(&rt, &directory, &datagram(40000, 161), &of_snmp);
+    check_path(&rt, &directory, &datagram(40000, 40001), &base);
+    check_path(&rt, &directory, &datagram(161, 9), &of_snmp);
+    let later_fragment = Facts {
+        proto: None,
+        ports: None,
+        ..datagram(40000, 161)
+    };
+    check_path(&rt, &directory, &later_fragment, &base[..2]);
+    let slot = directory.protocols().slot_of(of_snmp[3]);
+    let steps = [
+        (4, &of_discard),
+        (2, &of_snmp),
+        (1, &of_discard),
+        (6, &of_snmp),
+    ];
+    for (status, expected) in steps {
+        let set = set_of(&[(STATUS, DISCARD, status)])?;
+        assert_eq!(rt;
+            apply(rt.alloc(), &mut directory, &set, 3000),
+            Verdict::Fine
+        );
+        check_path(&rt, &directory, &datagram(161, 9), expected);
+        assert_eq!(rt; directory.protocols().slot_of(of_snmp[3]), slot);
+    }
     Ok(())
 }
 

@@ -3,4 +3,4 @@ mod Examples
 pub mod Identifiers
 mod OrderLemmas
 mod Searches
-mod SlotLemmas
+pub mod SlotLemmas

@@ -1,11 +1,12 @@
 -- What a search finds among entries whose numbers rise, and what one more entry at the end does.
-use Rattle.std.proofs.Common.{◌≡◌, ℕ, zero, suc, ◌<◌, ◌≤◌, ◌≢◌, List, [], ◌∷◌, ◌++◌, length, get_or, nat_eq, cond, Some, None, Result, Ok, Err, IfOk, IfErr, refl, sym, ap, arith}
+use Rattle.std.proofs.Common.{◌≡◌, ℕ, zero, suc, ◌+◌, ◌-◌, ◌<◌, ◌≤◌, ◌≢◌, List, [], ◌∷◌, length, get_or, Bool, true, false, nat_eq, nat_lt, cond, Some, None, Result, Ok, Err, IfOk, IfErr, refl, sym, ◌∙◌, ap, arith}
+use Rattle.std.specs.List.{insert, remove}
+use Rattle.std.proofs.lemmas.List.Edits.{length-insert, get_or-insert_below, get_or-insert_at, get_or-insert_above, length-remove, get_or-remove_below, get_or-remove_above}
 use Rattle.std.specs.List.Sorted.{IsSearchInRange, IsBinarySearchResult, IsNonDecreasingBy}
 use Rattle.std.specs.Ordering.{nat_cmp, ordering_index}
 use Rattle.std.proofs.lemmas.Cmp.{ranked}
 use Rattle.std.proofs.lemmas.List.Sorted.{IsNonDecreasingBy-from_default}
 use Rattle.std.proofs.lemmas.Bool.Decides.{nat_tests}
-use Rattle.std.proofs.lemmas.Grind.{common_steps}
 use Rattle.rm_path.specs.declared.entry.Entry.{Entry}
 use Rattle.rm_path.specs.Order.{slot_with, no_entry, number_at, AreRising, IsAt, IsGap}
 
@@ -60,15 +61,69 @@ module _ (entries : List Entry) (rising : AreRising entries) (number : ℕ) wher
 pub gap_leads : (entries : List Entry) (number place : ℕ) → IsGap entries number place → slot_with entries number ≡ None
 gap_leads entries number place gap = absent entries number (λ i below same. grind (arith, gap.less_before i, gap.greater_after i))
 
--- all numbers are below another
-abbrev pub AreBelow : List Entry → ℕ → Type 0
-AreBelow entries number = (i : ℕ) → i < length entries → number_at entries i < number
+-- what the numbers lead to with one more entry, whose number no other has
+pub more_leads : (entries : List Entry) (new : Entry) (place number : ℕ) → slot_with entries new.number ≡ None
+    → slot_with (insert entries place new) number ≡ cond (nat_eq new.number number) (Some new.slot) (slot_with entries number)
+more_leads entries new zero number other = refl
+more_leads [] new (suc place) number other = refl
+more_leads (first ∷ entries) new (suc place) number other = by_test (nat_eq first.number new.number) refl other (more_leads entries new place number)
+  where
+    by_test : (t : Bool) → nat_eq first.number new.number ≡ t → cond t (Some first.slot) (slot_with entries new.number) ≡ None
+        → (slot_with entries new.number ≡ None → slot_with (insert entries place new) number ≡ cond (nat_eq new.number number) (Some new.slot) (slot_with entries number))
+        → slot_with (insert (first ∷ entries) (suc place) new) number ≡ cond (nat_eq new.number number) (Some new.slot) (slot_with (first ∷ entries) number)
+    by_test true e none rest = absurd (cc)
+    by_test false e none rest = let more = rest none in grind (arith, nat_tests)
 
--- what the numbers lead to with one more entry, whose number is above all others
-pub more_leads : (entries : List Entry) (new : Entry) (number : ℕ) → AreBelow entries new.number → slot_with (entries ++ new ∷ []) number ≡ cond (nat_eq new.number number) (Some new.slot) (slot_with entries number)
-more_leads [] new number below = refl
-more_leads (first ∷ entries) new number below =
-    grind (arith, nat_tests, below 0 (omega arith), more_leads entries new number (λ i within. below (suc i) (omega (arith, within))))
+module _ (entries : List Entry) (rising : AreRising entries) where
+  -- with an entry put in where its number belongs, the numbers rise
+  module _ (new : Entry) (place : ℕ) (gap : IsGap entries new.number place) where
+    then_at : (i : ℕ) → number_at (insert entries place new) i ≡ cond (nat_lt i place) (number_at entries i) (cond (nat_eq i place) new.number (number_at entries (i - 1)))
+    then_at i = by_place (nat_lt i place) refl
+      where
+        by_place : (t : Bool) → nat_lt i place ≡ t → number_at (insert entries place new) i ≡ cond t (number_at entries i) (cond (nat_eq i place) new.number (number_at entries (i - 1)))
+        by_place true e = ap (λ entry. entry.number) (get_or-insert_below entries place new no_entry i (grind (arith, nat_tests)) gap.within)
+        by_place false e = by_same (nat_eq i place) refl
+          where
+            by_same : (t : Bool) → nat_eq i place ≡ t → number_at (insert entries place new) i ≡ cond t new.number (number_at entries (i - 1))
+            by_same true same = let at : i ≡ place = grind (arith, nat_tests) in rw at (ap (λ entry. entry.number) (get_or-insert_at entries place new no_entry gap.within))
+            by_same false differs =
+                let above : place ≤ i - 1 = grind (arith, nat_tests) in
+                let next : i ≡ (i - 1) + 1 = grind (arith, nat_tests) in
+                ap (λ k. number_at (insert entries place new) k) next ∙ ap (λ entry. entry.number) (get_or-insert_above entries place new no_entry (i - 1) above gap.within)
 
-pub more_rise : (entries : List Entry) (new : Entry) → AreRising entries → AreBelow entries new.number → AreRising (entries ++ new ∷ [])
-more_rise entries new rising below i j less within = grind (arith, common_steps, rising i j, below i)
+    pub more_rise : AreRising (insert entries place new)
+    more_rise i j less within =
+        let long = length-insert entries place new gap.within in
+        rw (then_at i, then_at j) (grind (arith, nat_tests, rising i j, rising i (j - 1), rising (i - 1) (j - 1), gap.less_before i, gap.greater_after (j - 1)))
+
+  -- without the entry at a place
+  module _ (place : ℕ) (below : place < length entries) where
+    without_at : (i : ℕ) → number_at (remove entries place) i ≡ cond (nat_lt i place) (number_at entries i) (number_at entries (i + 1))
+    without_at i = by_place (nat_lt i place) refl
+      where
+        by_place : (t : Bool) → nat_lt i place ≡ t → number_at (remove entries place) i ≡ cond t (number_at entries i) (number_at entries (i + 1))
+        by_place true e = ap (λ entry. entry.number) (get_or-remove_below entries place no_entry i (grind (arith, nat_tests)) below)
+        by_place false e = ap (λ entry. entry.number) (get_or-remove_above entries place no_entry i (grind (arith, nat_tests)) below)
+
+    pub fewer_rise : AreRising (remove entries place)
+    fewer_rise i j less within =
+        let short = length-remove entries place below in
+        rw (without_at i, without_at j) (grind (arith, nat_tests, rising i j, rising i (j + 1), rising (i + 1) (j + 1)))
+
+behind_rise : (first : Entry) (entries : List Entry) → AreRising (first ∷ entries) → AreRising entries
+behind_rise first entries rising i j less within = rising (suc i) (suc j) (omega arith) (omega arith)
+
+-- what the numbers lead to without the entry at a place
+pub fewer_leads : (entries : List Entry) → AreRising entries → (place number : ℕ) → place < length entries
+    → slot_with (remove entries place) number ≡ cond (nat_eq (number_at entries place) number) None (slot_with entries number)
+fewer_leads [] rising place number below = absurd (omega (arith, below))
+fewer_leads (first ∷ entries) rising zero number below = by_test (nat_eq first.number number) refl
+  where
+    by_test : (t : Bool) → nat_eq first.number number ≡ t → slot_with entries number ≡ cond t None (cond t (Some first.slot) (slot_with entries number))
+    by_test true e = absent entries number (λ i within same. let less = rising 0 (suc i) (omega arith) (omega arith) in grind (arith, nat_tests))
+    by_test false e = refl
+fewer_leads (first ∷ entries) rising (suc place) number below =
+    let within : place < length entries = omega arith in
+    let less = rising 0 (suc place) (omega arith) (omega arith) in
+    let rest = fewer_leads entries (behind_rise first entries rising) place number within in
+    grind (arith, nat_tests)

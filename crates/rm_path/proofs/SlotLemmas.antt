@@ -1,10 +1,8 @@
 -- What slots have, and what their index says.
-use Rattle.std.proofs.Common.{◌≡◌, ℕ, zero, suc, ◌<◌, List, [], ◌∷◌, Bool, true, false, ◌&&◌, ◌||◌, Option, Some, None, option_map, refl, ap, subst, arith}
-use Rattle.std.proofs.lemmas.Bool.Decides.{nat_tests}
-use Rattle.rm_path.specs.Identifier.{number_of}
+use Rattle.std.proofs.Common.{◌≡◌, ℕ, zero, suc, List, [], ◌∷◌, Bool, true, false, ◌&&◌, ◌||◌, Option, Some, None, option_map, refl, ap}
 use Rattle.rm_path.specs.declared.identifier.ProtocolIdentifier.{ProtocolIdentifier}
 use Rattle.rm_path.specs.declared.protocol.Protocol.{Protocol}
-use Rattle.rm_path.specs.Slots.{identifier_in, is_of, is_active, is_below, are_below}
+use Rattle.rm_path.specs.Slots.{identifier_in, is_of, is_active}
 use Rattle.rm_path.proofs.Identifiers.{same_is, is_itself}
 
 of_it : (held : Option Protocol) (identifier : ProtocolIdentifier) → option_map (λ protocol. protocol.identifier) held ≡ Some identifier → is_of identifier held ≡ true
@@ -39,12 +37,12 @@ inactive (first ∷ slots) identifier none =
     not_first true is = absurd (none 0 (in_it first identifier is))
     not_first false is = is
 
--- what is in a slot has a number below, where all have
-pub below_in : (slots : List (Option Protocol)) (number slot : ℕ) (identifier : ProtocolIdentifier) → are_below slots number ≡ true → identifier_in slots slot ≡ Some identifier → number_of identifier < number
-below_in [] number slot identifier all is = absurd (cc)
-below_in (first ∷ slots) number zero identifier all is = of_first first (both (is_below number first) _ all).0 is
+-- a protocol that is active is in a slot
+pub some_slot : (slots : List (Option Protocol)) (identifier : ProtocolIdentifier) → is_active slots identifier ≡ true → (slot : ℕ) × (identifier_in slots slot ≡ Some identifier)
+some_slot [] identifier is = absurd (cc)
+some_slot (first ∷ slots) identifier is = by_test (is_of identifier first) refl is (some_slot slots identifier)
   where
-    of_first : (held : Option Protocol) → is_below number held ≡ true → option_map (λ protocol. protocol.identifier) held ≡ Some identifier → number_of identifier < number
-    of_first None below equal = absurd (cc)
-    of_first (Some protocol) below equal = let same : protocol.identifier ≡ identifier = cc in subst (λ k. number_of k < number) same (grind (arith, nat_tests))
-below_in (first ∷ slots) number (suc slot) identifier all is = below_in slots number slot identifier (both (is_below number first) _ all).1 is
+    by_test : (b : Bool) → is_of identifier first ≡ b → (b || is_active slots identifier) ≡ true
+        → (is_active slots identifier ≡ true → (slot : ℕ) × (identifier_in slots slot ≡ Some identifier)) → (slot : ℕ) × (identifier_in (first ∷ slots) slot ≡ Some identifier)
+    by_test true here is rest = (0, in_it first identifier here)
+    by_test false other is rest = let it = rest is in (suc it.0, it.1)

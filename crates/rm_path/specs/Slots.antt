@@ -1,6 +1,6 @@
 -- The slots of protocols.
-use Rattle.std.specs.Prelude.{◌≡◌, ℕ, ◌<◌, List, length, Bool, true, false, nat_lt, find, option_map, Option, Some, None, slice_index_or, is_some, count_by}
-use Rattle.std.specs.List.{list_any, list_all}
+use Rattle.std.specs.Prelude.{◌≡◌, ℕ, ◌<◌, List, length, Bool, true, false, find, option_map, Option, Some, None, slice_index_or, is_some, count_by}
+use Rattle.std.specs.List.{list_any}
 use Rattle.rm_path.specs.declared.entry.Entry.{Entry}
 use Rattle.rm_path.specs.declared.identifier.ProtocolIdentifier.{ProtocolIdentifier}
 use Rattle.rm_path.specs.declared.protocol.Protocol.{Protocol}
@@ -45,11 +45,17 @@ IsSlotOf slots (Some identifier) (Some slot) = (slot < 32) × (identifier_in slo
 abbrev pub IsSlotOfFirst : List (Option Protocol) → List ProtocolIdentifier → Option ℕ → Type 0
 IsSlotOfFirst slots layer slot = IsSlotOf slots (find (is_active slots) layer) slot
 
--- whether the number of the protocol in a slot, if there is one, is below another
-abbrev pub is_below : ℕ → Option Protocol → Bool
-is_below number None = true
-is_below number (Some protocol) = nat_lt (number_of protocol.identifier) number
+-- each slot has a protocol
+abbrev pub AreFull : List (Option Protocol) → Type 0
+AreFull slots = (slot : ℕ) → slot < 32 → is_some (protocol_in slots slot) ≡ true
 
--- whether the numbers of all protocols in slots are below another
-abbrev pub are_below : List (Option Protocol) → ℕ → Bool
-are_below slots number = list_all (is_below number) slots
+-- the numbers of the protocols in two slots are two
+abbrev pub AreApart : List (Option Protocol) → Type 0
+AreApart slots =
+    (slot other : ℕ) (one another : ProtocolIdentifier) → identifier_in slots slot ≡ Some one → identifier_in slots other ≡ Some another
+    → number_of one ≡ number_of another → slot ≡ other
+
+-- there are 32 slots, and no protocol is in two of them
+pub record HaveSlots (slots : List (Option Protocol)) : Type 0 where
+  pub count : length slots ≡ 32
+  pub apart : AreApart slots

@@ -1,8 +1,8 @@
 // The protocols that are active.
-ghost use Rattle.std.specs.Prelude.{◌≡◌, ◌<◌, IsTrue, [], ◌∷◌, None, Some, IfOk, IfErr, replicate, slice_set};
+ghost use Rattle.std.specs.Prelude.{◌≡◌, ◌<◌, true, false, [], ◌∷◌, None, Some, IfOk, IfErr, IfSome, IfNone, is_some, length, replicate, slice_set};
 ghost use Rattle.rm_path.specs.Identifier.{number_of};
 ghost use Rattle.rm_path.specs.Order.{AreRising, IsAt, IsGap};
-ghost use Rattle.rm_path.specs.Slots.{protocol_in, are_below, IsSlotOfFirst};
+ghost use Rattle.rm_path.specs.Slots.{protocol_in, identifier_in, is_active, IsSlotOfFirst, AreFull, HaveSlots};
 
 use crate::entry::Entry;
 use crate::identifier::ProtocolIdentifier;
@@ -44,22 +44,58 @@ impl Protocols {
         }
     }
 
-    /// Puts a protocol into a slot that is empty. Its number is above those of all others.
+    /// Puts a protocol that isn't active yet into a slot that is empty.
     pub fn add(&mut self, slot: u8, protocol: Protocol)
         requires within { slot < 32 }
         requires empty { protocol_in self.old slot ≡ None }
-        requires above { IsTrue (are_below self.old (number_of protocol.identifier)) }
+        requires inactive { is_active self.old protocol.identifier ≡ false }
         ensures { self.new ≡ slice_set self.old slot (Some protocol) }
     {
         let number = protocol.identifier.number();
-        self.order.push(Entry { number, slot });
+        if let Err(place) = place_of(self.order.as_slice(), number) {
+            self.order.insert(place, Entry { number, slot });
+            self.slots[usize::from(slot)] = Some(protocol);
+        }
+    }
+
+    /// Takes away the protocol in a slot, if there is one.
+    pub fn remove(&mut self, slot: u8)
+        requires { slot < 32 }
+        ensures { self.new ≡ slice_set self.old slot None }
+    {
+        let Some(protocol) = self.slots[usize::from(slot)] else {
+            return;
+        };
+        if let Ok(place) = place_of(self.order.as_slice(), protocol.identifier.number()) {
+            self.order.remove(place);
+            self.slots[usize::from(slot)] = None;
+        }
+    }
+
+    /// Puts what is known now of the protocol in a slot.
+    pub fn renew(&mut self, slot: u8, protocol: Protocol)
+        requires within { slot < 32 }
+        requires same { identifier_in self.old slot ≡ Some protocol.identifier }
+        ensures { self.new ≡ slice_set self.old slot (Some protocol) }
+    {
         self.slots[usize::from(slot)] = Some(protocol);
+    }
+
+    /// A slot that is empty. None where each has a protocol.
+    pub fn free_slot(&self) -> Option<u8>
+        ensures some { IfSome result (λ slot. (slot < 32) × (protocol_in self.now slot ≡ None)) }
+        ensures none { IfNone result (AreFull self.now) }
+        ensures slots { HaveSlots self.now }
+    {
+        let place = self.slots.iter().position(|held| held.is_none())?;
+        Some(place as u8)
     }
 
     /// The protocol in a slot. None where the slot is empty.
     pub fn get(&self, slot: u8) -> Option<Protocol>
         requires { slot < 32 }
-        ensures { result ≡ protocol_in self.now slot }
+        ensures value { result ≡ protocol_in self.now slot }
+        ensures count { length self.now ≡ 32 }
     {
         self.slots[usize::from(slot)]
     }

@@ -63,12 +63,12 @@ fn check(rt: &impl Abort, protocols: &Protocols, facts: Facts, expected: &[u8]) 
 #[test]
 fn frames_have_paths(rt: HostRuntime) {
     let mut protocols = Protocols::new();
-    protocols.add(5, protocol(ETHER2, 1));
+    protocols.add(2, protocol(SNMP, 19));
     protocols.add(0, protocol(IP, 2));
     protocols.add(31, protocol(ARP, 3));
-    protocols.add(3, protocol(UDP, 6));
+    protocols.add(5, protocol(ETHER2, 1));
     protocols.add(30, protocol(DOMAIN, 15));
-    protocols.add(2, protocol(SNMP, 19));
+    protocols.add(3, protocol(UDP, 6));
     check(&rt, &protocols, NOTHING, &[]);
     for (kind, expected) in [
         (0x0806, [5, 31].as_slice()),
@@ -123,6 +123,7 @@ fn protocols_are_found(rt: HostRuntime) {
     assert_eq!(rt; protocols.slot_of(UDP), None);
     assert_eq!(rt; protocols.get(6), Some(protocol(TCP, 5)));
     assert_eq!(rt; protocols.get(5), None);
+    assert_eq!(rt; protocols.free_slot(), Some(0));
     for (identifier, is_ip, is_above_ip) in [
         (ETHER2, false, false),
         (IP, true, false),
@@ -135,4 +136,27 @@ fn protocols_are_found(rt: HostRuntime) {
         assert_eq!(rt; found.is_ip(), is_ip, "{identifier:?}");
         assert_eq!(rt; found.is_above_ip(), is_above_ip, "{identifier:?}");
     }
+}
+
+// What is taken away is on no path any more, and the others stay in their slots.
+#[test]
+fn slots_are_freed(rt: HostRuntime) {
+    let mut protocols = Protocols::new();
+    protocols.add(0, protocol(UDP, 6));
+    protocols.add(1, protocol(ETHER2, 1));
+    protocols.add(2, protocol(IP, 2));
+    protocols.add(3, protocol(SNMP, 19));
+    check(&rt, &protocols, datagram(40000, 161), &[1, 2, 0, 3]);
+    protocols.remove(0);
+    check(&rt, &protocols, datagram(40000, 161), &[1, 2]);
+    assert_eq!(rt; protocols.free_slot(), Some(0));
+    assert_eq!(rt; protocols.slot_of(SNMP), Some(3));
+    let renewed = Protocol {
+        matrix: true,
+        ..protocol(IP, 2)
+    };
+    protocols.renew(2, renewed);
+    assert_eq!(rt; protocols.get(2), Some(renewed));
+    protocols.add(0, protocol(UDP, 21));
+    check(&rt, &protocols, datagram(40000, 161), &[1, 2, 0, 3]);
 }

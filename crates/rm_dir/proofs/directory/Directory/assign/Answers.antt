@@ -23,10 +23,11 @@ invariant_of-self g c =
       numbered = numbered_then bs c.args.self.now.rows c.commit.new.self c.settle-settled.new.rows c.args.self.now.given c.len-before.ensures.rows c.len.ensures.rows c.commit.ensures c.settle-settled.ensures.rows c.args.self.now.numbered (omega (arith, asked, enough));
       noted = noted_then bs c.args.self.now.rows c.commit.new.self c.settle-settled.new.rows c.args.self.now.given c.len-before.ensures.rows c.len.ensures.rows c.commit.ensures c.settle-settled.ensures.rows c.args.self.now.numbered;
       few = omega (arith, asked, enough, given);
+      active = c.follow.ensures.active;
     }
 
-pub returns : goal.returns
-returns g c journal values stands gives =
+pub returns-clause-stands : goal.returns-clause-stands
+returns-clause-stands g c journal values stands gives =
     let bs = g.A.Assigns.bindings c.args.set.now in
     let fine = all_fine protocol_dir bs c.requires.fine in
     let given = c.settle-settled.ensures.given in
