@@ -118,7 +118,7 @@ module _ {C : Type 0} (form : RowForm C) (journal : Journal) (now : ℕ) (bs : B
       }
 
 -- What becomes of what a row has collected.
-module _ {C P S : Type 0} (form : RowForm C) (collection : Collection C P S) (laws : IsLawful form collection) (shared : S) (settings : Counting) (suits : collection.suits shared settings)
+module _ {C P S J : Type 0} (form : RowForm C) (collection : Collection C P S J) (laws : IsLawful form collection) (shared : S) (settings : Counting) (suits : collection.suits shared settings)
     (journal : Journal) (now : ℕ) (later : last_moment journal ≤ now) (bs : Bindings) (values : Assignments) (rows new : List (Row C)) (set : IsCommitted form no_rows journal values bs rows new) where
   abbrev kept_before : ℕ → Option P → Type 0
   kept_before = IsKept form.table collection.is_of settings journal
@@ -159,7 +159,7 @@ module _ {C P S : Type 0} (form : RowForm C) (collection : Collection C P S) (la
       part_then i (part_in parts i) (part_in then i) (valid_in new i) refl (are i) (of_valid i) (kept i) (begun i)
 
 -- Parts that have just begun fit, and those that fit at a moment fit later.
-module _ {C P S : Type 0} (form : RowForm C) (collection : Collection C P S) (laws : IsLawful form collection) (shared : S) (last now frames : ℕ) (later : last ≤ now) where
+module _ {C P S J : Type 0} (form : RowForm C) (collection : Collection C P S J) (laws : IsLawful form collection) (shared : S) (last now frames : ℕ) (later : last ≤ now) where
   begun_fits : (row : Option (Row C)) (part : P) → is_valid (state_seen row) ≡ true → Begins form collection shared now (if_valid row) part → collection.fits now frames part
   begun_fits None part valid begun = absurd (cc)
   begun_fits (Some row) part valid begun =

@@ -21,7 +21,7 @@ use Rattle.rm_collect.specs.Group.{Stands, AreFine}
 use Rattle.rm_collect.proofs.InRange.{first_fine, rows_in_range}
 use Rattle.rm_collect.proofs.AfterSets.{rows_with_set, parts_with_set, all_fit_then}
 
-module _ {C P S : Type 0} (form : RowForm C) (collection : Collection C P S) (laws : IsLawful form collection) (held : Held C P S) (well : IsWellHeld collection held) (now : ℕ) (later : held.last ≤ now)
+module _ {C P S J : Type 0} (form : RowForm C) (collection : Collection C P S J) (laws : IsLawful form collection) (held : Held C P S) (well : IsWellHeld collection held) (now : ℕ) (later : held.last ≤ now)
     (bs : Bindings) (fine : AreFine form collection held bs) (new : List (Row C)) (after : (i : ℕ) → row_in new i ≡ row_after form.table form.with_column form.blank bs i (row_in held.rows i))
     (then : List (Slot P)) (of_valid : IsOfValid then new)
     (stays : (row : ℕ) → valid_in new row ≡ true → has_part held.parts row ≡ true → part_in then row ≡ part_in held.parts row)

@@ -21,7 +21,7 @@ no_first : (o p : Option ErrorStatus) → option_or o p ≡ None → o ≡ None
 no_first None p e = refl
 no_first (Some x) p e = cc
 
-module _ {C P S : Type 0} (form : RowForm C) (collection : Collection C P S) (laws : IsLawful form collection) where
+module _ {C P S J : Type 0} (form : RowForm C) (collection : Collection C P S J) (laws : IsLawful form collection) where
   -- nothing is wrong with a binding alone that is of the control table
   pub first_fine : (bindings : Bindings) → AreFineAlone (alone form collection) bindings → (place : ℕ) → place < length bindings → first_pass form.table bindings place ≡ None
   first_fine bindings fine place within = no_first _ _ (fine place within)

@@ -13,7 +13,7 @@ use Rattle.rm_collect.specs.Held.{Held}
 use Rattle.rm_collect.specs.WellHeld.{IsWellHeld}
 use Rattle.rm_collect.specs.Group.{Stands}
 
-module _ {C P S : Type 0} (form : RowForm C) (collection : Collection C P S) (held : Held C P S) (parts : List (Slot P)) (same : (row : ℕ) → part_in parts row ≡ part_in held.parts row) where
+module _ {C P S J : Type 0} (form : RowForm C) (collection : Collection C P S J) (held : Held C P S) (parts : List (Slot P)) (same : (row : ℕ) → part_in parts row ≡ part_in held.parts row) where
   abbrev with_parts : Held C P S
   with_parts = record held { parts = parts }
 

@@ -17,7 +17,7 @@ if_valid (Some row) = if is_valid row.state then Some row.columns else None
 abbrev pub valid_columns : {C : Type 0} → List (Row C) → (row : ℕ) → Option C
 valid_columns rows row = if_valid (row_in rows row)
 
-module _ {C P S : Type 0} (form : RowForm C) (collection : Collection C P S) (shared : S) (now : ℕ) where
+module _ {C P S J : Type 0} (form : RowForm C) (collection : Collection C P S J) (shared : S) (now : ℕ) where
   -- A part was begun at a moment of a row with these columns: nothing in it is later, and it is what the row has collected where it has
   -- just become valid.
   pub record IsBegun (columns : C) (part : P) : Type 0 where

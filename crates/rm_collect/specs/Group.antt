@@ -33,7 +33,7 @@ module _ {C P S : Type 0} (form : RowForm C) where
   abbrev pub IsReleased : Held C P S → Type 0
   IsReleased held = length held.parts ≤ max 1 (count_valid form.table (rows_before form.table form.set_to held.rows))
 
-module _ {C P S : Type 0} (form : RowForm C) (collection : Collection C P S) where
+module _ {C P S J : Type 0} (form : RowForm C) (collection : Collection C P S J) where
   -- It stands for a journal: what the rows share is what the probe was set to, it was given the frames of the journal, its rows are those
   -- after it, and exactly the valid ones have what they have collected.
   pub record Stands (held : Held C P S) (settings : Counting) (journal : Journal) : Type 0 where

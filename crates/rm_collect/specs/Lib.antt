@@ -1,3 +1,4 @@
+pub mod Passed
 pub mod Rows
 pub mod Collection
 pub mod Held

@@ -1,6 +1,6 @@
 -- A made-up control table, for the tests: each valid row counts the frames of an interface. Column 2 is the interface, 1 to 9, column 3
 -- the count, and column 4 the status.
-use Rattle.std.specs.Prelude.{◌≡◌, ℕ, ◌+◌, ◌≤◌, pos, List, [], ◌∷◌, length, filter, nat_eq, if◌then◌else◌, Option, None, refl}
+use Rattle.std.specs.Prelude.{◌≡◌, ℕ, ◌+◌, ◌≤◌, pos, List, [], ◌∷◌, length, filter, nat_eq, if◌then◌else◌, Option, None, refl, true}
 use Rattle.std.specs.Option.{option_map_or}
 use Rattle.rm_val.specs.Val.{Val, int, counter}
 use Rattle.rm_proto.specs.declared.known.Facts.{Facts}
@@ -81,17 +81,22 @@ count_kept parts column index = counter (option_map_or (λ tallied. tallied.coun
 abbrev pub made_up_table : Journal → Table
 made_up_table journal = control_cells made_up no_rows made_up_columns (with_index (count_after journal)) journal
 
-abbrev pub made_up_collection : Collection ℕ Tallied ℕ
+-- its rows go by the facts of frames alone
+abbrev pub made_up_collection : Collection ℕ Tallied ℕ (Unit {0})
 made_up_collection = record {
   suits = λ shared settings. settings.hosts ≡ shared;
   in_range = λ source. Unit {0};
   in_range_prop = λ source a b d. tt;
   fits = λ last frames tallied. (tallied.begun ≤ last) × (tallied.count ≤ frames);
   is_of = IsTally;
-  takes = λ facts moment before. Tallies facts;
+  judges = λ settings journal frame judged. Unit {0};
+  within = λ seen. Unit {0};
+  takes = λ judged seen before. Tallies seen.facts;
   others = λ rows. count_kept;
-  inner = λ parts now name. None;
+  inner = λ rows parts now name. None;
   cells = λ settings journal now. cells_of (made_up_table journal);
+  samples_inner = true;
+  sampleable = λ settings journal now. cells_of (made_up_table journal);
   tables = record { entry = made_up_entry; columns = made_up_columns } ∷ [];
   inner_alone = λ name value. None;
 }

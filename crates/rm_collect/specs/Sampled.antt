@@ -20,7 +20,7 @@ and_idle false b idle = refl
 
 module _ (table : ControlTable) (index : List ℕ) where
   -- a row that isn't valid has no moment at which it became so
-  never_activated : (journal : Journal) → is_valid (state_of table no_rows journal index) ≡ false → activated table no_rows journal index ≡ 0
+  pub never_activated : (journal : Journal) → is_valid (state_of table no_rows journal index) ≡ false → activated table no_rows journal index ≡ 0
   never_activated [] idle = refl
   never_activated (act ∷ earlier) idle =
       ap (λ b. cond b (activated table no_rows earlier index) (cond (is_valid (state_of table no_rows (act ∷ earlier) index)) (moment_of act) 0)) (and_idle (is_valid (state_of table no_rows earlier index)) (is_valid (state_of table no_rows (act ∷ earlier) index)) idle)
@@ -67,7 +67,7 @@ module _ (table : ControlTable) (unsampled : table.is_sampled ≡ false) (journa
   }
 
 -- what stands for a journal stands for it with a sample in front, which isn't earlier than its last act
-module _ {C P S : Type 0} (form : RowForm C) (collection : Collection C P S) (laws : IsLawful form collection) (settings : Counting) (journal : Journal) (moment alarm : ℕ) (reading : Option ℤ) (later : last_moment journal ≤ moment) where
+module _ {C P S J : Type 0} (form : RowForm C) (collection : Collection C P S J) (laws : IsLawful form collection) (settings : Counting) (journal : Journal) (moment alarm : ℕ) (reading : Option ℤ) (later : last_moment journal ≤ moment) where
   kept_sampled : (row : ℕ) (o : Option P) → IsKept form.table collection.is_of settings journal row o → IsKept form.table collection.is_of settings (samples moment alarm reading ∷ journal) row o
   kept_sampled row None idle = ap is_valid (same_state form.table laws.unsampled journal moment alarm reading (row_index form.table row)) ∙ idle
   kept_sampled row (Some part) is = (

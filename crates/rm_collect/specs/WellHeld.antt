@@ -8,7 +8,7 @@ use Rattle.rm_pool.specs.Pools.{Allowed, IsOfValid}
 use Rattle.rm_collect.specs.Collection.{Collection}
 use Rattle.rm_collect.specs.Held.{Held}
 
-module _ {C P S : Type 0} (collection : Collection C P S) where
+module _ {C P S J : Type 0} (collection : Collection C P S J) where
   -- the columns of each row are in range
   abbrev pub AreAllInRange : List (Row C) → Type 0
   AreAllInRange rows = (index : ℕ) (row : Row C) → row_in rows index ≡ Some row → collection.in_range row.columns

@@ -3,17 +3,17 @@ ghost use Rattle.std.specs.Prelude.{◌≡◌, ℕ, ◌+◌, ◌<◌, ◌≤◌,
 ghost use Rattle.std.specs.Option.{option_copied};
 ghost use Rattle.rm_model.specs.Counting.{Counting};
 ghost use Rattle.rm_model.specs.Journal.{Journal, Frame, passes};
-ghost use Rattle.rm_model.specs.FrameFacts.{frame_facts};
 ghost use Rattle.rm_group.specs.declared.bounds.TheConstants.{MOST_FRAMES, MOST_OCTETS};
+ghost use Rattle.rm_group.specs.Passing.{IsOf};
 ghost use Rattle.rm_pool.specs.Slots.{part_in};
+ghost use Rattle.rm_collect.specs.Passed.{passed};
 ghost use Rattle.rm_collect.specs.Rows.{IsKept};
 ghost use Rattle.rm_collect.specs.Group.{Stands, IsStocked, frames_given, last_given};
 
-use crate::collected::Collected;
+use crate::collected::{ByFacts, Collected};
 use crate::table::Table;
-use rm_group::{MOST_FRAMES, MOST_OCTETS};
+use rm_group::{MOST_FRAMES, MOST_OCTETS, Passing};
 use rm_pool::Pool;
-use rm_proto::Facts;
 use rm_status::Controls;
 use rm_val::NoMemory;
 use std::alloc::Global;
@@ -69,23 +69,25 @@ impl<P: Collected> Collecting<P> {
         self.parts.reserve(alloc)
     }
 
-    /// A frame passes at a moment, in milliseconds, which isn't below the one given last: each valid row takes it. Fewer than
+    /// A frame passes that was judged to be these, at a moment which isn't below the one given last: each valid row takes it. Fewer than
     /// `MOST_FRAMES` frames were given before.
-    pub fn frame(&mut self, facts: &Facts, moment: u32)
-        requires later { last_given self.old ≤ moment }
+    pub fn take_judged(&mut self, judged: &[P::Judged], passing: &Passing<'_>)
+        requires later { last_given self.old ≤ passing.now.moment }
         requires room { frames_given self.old < MOST_FRAMES }
-        requires length { facts.now.length ≤ MOST_OCTETS }
+        requires length { passing.now.facts.length ≤ MOST_OCTETS }
+        requires within { P.collection.within (passed passing.now.facts passing.now.octets.now passing.now.number passing.now.moment) }
         ensures stands { (settings : Counting) (journal : Journal) (frame : Frame) → Stands P.Columns.form P.collection self.old settings journal
-            → facts.now ≡ frame_facts settings frame → frame.moment ≡ moment
+            → IsOf settings frame passing.now.facts passing.now.octets.now passing.now.number passing.now.moment
+            → P.collection.judges settings journal frame judged.now
             → Stands P.Columns.form P.collection self.new settings (passes frame ∷ journal) }
         ensures frames { frames_given self.new ≡ frames_given self.old + 1 }
-        ensures last { last_given self.new ≡ moment }
+        ensures last { last_given self.new ≡ passing.now.moment }
         ensures stocked { IsStocked self.old → IsStocked self.new }
     {
         let before = self.frames;
-        P::pass(&mut self.parts, facts, moment, before);
+        P::pass(&mut self.parts, judged, passing, before);
         self.frames = before + 1;
-        self.table.last = moment;
+        self.table.last = passing.moment;
     }
 
     /// What a row has collected. None exactly where the row isn't valid.
@@ -95,5 +97,23 @@ impl<P: Collected> Collecting<P> {
             → IsKept P.Columns.form.table P.collection.is_of settings journal row (option_copied result) }
     {
         self.parts.get(row)
+    }
+}
+
+impl<P: ByFacts> Collecting<P> {
+    /// A frame passes at a moment which isn't below the one given last: each valid row takes it. Fewer than `MOST_FRAMES` frames were
+    /// given before.
+    pub fn frame(&mut self, passing: &Passing<'_>)
+        requires later { last_given self.old ≤ passing.now.moment }
+        requires room { frames_given self.old < MOST_FRAMES }
+        requires length { passing.now.facts.length ≤ MOST_OCTETS }
+        ensures stands { (settings : Counting) (journal : Journal) (frame : Frame) → Stands P.Columns.form P.collection self.old settings journal
+            → IsOf settings frame passing.now.facts passing.now.octets.now passing.now.number passing.now.moment
+            → Stands P.Columns.form P.collection self.new settings (passes frame ∷ journal) }
+        ensures frames { frames_given self.new ≡ frames_given self.old + 1 }
+        ensures last { last_given self.new ≡ passing.now.moment }
+        ensures stocked { IsStocked self.old → IsStocked self.new }
+    {
+        self.take_judged(&[], passing);
     }
 }

@@ -1,5 +1,5 @@
 // A control table whose valid rows collect, as a group of objects.
-use crate::collected::Collected;
+use crate::collected::{ByFacts, Collected};
 use crate::collecting::Collecting;
 use rm_group::{
     Assigns, Commits, Denied, Group, Look, NeverDue, Passing, Readable, TableObjects, Tables,
@@ -100,14 +100,14 @@ impl<P: Collected> Tables for Collecting<P> {
 }
 
 impl<P: Collected> Readable for Collecting<P> {
-    ghost use Rattle.rm_collect.specs.Collection.{kept};
+    ghost use Rattle.rm_collect.specs.Collection.{sampled};
 
-    ghost sampleable = { P.collection.cells };
+    ghost sampleable = { P.collection.sampleable };
 
-    ghost shown = { λ s now. kept P.Columns.form P.collection s.rows s.parts now };
+    ghost shown = { λ s now. sampled P.Columns.form P.collection s.rows s.parts now };
 
     fn value(&self, name: &Oid, now: u32) -> Option<Value<'_>> {
-        self.shown_at(name, now)
+        self.sampled_at(name, now)
     }
 
     fn shows(&self, _now: u32) {
@@ -117,13 +117,13 @@ impl<P: Collected> Readable for Collecting<P> {
     ghost recurring = { P.laws.recurring };
 }
 
-impl<P: Collected> Unfired for Collecting<P> {
+impl<P: ByFacts> Unfired for Collecting<P> {
     fn take_frame(&mut self, passing: &Passing<'_>) {
-        self.frame(&passing.facts, passing.moment);
+        self.frame(passing);
     }
 }
 
-impl<P: Collected> Unsampled for Collecting<P> {
+impl<P: ByFacts> Unsampled for Collecting<P> {
     ghost use Rattle.rm_collect.specs.Sampled.{stands_sampled};
 
     ghost begins = { λ s settings earlier moment alarm reading stands later asked. stands_sampled P.Columns.form P.collection P.laws settings earlier moment alarm reading later s stands };

@@ -5,10 +5,12 @@ mod assigning;
 mod collected;
 mod collecting;
 mod group;
+mod row_columns;
 mod shown;
 mod table;
 #[cfg(test)]
 mod tests;
 
-pub use collected::Collected;
+pub use collected::{ByFacts, Collected};
 pub use collecting::Collecting;
+pub use row_columns::RowColumns;

@@ -5,7 +5,7 @@ ghost use Rattle.rm_val.specs.Val.{val_of};
 ghost use Rattle.rm_val.specs.Spellable.{IsSpellable, HasSpelling};
 ghost use Rattle.rm_model.specs.Cells.{IsNext};
 ghost use Rattle.rm_status.specs.Rows.{AreControlRows};
-ghost use Rattle.rm_collect.specs.Collection.{kept};
+ghost use Rattle.rm_collect.specs.Collection.{control_kept, kept, sampled};
 
 use crate::collected::Collected;
 use crate::collecting::Collecting;
@@ -36,11 +36,31 @@ impl<P: Collected> Collecting<P> {
         ensures rows { AreControlRows P.Columns.form.table self.now.rows }
     {
         prove!(self.table.rows.len() <= 32);
-        let parts = &self.parts;
-        match self.table.rows.cell(&Others { parts }, name) {
+        match self.control_at(name) {
             Some(value) => Some(value),
-            None => P::inner_cell(parts, name, now),
+            None => P::inner_cell(&self.table.rows, &self.parts, name, now),
         }
+    }
+
+    /// What the tables that alarms may sample show under a name, at a moment in milliseconds. None where they show nothing.
+    pub(crate) fn sampled_at(&self, name: &Oid, now: u32) -> Option<Value<'_>>
+        ensures { option_map val_of result ≡ sampled P.Columns.form P.collection self.now.rows self.now.parts now name.now }
+    {
+        if P::samples_inner() {
+            self.shown_at(name, now)
+        } else {
+            self.control_at(name)
+        }
+    }
+
+    // What the control table shows under a name. None where it shows nothing.
+    fn control_at(&self, name: &Oid) -> Option<Value<'_>>
+        ensures value { option_map val_of result ≡ control_kept P.Columns.form P.collection self.now.rows self.now.parts name.now }
+        ensures spelling { IfSome result (λ value. HasSpelling (val_of value)) }
+    {
+        prove!(self.table.rows.len() <= 32);
+        let parts = &self.parts;
+        self.table.rows.cell(&Others { parts }, name)
     }
 
     /// What the tables show under the least name above one, at a moment in milliseconds. That name is put into `out`. None where they show
@@ -60,7 +80,7 @@ impl<P: Collected> Collecting<P> {
             return nearer;
         }
         let mut other = Oid::new();
-        let inner = P::inner_after(parts, name, now, &mut other);
+        let inner = P::inner_after(&self.table.rows, parts, name, now, &mut other);
         choose_nearer(nearer, out, inner, other)
     }
 }

@@ -1,5 +1,5 @@
 -- What the valid rows of historyControl collect: each has a history, of which etherHistory shows the last complete buckets.
-use Rattle.std.specs.Prelude.{ℕ, List, [], ◌∷◌, Option}
+use Rattle.std.specs.Prelude.{ℕ, List, [], ◌∷◌, Option, true}
 use Rattle.std.specs.Option.{option_or}
 use Rattle.rm_val.specs.Val.{Val}
 use Rattle.rm_val.specs.declared.error.ErrorStatus.{ErrorStatus}
@@ -33,17 +33,21 @@ abbrev pub history_cells : Counting → Journal → (now : ℕ) → Cells
 history_cells settings journal now name = option_or (cells_of (control_table journal) name) (cells_of (sample_table settings journal now) name)
 
 -- Rows share nothing.
-unfoldable pub history_collection : Collection ControlColumns Run (Unit {0})
+unfoldable pub history_collection : Collection ControlColumns Run (Unit {0}) (Unit {0})
 history_collection = record {
   suits = λ shared settings. Unit {0};
   in_range = AreInRange;
   in_range_prop = in_range_prop;
   fits = Fits;
   is_of = IsRun;
-  takes = λ facts moment before. Counts facts moment;
+  judges = λ settings journal frame judged. Unit {0};
+  within = λ seen. Unit {0};
+  takes = λ judged seen before. Counts seen.facts seen.moment;
   others = λ rows runs. kept_other rows;
-  inner = λ runs now. cells_of (runs_table runs now);
+  inner = λ rows runs now. cells_of (runs_table runs now);
   cells = history_cells;
+  samples_inner = true;
+  sampleable = history_cells;
   tables = history_tables;
   inner_alone = samples_alone;
 }

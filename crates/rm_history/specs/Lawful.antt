@@ -1,7 +1,10 @@
 -- What holds of the histories that the valid rows of historyControl collect.
 use Rattle.std.specs.Prelude.{[], ◌∷◌, refl}
+use Rattle.rm_model.specs.Counting.{Counting}
+use Rattle.rm_model.specs.Journal.{Frame, Journal}
 use Rattle.rm_model.specs.Cells.{cells_of}
 use Rattle.rm_group.specs.Listed.{of_table, with_table, beside_listed}
+use Rattle.rm_collect.specs.Passed.{Passed}
 use Rattle.rm_collect.specs.Collection.{IsLawful}
 use Rattle.rm_history.specs.Columns.{control_columns}
 use Rattle.rm_history.specs.HistoryControl.{history_control, control_table}
@@ -19,10 +22,11 @@ history_lawful = record {
   blank_in_range = λ index. blank_in_range;
   put_in_range = put_in_range;
   fits_later = fits_later;
-  fits_taken = fits_counted;
-  is_of_taken = run_taken;
+  fits_taken = λ judged seen. fits_counted seen.facts seen.moment;
+  is_of_taken = λ settings journal row frame judged run new valid judges. run_taken settings journal row frame run new valid;
   is_of_going = run_going;
   same = same_cells;
+  same_sampled = same_cells;
   recurring = λ settings one other journal alike now name. refl;
   finite = history_finite;
   by_number = refl;
@@ -30,3 +34,12 @@ history_lawful = record {
   shows_listed = λ settings journal now. with_table (control_table journal) (sample_listed ∷ []) (cells_of (sample_table settings journal now)) (of_table (sample_table settings journal now));
   refuses_listed = beside_listed history_control control_columns sample_listed;
 }
+
+-- the facts of a frame are all that counts, and each frame may be taken
+pub unjudged : (settings : Counting) (journal : Journal) (frame : Frame) → history_collection.judges settings journal frame []
+unfolding history_collection
+unjudged settings journal frame = tt
+
+pub all_within : (seen : Passed) → history_collection.within seen
+unfolding history_collection
+all_within seen = tt

@@ -8,13 +8,12 @@ use crate::counted_frame::CountedFrame;
 use crate::plan::Plan;
 use crate::run::{MOST_BUCKETS, Run};
 use crate::samples::{SAMPLE_OBJECTS, Samples};
-use rm_collect::Collected;
+use rm_collect::{ByFacts, Collected, RowColumns};
 use rm_ether::Adding;
-use rm_group::{Assigns, TableObjects, judge_read_only};
+use rm_group::{Assigns, Passing, TableObjects, judge_read_only};
 use rm_model::{State, Verdict};
 use rm_nested::{InnerTable, inner_cell, next_inner_cell};
 use rm_pool::Pool;
-use rm_proto::Facts;
 use rm_status::Row;
 use rm_val::{Oid, Value};
 
@@ -30,14 +29,17 @@ impl Collected for Run {
 
     type Shared = ();
 
+    type Judged = ();
+
     ghost collection = { history_collection };
 
     fn begin(&mut self, columns: &ControlColumns, _shared: &(), now: u32) {
         self.restart(columns.source, plan_from(columns, now));
     }
 
-    fn pass(runs: &mut Pool<Run>, facts: &Facts, moment: u32, _before: u32) {
-        let adding = Adding::of(facts);
+    fn pass(runs: &mut Pool<Run>, _judged: &[()], passing: &Passing<'_>, _before: u32) {
+        let adding = Adding::of(&passing.facts);
+        let moment = passing.moment;
         runs.change_each(&CountedFrame { adding, moment });
     }
 
@@ -50,11 +52,17 @@ impl Collected for Run {
         Value::Int(granted(row.state, u32::from(row.columns.requested)) as i32)
     }
 
-    fn inner_cell<'a>(runs: &'a Pool<Run>, name: &Oid, now: u32) -> Option<Value<'a>> {
+    fn inner_cell<'a, R: RowColumns<ControlColumns>>(
+        _rows: &'a R,
+        runs: &'a Pool<Run>,
+        name: &Oid,
+        now: u32,
+    ) -> Option<Value<'a>> {
         inner_cell(&Samples { runs }, name, now)
     }
 
-    fn inner_after<'a>(
+    fn inner_after<'a, R: RowColumns<ControlColumns>>(
+        _rows: &'a R,
         runs: &'a Pool<Run>,
         name: &Oid,
         now: u32,
@@ -65,6 +73,10 @@ impl Collected for Run {
 
     fn inner_least() -> &'static [u32] {
         SAMPLE_OBJECTS.entry
+    }
+
+    fn samples_inner() -> bool {
+        true
     }
 
     fn judge_inner<A: Assigns>(set: &A) -> Verdict {
@@ -82,6 +94,14 @@ impl Collected for Run {
     ghost laws = { history_lawful };
 
     ghost spelled = { λ columns. tt };
+}
+
+impl ByFacts for Run {
+    ghost use Rattle.rm_history.specs.Lawful.{unjudged, all_within};
+
+    ghost unjudged = { unjudged };
+
+    ghost all_within = { all_within };
 }
 
 // How the history of a row with these columns is taken that begins at a moment.

@@ -1,7 +1,10 @@
 -- The laws of what the rows of hostControl collect.
-use Rattle.std.proofs.Common.{refl}
+use Rattle.std.proofs.Common.{refl, []}
+use Rattle.rm_model.specs.Counting.{Counting}
+use Rattle.rm_model.specs.Journal.{Frame, Journal}
 use Rattle.rm_keyed.proofs.TwoLaws.{all_listed, beside_two}
 use Rattle.rm_keyed.specs.SourceControl.{source_rows}
+use Rattle.rm_collect.specs.Passed.{Passed}
 use Rattle.rm_collect.specs.Collection.{IsLawful}
 use Rattle.rm_hosts.specs.Columns.{control_columns}
 use Rattle.rm_hosts.specs.Control.{host_control}
@@ -21,10 +24,11 @@ host_lawful = record {
   blank_in_range = λ index. tt;
   put_in_range = λ columns column value takes in_range. tt;
   fits_later = λ last now frames table. ready_later last now frames table;
-  fits_taken = ready_again;
-  is_of_taken = λ settings journal row frame table new valid ready. one_frame settings journal row frame table new valid;
+  fits_taken = λ judged seen. ready_again seen.facts seen.moment;
+  is_of_taken = λ settings journal row frame judged table new valid judges ready. one_frame settings journal row frame table new valid;
   is_of_going = goes_on;
   same = λ settings journal now rows tables held is are later. same_cells tables settings journal are now rows held is;
+  same_sampled = λ settings journal now rows tables held is are later. same_cells tables settings journal are now rows held is;
   recurring = λ settings one other journal alike now name. refl;
   finite = λ settings journal now. all_finite settings journal;
   by_number = refl;
@@ -32,3 +36,12 @@ host_lawful = record {
   shows_listed = λ settings journal now. all_listed (host_table settings journal) (time_table settings journal) (control_table settings journal);
   refuses_listed = beside_two host_control control_columns host_listed time_listed;
 }
+
+-- the facts of a frame are all that counts, and each frame may be taken
+pub unjudged : (settings : Counting) (journal : Journal) (frame : Frame) → host_collection.judges settings journal frame []
+unfolding host_collection
+unjudged settings journal frame = tt
+
+pub all_within : (seen : Passed) → host_collection.within seen
+unfolding host_collection
+all_within seen = tt

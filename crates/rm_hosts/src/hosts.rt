@@ -7,12 +7,11 @@ use crate::counted_frame::CountedFrame;
 use crate::host_control::{CONTROL_OBJECTS, ControlColumns};
 use crate::host_room::HostRoom;
 use crate::host_table::HostTable;
-use rm_collect::{Collected, Collecting};
-use rm_group::{Assigns, TableObjects};
+use rm_collect::{ByFacts, Collected, Collecting, RowColumns};
+use rm_group::{Assigns, Passing, TableObjects};
 use rm_keyed::{PartRows, cell_of_two, judge_two, next_of_two, source_value};
 use rm_model::Verdict;
 use rm_pool::Pool;
-use rm_proto::Facts;
 use rm_status::Row;
 use rm_val::{Oid, Value};
 
@@ -34,6 +33,8 @@ impl Collected for HostTable {
 
     type Shared = HostRoom;
 
+    type Judged = ();
+
     ghost use Rattle.rm_hosts.specs.Collection.{host_collection};
     ghost use Rattle.rm_hosts.specs.Lawful.{host_lawful};
 
@@ -45,11 +46,11 @@ impl Collected for HostTable {
     }
 
     // A frame has two stamps, for its two references.
-    fn pass(tables: &mut Pool<HostTable>, facts: &Facts, moment: u32, before: u32) {
+    fn pass(tables: &mut Pool<HostTable>, _judged: &[()], passing: &Passing<'_>, before: u32) {
         let stamp = 2 * u64::from(before);
         tables.change_each(&CountedFrame {
-            facts,
-            moment,
+            facts: &passing.facts,
+            moment: passing.moment,
             stamp,
         });
     }
@@ -67,12 +68,18 @@ impl Collected for HostTable {
         source_value(rows, column)
     }
 
-    fn inner_cell<'a>(tables: &'a Pool<HostTable>, name: &Oid, now: u32) -> Option<Value<'a>> {
+    fn inner_cell<'a, R: RowColumns<ControlColumns>>(
+        _rows: &'a R,
+        tables: &'a Pool<HostTable>,
+        name: &Oid,
+        now: u32,
+    ) -> Option<Value<'a>> {
         let parts = tables;
         cell_of_two(&Addresses { parts }, &Ranks { parts }, name, now)
     }
 
-    fn inner_after<'a>(
+    fn inner_after<'a, R: RowColumns<ControlColumns>>(
+        _rows: &'a R,
         tables: &'a Pool<HostTable>,
         name: &Oid,
         now: u32,
@@ -84,6 +91,10 @@ impl Collected for HostTable {
 
     fn inner_least() -> &'static [u32] {
         HOST_OBJECTS.entry
+    }
+
+    fn samples_inner() -> bool {
+        true
     }
 
     fn judge_inner<A: Assigns>(set: &A) -> Verdict {
@@ -101,4 +112,12 @@ impl Collected for HostTable {
     ghost laws = { host_lawful };
 
     ghost spelled = { λ columns. tt };
+}
+
+impl ByFacts for HostTable {
+    ghost use Rattle.rm_hosts.specs.Lawful.{unjudged, all_within};
+
+    ghost unjudged = { unjudged };
+
+    ghost all_within = { all_within };
 }

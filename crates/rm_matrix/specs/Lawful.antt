@@ -1,7 +1,10 @@
 -- The laws of what the rows of matrixControl collect.
-use Rattle.std.proofs.Common.{refl}
+use Rattle.std.proofs.Common.{refl, []}
+use Rattle.rm_model.specs.Counting.{Counting}
+use Rattle.rm_model.specs.Journal.{Frame, Journal}
 use Rattle.rm_keyed.proofs.TwoLaws.{all_listed, beside_two}
 use Rattle.rm_keyed.specs.SourceControl.{source_rows}
+use Rattle.rm_collect.specs.Passed.{Passed}
 use Rattle.rm_collect.specs.Collection.{IsLawful}
 use Rattle.rm_matrix.specs.Columns.{control_columns}
 use Rattle.rm_matrix.specs.Control.{matrix_control}
@@ -21,10 +24,11 @@ matrix_lawful = record {
   blank_in_range = λ index. tt;
   put_in_range = λ columns column value takes in_range. tt;
   fits_later = λ last now frames table. ready_later last now frames table;
-  fits_taken = ready_again;
-  is_of_taken = λ settings journal row frame table new valid ready. one_frame settings journal row frame table new valid;
+  fits_taken = λ judged seen. ready_again seen.facts seen.moment;
+  is_of_taken = λ settings journal row frame judged table new valid judges ready. one_frame settings journal row frame table new valid;
   is_of_going = goes_on;
   same = λ settings journal now rows tables held is are later. same_cells tables settings journal are now rows held is;
+  same_sampled = λ settings journal now rows tables held is are later. same_cells tables settings journal are now rows held is;
   recurring = λ settings one other journal alike now name. refl;
   finite = λ settings journal now. all_finite settings journal;
   by_number = refl;
@@ -32,3 +36,12 @@ matrix_lawful = record {
   shows_listed = λ settings journal now. all_listed (source_table settings journal) (destination_table settings journal) (control_table settings journal);
   refuses_listed = beside_two matrix_control control_columns source_listed destination_listed;
 }
+
+-- the facts of a frame are all that counts, and each frame may be taken
+pub unjudged : (settings : Counting) (journal : Journal) (frame : Frame) → matrix_collection.judges settings journal frame []
+unfolding matrix_collection
+unjudged settings journal frame = tt
+
+pub all_within : (seen : Passed) → matrix_collection.within seen
+unfolding matrix_collection
+all_within seen = tt

@@ -7,12 +7,11 @@ use crate::counted_frame::CountedFrame;
 use crate::matrix_control::{CONTROL_OBJECTS, ControlColumns};
 use crate::matrix_room::MatrixRoom;
 use crate::matrix_table::MatrixTable;
-use rm_collect::{Collected, Collecting};
-use rm_group::{Assigns, TableObjects};
+use rm_collect::{ByFacts, Collected, Collecting, RowColumns};
+use rm_group::{Assigns, Passing, TableObjects};
 use rm_keyed::{PartRows, cell_of_two, judge_two, next_of_two, source_value};
 use rm_model::Verdict;
 use rm_pool::Pool;
-use rm_proto::Facts;
 use rm_status::Row;
 use rm_val::{Oid, Value};
 
@@ -34,6 +33,8 @@ impl Collected for MatrixTable {
 
     type Shared = MatrixRoom;
 
+    type Judged = ();
+
     ghost use Rattle.rm_matrix.specs.Collection.{matrix_collection};
     ghost use Rattle.rm_matrix.specs.Lawful.{matrix_lawful};
 
@@ -46,11 +47,11 @@ impl Collected for MatrixTable {
     }
 
     // A frame has two stamps, of which its reference has the first.
-    fn pass(tables: &mut Pool<MatrixTable>, facts: &Facts, moment: u32, before: u32) {
+    fn pass(tables: &mut Pool<MatrixTable>, _judged: &[()], passing: &Passing<'_>, before: u32) {
         let stamp = 2 * u64::from(before);
         tables.change_each(&CountedFrame {
-            facts,
-            moment,
+            facts: &passing.facts,
+            moment: passing.moment,
             stamp,
         });
     }
@@ -68,11 +69,17 @@ impl Collected for MatrixTable {
         source_value(rows, column)
     }
 
-    fn inner_cell<'a>(parts: &'a Pool<MatrixTable>, name: &Oid, now: u32) -> Option<Value<'a>> {
+    fn inner_cell<'a, R: RowColumns<ControlColumns>>(
+        _rows: &'a R,
+        parts: &'a Pool<MatrixTable>,
+        name: &Oid,
+        now: u32,
+    ) -> Option<Value<'a>> {
         cell_of_two(&Sources { parts }, &Destinations { parts }, name, now)
     }
 
-    fn inner_after<'a>(
+    fn inner_after<'a, R: RowColumns<ControlColumns>>(
+        _rows: &'a R,
         parts: &'a Pool<MatrixTable>,
         name: &Oid,
         now: u32,
@@ -83,6 +90,10 @@ impl Collected for MatrixTable {
 
     fn inner_least() -> &'static [u32] {
         SOURCE_OBJECTS.entry
+    }
+
+    fn samples_inner() -> bool {
+        true
     }
 
     fn judge_inner<A: Assigns>(set: &A) -> Verdict {
@@ -100,4 +111,12 @@ impl Collected for MatrixTable {
     ghost laws = { matrix_lawful };
 
     ghost spelled = { λ columns. tt };
+}
+
+impl ByFacts for MatrixTable {
+    ghost use Rattle.rm_matrix.specs.Lawful.{unjudged, all_within};
+
+    ghost unjudged = { unjudged };
+
+    ghost all_within = { all_within };
 }

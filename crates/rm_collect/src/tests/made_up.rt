@@ -1,8 +1,8 @@
 // A made-up control table: each valid row counts the frames of an interface. Its entry is 1.3.6.1.4.1.9.6; column 2 is the interface, 1 to 9,
 // column 3 the count, and column 4 the status.
-use crate::Collected;
+use crate::{ByFacts, Collected, RowColumns};
 use rm_columns::{ControlRow, ControlSheet, OneNumber, short_in};
-use rm_group::{Assigns, MOST_FRAMES, TableObjects};
+use rm_group::{Assigns, MOST_FRAMES, Passing, TableObjects};
 use rm_model::Setting::Number;
 use rm_model::{StatusKind, Verdict, column, numbers};
 use rm_pool::{Change, Part, Pool};
@@ -143,6 +143,8 @@ impl Collected for Tally {
 
     type Shared = u32;
 
+    type Judged = ();
+
     ghost collection = { made_up_collection };
 
     fn begin(&mut self, columns: &Source, shared: &u32, now: u32) {
@@ -152,7 +154,8 @@ impl Collected for Tally {
         self.count = 0;
     }
 
-    fn pass(parts: &mut Pool<Tally>, facts: &Facts, _moment: u32, _before: u32) {
+    fn pass(parts: &mut Pool<Tally>, _judged: &[()], passing: &Passing<'_>, _before: u32) {
+        let facts = &passing.facts;
         parts.change_each(&OneMore { facts });
     }
 
@@ -163,11 +166,17 @@ impl Collected for Tally {
         }
     }
 
-    fn inner_cell<'a>(_parts: &'a Pool<Tally>, _name: &Oid, _now: u32) -> Option<Value<'a>> {
+    fn inner_cell<'a, R: RowColumns<Source>>(
+        _rows: &'a R,
+        _parts: &'a Pool<Tally>,
+        _name: &Oid,
+        _now: u32,
+    ) -> Option<Value<'a>> {
         None
     }
 
-    fn inner_after<'a>(
+    fn inner_after<'a, R: RowColumns<Source>>(
+        _rows: &'a R,
         _parts: &'a Pool<Tally>,
         _name: &Oid,
         _now: u32,
@@ -178,6 +187,10 @@ impl Collected for Tally {
 
     fn inner_least() -> &'static [u32] {
         &[]
+    }
+
+    fn samples_inner() -> bool {
+        true
     }
 
     fn judge_inner<A: Assigns>(_set: &A) -> Verdict {
@@ -195,4 +208,10 @@ impl Collected for Tally {
     ghost laws = { made_up_lawful };
 
     ghost spelled = { λ columns. tt };
+}
+
+impl ByFacts for Tally {
+    ghost unjudged = { λ settings journal frame. tt };
+
+    ghost all_within = { λ seen. tt };
 }

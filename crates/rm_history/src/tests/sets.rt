@@ -4,7 +4,7 @@ ghost use Rattle.rm_collect.specs.Group.{IsStocked, frames_given, last_given};
 
 use crate::History;
 use crate::tests::given::{answer, number};
-use rm_group::{Group, MOST_FRAMES};
+use rm_group::{Group, MOST_FRAMES, Passing};
 use rm_proto::facts;
 use rm_val::{ErrorStatus, Oid, Value};
 use std::alloc::Global;
@@ -42,7 +42,12 @@ fn pass(history: &mut History, moment: u32)
     ensures frames { frames_given history.new ≡ frames_given history.old + 1 }
     ensures stocked { IsStocked history.new }
 {
-    history.frame(&facts(&[], 60, false), moment);
+    history.frame(&Passing {
+        facts: facts(&[], 60, false),
+        octets: &[],
+        number: 1,
+        moment,
+    });
 }
 
 // The rows 1 and 2 under creation.

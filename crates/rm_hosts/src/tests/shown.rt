@@ -4,7 +4,7 @@ ghost use Rattle.rm_collect.specs.Group.{IsStocked, frames_given, last_given};
 
 use crate::tests::given::{answer, number};
 use crate::{HostRoom, Hosts};
-use rm_group::{Group, MOST_FRAMES};
+use rm_group::{Group, MOST_FRAMES, Passing};
 use rm_proto::facts;
 use rm_val::{Oid, Value};
 use std::alloc::Global;
@@ -33,7 +33,12 @@ fn pass(hosts: &mut Hosts, moment: u32, source: u8, dest: u8)
     ensures stocked { IsStocked hosts.new }
 {
     let octets = [2, 0, 0, 0, 0, dest, 2, 0, 0, 0, 0, source];
-    hosts.frame(&facts(&octets, 60, false), moment);
+    hosts.frame(&Passing {
+        facts: facts(&octets, 60, false),
+        octets: &octets,
+        number: 1,
+        moment,
+    });
 }
 
 // Row 1, with room for two hosts.

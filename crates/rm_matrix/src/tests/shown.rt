@@ -4,7 +4,7 @@ ghost use Rattle.rm_collect.specs.Group.{IsStocked, frames_given, last_given};
 
 use crate::tests::given::{answer, number};
 use crate::{Matrix, MatrixRoom};
-use rm_group::{Group, MOST_FRAMES};
+use rm_group::{Group, MOST_FRAMES, Passing};
 use rm_proto::facts;
 use rm_val::{Oid, Value};
 use std::alloc::Global;
@@ -34,7 +34,12 @@ fn pass(matrix: &mut Matrix, moment: u32, source: u8, dest: u8)
     ensures stocked { IsStocked matrix.new }
 {
     let octets = [2, 0, 0, 0, 0, dest, 2, 0, 0, 0, 0, source];
-    matrix.frame(&facts(&octets, 60, false), moment);
+    matrix.frame(&Passing {
+        facts: facts(&octets, 60, false),
+        octets: &octets,
+        number: 1,
+        moment,
+    });
 }
 
 // A bad one, which is too long.
@@ -47,7 +52,12 @@ fn pass_long(matrix: &mut Matrix, moment: u32, source: u8, dest: u8)
     ensures stocked { IsStocked matrix.new }
 {
     let octets = [2, 0, 0, 0, 0, dest, 2, 0, 0, 0, 0, source];
-    matrix.frame(&facts(&octets, 2000, false), moment);
+    matrix.frame(&Passing {
+        facts: facts(&octets, 2000, false),
+        octets: &octets,
+        number: 1,
+        moment,
+    });
 }
 
 // Row 1, with room for two pairs.

@@ -21,8 +21,8 @@ returns-then-is_under-clause-next g c =
     let least = c.inner_least.result.now in
     let less : is_lt (slice_cmp nat_cmp found least) ≡ true = rw (← c.is_under.ensures) c.if-is_under.true in
     subst (λ (held : Held g.row.P-Columns.Denot g.row.P.Denot g.row.P-Shared.Denot). IsNext (kept form collection held.rows held.parts c.args.now) c.args.name.now (option_map val_of c.next_cell-nearer.result) found) c.self.view_is
-    (found_first val_of control (collection.inner inside.parts c.args.now) c.args.name.now found least c.next_cell-nearer.result c.if-is_some.ensures c.next_cell-nearer.ensures.next (is_below found least less)
-    (c.inner_least.ensures.from inside.parts c.args.now))
+    (found_first val_of control (collection.inner inside.table.rows inside.parts c.args.now) c.args.name.now found least c.next_cell-nearer.result c.if-is_some.ensures c.next_cell-nearer.ensures.next (is_below found least less)
+    (c.inner_least.ensures.from inside.table.rows inside.parts c.args.now))
 
 pub inner_after-inner-requires : goal.inner_after-inner-requires
 inner_after-inner-requires g c = record {
@@ -36,7 +36,7 @@ returns-clause-next g c =
     let inside = c.self.inside in
     let control = cells_of (rows_shown form (collection.others inside.table.rows inside.parts) inside.table.rows) in
     subst (λ (held : Held g.row.P-Columns.Denot g.row.P.Denot g.row.P-Shared.Denot). IsNext (kept form collection held.rows held.parts c.args.now) c.args.name.now (option_map val_of c.choose_nearer.result) c.choose_nearer.new.out) c.self.view_is
-    (c.choose_nearer.ensures.next control (collection.inner inside.parts c.args.now) c.args.name.now c.next_cell-nearer.ensures.next c.inner_after-inner.ensures.next)
+    (c.choose_nearer.ensures.next control (collection.inner inside.table.rows inside.parts c.args.now) c.args.name.now c.next_cell-nearer.ensures.next c.inner_after-inner.ensures.next)
 
 pub returns-clause-stays : goal.returns-clause-stays
 returns-clause-stays g c =

@@ -1,9 +1,7 @@
-use Rattle.std.proofs.Common.{◌≡◌, Some, subst, option_map}
+use Rattle.std.proofs.Common.{◌≡◌, subst, option_map}
 use Rattle.rm_val.specs.Val.{val_of}
-use Rattle.rm_model.specs.Cells.{cells_of}
-use Rattle.rm_status.specs.RowsShown.{rows_shown}
 use Rattle.rm_pool.proofs.Numbered.{numbered}
-use Rattle.rm_collect.specs.Collection.{kept}
+use Rattle.rm_collect.specs.Collection.{control_kept}
 use Rattle.rm_collect.specs.Held.{Held}
 use Rattle.rm_collect.proofs.Nearest.{shown_first, shown_second}
 use Rattle.rm_collect.proofs.collecting.Collecting.shown_at.Goals as goal
@@ -15,21 +13,16 @@ inner_cell-requires g c = record {
 
 pub returns-in-Some-clause-value : goal.returns-in-Some-clause-value
 returns-in-Some-clause-value g c =
-    let form = g.P.Columns.ControlRow.form in
     let collection = g.P.Collected.collection in
-    let inside = c.self.inside in
-    let control = cells_of (rows_shown form (collection.others inside.table.rows inside.parts) inside.table.rows) c.args.name.now in
-    let inner = collection.inner inside.parts c.args.now c.args.name.now in
-    subst (λ (held : Held g.row.P-Columns.Denot g.row.P.Denot g.row.P-Shared.Denot). Some (val_of c.in-Some.value) ≡ kept form collection held.rows held.parts c.args.now c.args.name.now) c.self.view_is
-    (shown_first control inner (val_of c.in-Some.value) c.in-Some.ensures.value)
+    let held = c.args.self.now in
+    let control = control_kept g.P.Columns.ControlRow.form collection held.rows held.parts c.args.name.now in
+    shown_first control (collection.inner held.rows held.parts c.args.now c.args.name.now) (val_of c.in-Some.value) c.in-Some.ensures.value
 
 pub returns-in-None-clause-value : goal.returns-in-None-clause-value
 returns-in-None-clause-value g c =
-    let form = g.P.Columns.ControlRow.form in
     let collection = g.P.Collected.collection in
-    let inside = c.self.inside in
-    let control = cells_of (rows_shown form (collection.others inside.table.rows inside.parts) inside.table.rows) c.args.name.now in
-    let inner = collection.inner inside.parts c.args.now c.args.name.now in
+    let held = c.args.self.now in
+    let control = control_kept g.P.Columns.ControlRow.form collection held.rows held.parts c.args.name.now in
     let found = option_map val_of c.inner_cell.result in
-    subst (λ (held : Held g.row.P-Columns.Denot g.row.P.Denot g.row.P-Shared.Denot). found ≡ kept form collection held.rows held.parts c.args.now c.args.name.now) c.self.view_is
-    (shown_second control inner found c.in-None.ensures.value c.inner_cell.ensures.value)
+    let inner = subst (λ (held : Held g.row.P-Columns.Denot g.row.P.Denot g.row.P-Shared.Denot). found ≡ collection.inner held.rows held.parts c.args.now c.args.name.now) c.self.view_is c.inner_cell.ensures.value in
+    shown_second control (collection.inner held.rows held.parts c.args.now c.args.name.now) found c.in-None.ensures.value inner

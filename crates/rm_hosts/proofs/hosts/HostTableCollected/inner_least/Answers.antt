@@ -6,4 +6,4 @@ use Rattle.rm_hosts.proofs.hosts.HostTableCollected.inner_least.Goals as goal
 
 pub returns-clause-from : goal.returns-clause-from
 unfolding host_collection
-returns-clause-from c tables now = two_from (addresses_table tables) (ranks_table tables) refl
+returns-clause-from c rows tables now = two_from (addresses_table tables) (ranks_table tables) refl

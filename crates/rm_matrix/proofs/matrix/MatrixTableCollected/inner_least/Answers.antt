@@ -6,4 +6,4 @@ use Rattle.rm_matrix.proofs.matrix.MatrixTableCollected.inner_least.Goals as goa
 
 pub returns-clause-from : goal.returns-clause-from
 unfolding matrix_collection
-returns-clause-from c tables now = two_from (sources_table tables) (destinations_table tables) refl
+returns-clause-from c rows tables now = two_from (sources_table tables) (destinations_table tables) refl
