@@ -11,15 +11,17 @@ use Rattle.rm_model.specs.ControlRows.{no_rows}
 use Rattle.rm_model.specs.Judgement.{Bindings, second_pass, rows_after}
 use Rattle.rm_model.specs.Reserves.{Reserves}
 use Rattle.rm_group.specs.Both.{StandAsOne}
+use Rattle.rm_group.specs.declared.due.Due.{Due}
 use Rattle.rm_group.specs.Listed.{is_listed, is_settable}
 use Rattle.rm_settings.specs.declared.settings.Settings.{Settings}
-use Rattle.rm_collect.specs.Collection.{alone, kept}
+use Rattle.rm_collect.specs.Collection.{alone, sampled}
 use Rattle.rm_collect.specs.Group.{Stands as HeldStands, IsStocked as IsHeldStocked, IsReleased, AreFine as AreHeldFine, IsPrepared, frames_given as frames_of, last_given as last_of}
 use Rattle.rm_history.specs.ControlColumns.{control_rows as history_rows}
 use Rattle.rm_history.specs.Collection.{history_collection}
 use Rattle.rm_hosts.specs.ControlColumns.{control_rows as host_rows}
 use Rattle.rm_hosts.specs.Collection.{host_collection}
 use Rattle.rm_topn.specs.Control.{top_control}
+use Rattle.rm_topn.specs.Due.{IsEndDue, reports_left, ended_by as reports_ended_by}
 use Rattle.rm_topn.specs.Group.{top_alone, top_tables, AreFine as AreReportsFine, IsPrepared as AreReportsPrepared, IsStocked as AreReportsStocked, IsReleased as AreReportsReleased}
 use Rattle.rm_topn.specs.Held.{AreAskable}
 use Rattle.rm_topn.specs.HostTop.{top_cells}
@@ -51,6 +53,16 @@ Stands held settings journal =
 abbrev pub IsAskable : Collectors → (moment : ℕ) → Type 0
 IsAskable held moment = Unit {0} × ((Unit {0} × AreAskable (reports_of held).courses moment) × Unit {0})
 
+-- What falls due is the end of a report that runs. So many are left that end up to a moment, and by that moment reports have ended.
+abbrev pub FallsDue : Collectors → Due → Type 0
+FallsDue held = IsEndDue (reports_of held)
+
+abbrev pub left_of : Collectors → (latest : ℕ) → ℕ
+left_of held = reports_left (reports_of held)
+
+abbrev pub ended_by : Collectors → Journal → ℕ
+ended_by held = reports_ended_by (reports_of held)
+
 -- how many frames it was given, and the moment of the frame, the Set or the end of a report that it was given last, 0 before the first
 abbrev pub frames_given : Collectors → ℕ
 frames_given held = max (frames_of held.groups.first) (max (max (frames_of held.groups.second.first.first) (reports_of held).frames) (frames_of held.groups.second.second))
@@ -69,12 +81,12 @@ collected_cells settings journal now name =
     option_or (history_collection.cells settings journal now name)
     (option_or (option_or (host_collection.cells settings journal now name) (top_cells settings journal now name)) (matrix_collection.cells settings journal now name))
 
--- what all tables show at a moment, by what is held
+-- what all tables show at a moment, by what is held: alarms may sample all of it
 abbrev pub shown : Collectors → (now : ℕ) → Cells
 shown held now name =
-    option_or (kept history_rows history_collection held.groups.first.rows held.groups.first.parts now name)
-    (option_or (option_or (kept host_rows host_collection held.groups.second.first.first.rows held.groups.second.first.first.parts now name) (cells_kept (reports_of held).rows (reports_of held).courses now name))
-    (kept matrix_rows matrix_collection held.groups.second.second.rows held.groups.second.second.parts now name))
+    option_or (sampled history_rows history_collection held.groups.first.rows held.groups.first.parts now name)
+    (option_or (option_or (sampled host_rows host_collection held.groups.second.first.first.rows held.groups.second.first.first.parts now name) (cells_kept (reports_of held).rows (reports_of held).courses now name))
+    (sampled matrix_rows matrix_collection held.groups.second.second.rows held.groups.second.second.parts now name))
 
 -- whether a name begins with the identifier of an object of one of the tables, and whether that can be set
 unfoldable pub collected_objects : List ℕ → Bool

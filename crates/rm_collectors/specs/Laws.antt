@@ -1,5 +1,5 @@
 -- The laws of the tables as one group.
-use Rattle.std.specs.Prelude.{◌≤◌, ℕ, [], ◌∷◌, ◌||◌, List, Bool, Option, ℤ, refl}
+use Rattle.std.specs.Prelude.{◌≡◌, ◌↔◌, ◌≤◌, ℕ, [], ◌∷◌, ◌||◌, List, Bool, Option, ℤ, refl}
 use Rattle.std.specs.Option.{option_or}
 use Rattle.rm_model.specs.Counting.{Counting}
 use Rattle.rm_model.specs.Journal.{Journal, samples, last_moment}
@@ -10,6 +10,7 @@ use Rattle.rm_model.specs.Finite.{AreFinite}
 use Rattle.rm_model.proofs.Finite.{both_finite}
 use Rattle.rm_acts.specs.Recurring.{ReadBefore}
 use Rattle.rm_acts.proofs.ShownLaws.{both_before}
+use Rattle.rm_group.specs.Due.{HaveEnded}
 use Rattle.rm_group.specs.Listed.{is_listed, is_settable, AreOfObjects, AreRefused, beside_listed, both_of_objects, both_refused, of_table, with_table}
 use Rattle.rm_collect.specs.Collection.{alone}
 use Rattle.rm_collect.specs.Sampled.{stands_sampled}
@@ -21,6 +22,8 @@ use Rattle.rm_hosts.specs.Collection.{host_collection}
 use Rattle.rm_hosts.specs.Lawful.{host_lawful}
 use Rattle.rm_topn.specs.Columns.{control_columns as top_columns}
 use Rattle.rm_topn.specs.Control.{top_control}
+use Rattle.rm_topn.proofs.Dues.{end_is}
+use Rattle.rm_topn.specs.Due.{are_asked, end_after, end_in}
 use Rattle.rm_topn.specs.Finite.{top_finite}
 use Rattle.rm_topn.specs.Group.{report_listed, top_alone, top_tables}
 use Rattle.rm_topn.specs.HostTop.{control_table, report_table, top_cells}
@@ -28,7 +31,7 @@ use Rattle.rm_topn.specs.Sampled.{stands_sampled as reports_sampled}
 use Rattle.rm_matrix.specs.ControlColumns.{control_rows as matrix_rows}
 use Rattle.rm_matrix.specs.Collection.{matrix_collection}
 use Rattle.rm_matrix.specs.Lawful.{matrix_lawful}
-use Rattle.rm_collectors.specs.Group.{Stands, IsAskable, reports_of, collected_cells, collected_objects, collected_settable, collected_alone}
+use Rattle.rm_collectors.specs.Group.{Stands, IsAskable, FallsDue, ended_by, reports_of, collected_cells, collected_objects, collected_settable, collected_alone}
 use Rattle.rm_collectors.specs.declared.collectors.Collectors.{Collectors}
 
 -- the hosts and their reports
@@ -60,7 +63,7 @@ all_finite settings journal now =
 
 -- they depend on what alarms read after earlier acts only
 pub all_recurring : ReadBefore collected_cells
-unfolding collected_cells
+unfolding collected_cells history_collection host_collection matrix_collection
 all_recurring =
     both_before history_collection.cells (λ settings journal now name. option_or (host_cells settings journal now name) (matrix_collection.cells settings journal now name))
     history_lawful.recurring
@@ -92,6 +95,17 @@ all_refused =
     (both_refused (is_listed host_collection.tables) (is_listed top_tables) (is_settable host_rows.table) (is_settable top_control)
     (alone host_rows host_collection) top_alone host_lawful.refuses_listed (beside_listed top_control top_columns report_listed))
     matrix_lawful.refuses_listed)
+
+-- they may be asked at a moment exactly where the reports have ended that are due by then
+pub all_asked : (held : Collectors) (moment : ℕ) → IsAskable held moment ↔ HaveEnded (FallsDue held) moment
+all_asked held moment =
+    let asked = are_asked (reports_of held) moment in
+    (λ may. asked.0 may.1.0.1, λ ended. (tt, ((tt, asked.1 ended), tt)))
+
+-- the reports that run end when the journal says
+pub ends_are : (held : Collectors) (settings : Counting) (journal : Journal) → Stands held settings journal → (row : ℕ) → end_in (reports_of held).courses row ≡ end_after (ended_by held journal) journal row
+unfolding Stands
+ends_are held settings journal stands = end_is (reports_of held) settings journal stands.second.first.second
 
 -- the sample of an alarm makes no difference to them
 pub all_begin : (held : Collectors) (settings : Counting) (earlier : Journal) (moment alarm : ℕ) (reading : Option ℤ)

@@ -2,7 +2,8 @@
 ghost use Rattle.std.specs.Prelude.{◌≡◌, ◌≤◌, max, [], OnOk};
 ghost use Rattle.rm_model.specs.Counting.{Counting};
 ghost use Rattle.rm_model.specs.Journal.{Journal};
-ghost use Rattle.rm_collectors.specs.Group.{Stands, IsAskable, IsStocked, IsSetTo, frames_given, last_given};
+ghost use Rattle.rm_topn.specs.Due.{HasEnded};
+ghost use Rattle.rm_collectors.specs.Group.{Stands, IsAskable, IsStocked, IsSetTo, FallsDue, frames_given, last_given, left_of};
 
 use rm_group::Both;
 use rm_history::History;
@@ -71,6 +72,7 @@ impl Collectors {
     pub fn end_by(&mut self, moment: u32)
         ensures stands { (settings : Counting) (journal : Journal) → Stands self.old settings journal → Stands self.new settings journal }
         ensures askable { IsAskable self.new moment }
+        ensures ended { HasEnded moment (FallsDue self.old) (FallsDue self.new) (left_of self.old) (left_of self.new) }
         ensures stocked { IsStocked self.old → IsStocked self.new }
         ensures last { last_given self.new ≤ max (last_given self.old) moment }
         ensures frames { frames_given self.new ≡ frames_given self.old }

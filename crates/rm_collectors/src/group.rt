@@ -2,7 +2,8 @@
 // the matrix, beside the hosts their reports.
 use crate::collectors::{Collectors, Groups};
 use rm_group::{
-    Assigns, Commits, Denied, Group, Look, Objects, Passing, Readable, Steps, Unfired, Unsampled,
+    Assigns, Commits, Denied, Due, FallsDue, Group, Look, Objects, Passing, Readable, Steps,
+    Unfired, Unsampled,
 };
 use rm_model::Verdict;
 use rm_val::{Oid, Value};
@@ -99,7 +100,7 @@ impl Objects for Collectors {
     }
 }
 
-#[tactic(auto, unfolding(crate::specs::Group::Stands, crate::specs::Group::collected_cells))]
+#[tactic(auto, unfolding(crate::specs::Group::Stands, crate::specs::Group::collected_cells, rm_history::specs::Collection::history_collection, rm_hosts::specs::Collection::host_collection, rm_matrix::specs::Collection::matrix_collection))]
 impl Readable for Collectors {
     ghost use Rattle.rm_collectors.specs.Group.{collected_cells, shown};
     ghost use Rattle.rm_collectors.specs.Laws.{all_recurring};
@@ -130,4 +131,19 @@ impl Unsampled for Collectors {
     ghost use Rattle.rm_collectors.specs.Laws.{all_begin};
 
     ghost begins = { all_begin };
+}
+
+impl FallsDue for Collectors {
+    ghost use Rattle.rm_collectors.specs.Group.{FallsDue, left_of};
+    ghost use Rattle.rm_collectors.specs.Laws.{all_asked};
+
+    ghost falls_due = { FallsDue };
+
+    ghost left = { left_of };
+
+    fn next_due(&self) -> Option<Due> {
+        self.groups.next_due()
+    }
+
+    ghost asked = { all_asked };
 }

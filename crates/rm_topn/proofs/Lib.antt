@@ -3,6 +3,7 @@ mod Hosts
 mod Frames
 mod Changed
 mod Ended
+pub mod Dues
 mod Planned
 mod Assigned
 mod Started

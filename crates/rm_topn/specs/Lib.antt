@@ -14,6 +14,7 @@ pub mod Changes
 pub mod Asking
 pub mod Group
 pub mod Held
+pub mod Due
 pub mod Standing
 pub mod Finite
 pub mod Lasting

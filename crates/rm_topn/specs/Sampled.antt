@@ -1,5 +1,5 @@
 -- That the samples of alarms make no difference to reports.
-use Rattle.std.proofs.Common.{ℕ, ◌≤◌, [], ◌∷◌, Option, Some, None, refl, ◌∙◌, ap}
+use Rattle.std.proofs.Common.{ℕ, ◌≤◌, [], ◌∷◌, Option, Some, None, refl, ◌∙◌, ap, arith}
 use Rattle.std.specs.Prelude.{ℤ}
 use Rattle.rm_model.specs.ControlRows.{no_rows, is_valid}
 use Rattle.rm_model.specs.Counting.{Counting}
@@ -35,5 +35,5 @@ module _ (settings : Counting) (journal : Journal) (moment alarm : ℕ) (reading
       measured = record { few = stands.held.measured.few; short = stands.held.measured.short };
     };
     courses = λ row. kept_sampled row (part_in reports.courses row) (stands.courses row);
-    timely = asked;
+    timely = λ row run here runs. let now = asked row run here runs in let earlier = stands.timely row run here runs in omega (arith, now, earlier);
   }

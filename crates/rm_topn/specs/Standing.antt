@@ -1,5 +1,5 @@
 -- When what is kept of reports is what a journal gives.
-use Rattle.std.specs.Prelude.{◌≡◌, ℕ, ◌<◌, length, true, Option, Some, None}
+use Rattle.std.specs.Prelude.{◌≡◌, ℕ, ◌<◌, max, length, true, Option, Some, None}
 use Rattle.rm_model.specs.Counting.{Counting}
 use Rattle.rm_model.specs.Journal.{Journal, frames_in, last_moment}
 use Rattle.rm_model.specs.ControlRows.{no_rows}
@@ -26,11 +26,11 @@ pub record HasRows (reports : Reports) (settings : Counting) (journal : Journal)
   pub measured : IsMeasured settings journal
 
 -- The group stands for a journal: so it is, exactly the valid rows have what is kept of their reports, none is to begin, and no report that
--- runs should have ended by the last act.
+-- runs should have ended by the last act, or by the moment that it was given last.
 pub record Stands (reports : Reports) (settings : Counting) (journal : Journal) : Type 0 where
   pub held : HasRows reports settings journal
   pub courses : (row : ℕ) → IsKept top_control IsCourse settings journal row (part_in reports.courses row)
-  pub timely : AreAskable reports.courses (last_moment journal)
+  pub timely : AreAskable reports.courses (max reports.last (last_moment journal))
 
 -- what is kept of a row is what a journal gives, or a report is to begin by the last act
 abbrev pub IsCourseThen : Counting → Journal → (row : ℕ) → Course → Option Plan → Type 0

@@ -1,6 +1,6 @@
 // What a row keeps of its reports.
 ghost use Rattle.std.specs.Prelude.{◌≡◌, ◌<◌, ◌≤◌, ◌∷◌, ℕ, ℤ, true, false, nat_lt, Option};
-ghost use Rattle.std.specs.Option.{option_copied};
+ghost use Rattle.std.specs.Option.{option_and_then, option_copied};
 ghost use Rattle.rm_keyed.specs.declared.keyed.TheConstants.{MOST_ROWS};
 ghost use Rattle.rm_model.specs.Counting.{Counting};
 ghost use Rattle.rm_model.specs.Journal.{Assignments, Frame, Journal, assigns, samples, last_moment, passes};
@@ -14,6 +14,7 @@ ghost use Rattle.rm_topn.specs.Reports.{duration, host_shown, start_time, time_r
 ghost use Rattle.rm_topn.specs.Starts.{is_start, last_start};
 ghost use Rattle.rm_topn.specs.Times.{duration_kept, start_kept, time_kept};
 ghost use Rattle.rm_topn.specs.Courses.{count_shown, end_at, ended_run, has_ended, is_due, shown_in};
+ghost use Rattle.rm_topn.specs.Due.{end_ahead};
 
 use crate::plan::Plan;
 use rm_hosts::Hosts;
@@ -136,6 +137,16 @@ impl Course {
             begun: run.begun,
             runs: false,
         });
+    }
+
+    /// When the report ends that runs, in milliseconds. None where none runs.
+    pub fn end_ahead(&self) -> Option<u64>
+        ensures { result ≡ option_and_then end_ahead self.now.run }
+    {
+        match &self.run {
+            Some(run) if run.runs => Some(run.end()),
+            _ => None,
+        }
     }
 
     /// The host that is shown at a place, from 1, at a moment in milliseconds, with its rate. None where there is none: while the report

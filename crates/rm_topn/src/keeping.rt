@@ -4,6 +4,7 @@ ghost use Rattle.rm_group.specs.declared.bounds.TheConstants.{MOST_FRAMES, MOST_
 ghost use Rattle.rm_model.specs.Counting.{Counting};
 ghost use Rattle.rm_model.specs.FrameFacts.{frame_facts};
 ghost use Rattle.rm_model.specs.Journal.{Frame, Journal, passes, last_moment};
+ghost use Rattle.rm_topn.specs.Due.{HasEnded, IsEndDue, reports_left};
 ghost use Rattle.rm_topn.specs.Group.{IsReleased, IsStocked};
 ghost use Rattle.rm_topn.specs.Held.{AreAskable};
 ghost use Rattle.rm_topn.specs.Kept.{DoHostsStand};
@@ -49,10 +50,12 @@ impl Reports {
         ensures stands { (settings : Counting) (journal : Journal) → DoHostsStand hosts.now settings journal → Stands self.old settings journal
             → Stands self.new settings journal }
         ensures askable { AreAskable self.new.courses moment }
+        ensures ended { HasEnded moment (IsEndDue self.old) (IsEndDue self.new) (reports_left self.old) (reports_left self.new) }
         ensures stocked { IsStocked self.old → IsStocked self.new }
         ensures last { self.new.last ≡ max self.old.last moment }
         ensures frames { self.new.frames ≡ self.old.frames }
     {
+        prove!(self.rows.len() <= 32);
         self.courses.change_each(&Ending { hosts, moment });
         self.last = self.last.max(moment);
     }

@@ -7,6 +7,7 @@ mod assigning;
 mod beside;
 mod control_columns;
 mod course;
+mod due;
 mod ending;
 mod group;
 mod keeping;
@@ -17,4 +18,5 @@ mod shown;
 mod tests;
 mod top_rows;
 
+pub use due::REPORTS;
 pub use reports::Reports;

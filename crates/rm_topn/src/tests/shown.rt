@@ -6,7 +6,7 @@ ghost use Rattle.rm_topn.specs.Group.{IsStocked};
 
 use crate::Reports;
 use crate::tests::given::{Tables, answer, control_name, number};
-use rm_group::{Both, Group, MOST_FRAMES, Objects, Passing, Readable, Steps};
+use rm_group::{Both, Due, FallsDue, Group, MOST_FRAMES, Objects, Passing, Readable, Steps};
 use rm_hosts::{HostRoom, Hosts};
 use rm_proto::facts;
 use rm_val::{Oid, Value};
@@ -146,6 +146,22 @@ fn a_report_runs_and_ends(rt: HostRuntime) -> Result<(), Fail> {
     assert_eq!(rt; number_of(&tables, &granted, 12_000), Some(10));
     let start = control_name(REPORTS, START_TIME);
     assert_eq!(rt; number_of(&tables, &start, 12_000), Some(200));
+    Ok(())
+}
+
+#[test]
+fn the_end_falls_due(rt: HostRuntime) -> Result<(), Fail> {
+    let mut tables = one_report(&rt, rt.alloc())?;
+    let end = Due {
+        moment: 12_000,
+        kind: crate::REPORTS,
+        number: 1,
+    };
+    assert_eq!(rt; tables.next_due(), Some(end));
+    tables.second.end_by(&tables.first, 11_999);
+    assert_eq!(rt; tables.next_due(), Some(end));
+    tables.second.end_by(&tables.first, 12_000);
+    assert_eq!(rt; tables.next_due(), None);
     Ok(())
 }
 

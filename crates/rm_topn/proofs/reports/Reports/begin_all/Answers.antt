@@ -1,3 +1,4 @@
+use Rattle.std.proofs.Common.{arith}
 use Rattle.rm_topn.proofs.Started.{of_valid_then, ended_then, kept_then, timely_then}
 use Rattle.rm_topn.proofs.reports.Reports.begin_all.Goals as goal
 
@@ -17,5 +18,5 @@ returns-clause-stands c settings journal stand at begun =
     record {
       held = record { rows = begun.held.rows; given = begun.held.given; measured = begun.held.measured };
       courses = λ row. kept_then c.args.hosts.now c.args.now old.courses c.change_each.new.self each settings journal stand at row (begun.courses row);
-      timely = timely_then c.args.hosts.now c.args.now old.courses c.change_each.new.self each settings journal stand at begun.courses;
+      timely = λ row run here runs. let later = timely_then c.args.hosts.now c.args.now old.courses c.change_each.new.self each settings journal stand at begun.courses row run here runs in omega (arith, later, at);
     }

@@ -1,4 +1,4 @@
-use Rattle.std.proofs.Common.{ℕ, ◌<◌, ◌≤◌, sym, ap, subst, arith}
+use Rattle.std.proofs.Common.{ℕ, ◌≤◌, ap, subst, arith}
 use Rattle.rm_group.specs.declared.bounds.TheConstants.{MOST_OCTETS}
 use Rattle.rm_model.specs.ControlRows.{no_rows}
 use Rattle.rm_status.proofs.RowsAfterLemmas.{rows_passes}
@@ -21,5 +21,5 @@ returns-clause-stands c settings journal frame stands later asked known at =
       };
       courses = λ row.
           kept_frame settings journal frame row (part_in reports.courses row) (omega (arith, later, at)) (λ run here over. let by : end_at run ≤ reports.last = reports.ended row run here over in omega (arith, by, at, c.requires.later)) (stands.courses row);
-      timely = λ row run here runs. subst (λ (n : ℕ). n < end_at run) (sym at) (asked row run here runs);
+      timely = λ row run here runs. let later = asked row run here runs in omega (arith, later, at);
     }
