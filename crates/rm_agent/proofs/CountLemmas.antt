@@ -17,7 +17,7 @@ use Rattle.rm_event.specs.EventTable.{type_of}
 use Rattle.rm_agent.specs.declared.trap.AlarmTrap.{AlarmTrap}
 use Rattle.rm_agent.specs.Notifications.{trap_of, is_sent, by_no_channel, sent_by, notification_numbered, count_one, count_notifications}
 use Rattle.rm_reply.specs.Responses.{IsReplyBy}
-use Rattle.rm_agent.specs.Agent.{IsNextMoment, IsWritten}
+use Rattle.rm_agent.specs.Agent.{IsWritten}
 use Rattle.rm_agent.proofs.Leaving.{leaves}
 use Rattle.rm_agent.proofs.Written.{written}
 
@@ -100,12 +100,3 @@ same_next due (Some a) (Some b) is other =
     let moment : a.0 ≡ b.0 = omega (arith, left, right) in
     let alarm : a.1 ≡ b.1 = omega (arith, left, right) in
     λ d. Some (moment d, alarm d)
-
-pub next_at : (due : ℕ → Option ℕ) (next : Option (ℕ × ℕ)) (moment : ℕ) → IsNextMoment due (Some moment) → IsNextDue due next → option_map (λ sample. sample.0) next ≡ Some moment
-next_at due next moment is other = ap (option_map (λ sample. sample.0)) (same_next due next is.0 other is.1) ∙ sym is.2
-
-pub next_is : (due : ℕ → Option ℕ) (next : Option (ℕ × ℕ)) (sample : ℕ × ℕ) (moment : ℕ) → IsNextMoment due (Some moment) → IsNextDue due next → next ≡ Some sample → next ≡ Some (moment, sample.1)
-next_is due next sample moment is other some =
-    let at : Some sample.0 ≡ Some moment = ap (option_map (λ sample. sample.0)) (sym some) ∙ next_at due next moment is other in
-    let same : sample.0 ≡ moment = cc in
-    some ∙ (λ d. Some (same d, sample.1))

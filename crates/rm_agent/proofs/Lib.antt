@@ -2,7 +2,8 @@ mod Known
 mod Askable
 mod Written
 mod Leaving
-mod ChannelLemmas
+mod FiringLemmas
+mod Ended
 mod NotificationExamples
 mod SampleLemmas
 mod NotificationLemmas

@@ -14,15 +14,12 @@ use Rattle.rm_agent.specs.Groups.{cells, objects, alone, together, Reserves}
 use Rattle.rm_reply.specs.Sets.{alone_among}
 use Rattle.rm_val.specs.declared.error.ErrorStatus.TheVariants.{NotWritable}
 use Rattle.rm_val.specs.Val.{Val}
-use Rattle.rm_model.specs.Cells.{is_of_column}
 use Rattle.rm_model.specs.Judgement.{unless}
-use Rattle.rm_group.specs.Alone.{read_only}
-use Rattle.rm_group.specs.System.{system_entry, system_columns}
 use Rattle.rm_event.specs.EventTable.{event_table}
 use Rattle.rm_event.specs.Group.{event_alone}
 use Rattle.rm_alarm.specs.Group.{alarm_alone, alarm_together, variable_fault}
 use Rattle.rm_agent.specs.Known.{counting_by}
-use Rattle.rm_agent.specs.Members.{sources}
+use Rattle.rm_agent.specs.Members.{sources, unfired}
 use Rattle.rm_agent.specs.Orderly.{NoneIsDue, IsOrderly}
 use Rattle.rm_agent.proofs.Leaving.{leaves}
 use Rattle.rm_agent.proofs.OrderlyLemmas.{orderly_assigns}
@@ -41,14 +38,15 @@ module _ (settings : Settings) (journal : Journal) (now : ℕ) (orderly : IsOrde
   alone_fine numbers value fine =
       let here : alone numbers value ≡ None = no_second (unless (objects numbers) NotWritable) (alone numbers value) fine in
       let others : option_or (event_alone numbers value) (option_or (sources.alone numbers value) (alarm_alone numbers value)) ≡ None =
-      no_second (read_only (is_of_column system_entry system_columns) numbers value) _ here in
+      no_second (unfired.alone numbers value) _ here in
       no_second (sources.alone numbers value) (alarm_alone numbers value) (no_second (event_alone numbers value) _ others)
 
   together_fine : (bindings : Bindings) (k : ℕ) → together settings journal now bindings k ≡ None → second_pass alarm_table (rows_after alarm_table no_rows journal) bindings k ≡ None
   together_fine bindings k fine =
       let before : Beginning = rows_after alarm_table no_rows journal in
       let sampling : option_or (sources.together (counting_by settings) journal now bindings k) (alarm_together ((counting_by settings).readings journal now) before bindings k) ≡ None =
-      no_second (second_pass event_table (rows_after event_table no_rows journal) bindings k) _ fine in
+      no_second (second_pass event_table (rows_after event_table no_rows journal) bindings k) _
+      (no_second (unfired.together (counting_by settings) journal now bindings k) _ fine) in
       no_first (second_pass alarm_table before bindings k) (variable_fault ((counting_by settings).readings journal now) before bindings k)
       (no_second (sources.together (counting_by settings) journal now bindings k) _ sampling)
 

@@ -1,5 +1,5 @@
 -- Lemmas on the samples of alarms, and on the events that they fire.
-use Rattle.std.proofs.Common.{◌≡◌, ℕ, ◌+◌, ◌%◌, ◌^◌, ◌≤◌, List, [], ◌∷◌, true, cond, ◌&&◌, Option, Some, None, refl, sym, subst, arith}
+use Rattle.std.proofs.Common.{◌≡◌, ℕ, ◌+◌, ◌%◌, ◌^◌, ◌≤◌, List, ◌∷◌, true, ◌&&◌, Option, Some, None, refl, sym, subst, arith}
 use Rattle.std.specs.Prelude.{ℤ, is_some}
 use Rattle.rm_model.specs.Counting.{Counting}
 use Rattle.rm_model.specs.Journal.{Act, Journal, samples}
@@ -11,8 +11,6 @@ use Rattle.rm_acts.specs.declared.sampled.Sampled.{Sampled}
 use Rattle.rm_acts.specs.declared.sampled.Sampled.TheVariants.{Quiet, Rising, Falling, Gone}
 use Rattle.rm_event.specs.declared.event_type.EventType.{EventType}
 use Rattle.rm_event.specs.declared.event_type.EventType.TheVariants as type
-use Rattle.rm_event.specs.declared.fired.Fired.{Fired}
-use Rattle.rm_event.specs.declared.fired.Fired.TheVariants as became
 use Rattle.rm_acts.specs.Events.{event_asked}
 use Rattle.rm_event.specs.Standing.{fired_of}
 use Rattle.rm_alarm.specs.Watched.{number_read}
@@ -23,7 +21,6 @@ use Rattle.rm_agent.specs.Groups.{GroupsStand}
 use Rattle.rm_agent.specs.Agent.{Stands, HasSampled, IsWritten, sample_of}
 use Rattle.rm_agent.specs.Notifications.{trap_of, is_sent, is_trap, count_notifications, notification_of}
 use Rattle.rm_agent.proofs.OrderlyLemmas.{orderly_samples}
-use Rattle.rm_agent.specs.Told.{firings_by}
 
 -- a trap is sent by an event whose type sends it and whose row is valid
 pub is_sending : (state : State) (kind : EventType) → is_trap (fired_of state kind) ≡ (is_valid state && is_sent kind)
@@ -33,22 +30,6 @@ is_sending Valid type.SnmpTrap = refl
 is_sending Valid type.LogAndTrap = refl
 is_sending UnderCreation kind = refl
 is_sending Absent kind = refl
-
--- what a sample fires, by what becomes of the event that it asks for
-pub fires_so : (state : State) (kind : EventType) (event : ℕ) → firings_by event (fired_of state kind) ≡ cond (is_valid state) (record { event = event; channel = None } ∷ []) []
-fires_so Valid type.None event = refl
-fires_so Valid type.Log event = refl
-fires_so Valid type.SnmpTrap event = refl
-fires_so Valid type.LogAndTrap event = refl
-fires_so UnderCreation kind event = refl
-fires_so Absent kind event = refl
-
-pub fires_one : (fired : Fired) (event : ℕ) → (fired ≡ became.Absent → ⊥) → record { event = event; channel = None } ∷ [] ≡ firings_by event fired
-fires_one became.Absent event isnt = absurd (isnt refl)
-fires_one became.Silent event isnt = refl
-fires_one became.Logged event isnt = refl
-fires_one became.Trap event isnt = refl
-fires_one became.Both event isnt = refl
 
 -- a valid alarm stays so after a sample that crosses
 pub valid_after : (settings : Counting) (journal : Journal) (moment alarm : ℕ) (reading : Option ℤ) → is_valid (alarm_state journal alarm) ≡ true
@@ -85,7 +66,6 @@ has_sampled before after journal moment alarm count note stands next groups same
         groups = subst (λ (settings : Settings). GroupsStand after.groups.value (counting_by settings) (act ∷ journal)) (sym same) groups;
         last = last;
         orderly = orderly_samples journal (moment, alarm) next stands.orderly (number_read (counting_by before.settings) journal moment alarm);
-        channels = stands.channels;
         notifications = subst (λ (settings : Settings). after.notifications ≡ count_notifications (counting_by settings) (act ∷ journal) % 2 ^ 31) (sym same) notifications;
       };
       notification = written;

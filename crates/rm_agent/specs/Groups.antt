@@ -1,17 +1,23 @@
 -- What the agent's groups answer and refuse, by what the probe was set to, and when they stand for a journal.
-use Rattle.std.specs.Prelude.{◌≡◌, ℕ, List, [], ◌∷◌, Bool, false, Option}
-use Rattle.std.specs.Option.{option_map}
+use Rattle.std.specs.Prelude.{◌≡◌, ◌⊎◌, ℕ, List, ◌∷◌, Bool, false, Option}
 use Rattle.rm_val.specs.Val.{Val}
 use Rattle.rm_val.specs.declared.error.ErrorStatus.{ErrorStatus}
 use Rattle.rm_model.specs.Counting.{Counting}
 use Rattle.rm_model.specs.Journal.{Act, Journal}
 use Rattle.rm_model.specs.Cells.{Cells}
 use Rattle.rm_model.specs.Judgement.{Bindings}
+use Rattle.rm_acts.specs.declared.firing.Firing.{Firing}
+use Rattle.rm_group.specs.Both.{StandAsOne}
 use Rattle.rm_group.specs.declared.due.Due.{Due}
-use Rattle.rm_event.specs.Firings.{is_set}
+use Rattle.rm_alarm.specs.Left.{IsSampleDue}
+use Rattle.rm_alarm.specs.Standing.{AreWhole}
+use Rattle.rm_alarm.specs.Watched.{ReadsFrom}
+use Rattle.rm_acts.specs.Fired.{is_set}
+use Rattle.rm_collectors.specs.Group.{FallsDue as ReportsFallDue}
 use Rattle.rm_event.specs.Standing.{IsUnderWay as EventsUnderWay}
+use Rattle.rm_filter.specs.Standing.{IsUnderWay as FiltersUnderWay}
 use Rattle.rm_settings.specs.declared.settings.Settings.{Settings}
-use Rattle.rm_agent.specs.Members.{Groups, events_of, watched_of, watched, all_groups}
+use Rattle.rm_agent.specs.Members.{Groups, Sources, Watched, alarms_of, collectors_of, events_of, watched_of, ether, collectors, both, unfired, sampled_cells, all_groups}
 use Rattle.rm_agent.specs.Known.{counting_by}
 
 -- the variables of all groups that have a value after a journal, at a moment in milliseconds
@@ -39,11 +45,23 @@ Reserves = all_groups.reserves
 abbrev pub GroupsStand : Groups → Counting → Journal → Type 0
 GroupsStand = all_groups.stands
 
--- All groups are in an act after a journal, of which they have taken no firing. The groups whose variables alarms may sample, and the
--- alarms, stand for the journal with the act in front already: no firing makes a difference to them.
-abbrev pub AreUnderWay : Groups → Counting → Act → Journal → Type 0
-AreUnderWay groups settings act earlier =
-    ((is_set act ≡ false) × EventsUnderWay (events_of groups) settings act earlier []) × watched.stands (watched_of groups) settings (act ∷ earlier)
+-- The groups whose variables alarms may sample are in an act after a journal, of which they have taken these firings. Those that collect what
+-- frames bring stand for the journal with the act in front already: no firing makes a difference to them.
+abbrev pub AreSourcesUnderWay : Sources → Counting → Act → Journal → List Firing → Type 0
+AreSourcesUnderWay keeps settings act earlier some =
+    StandAsOne ((both ether collectors).stands keeps.first settings (act ∷ earlier)) (FiltersUnderWay keeps.second settings act earlier some) (Unit {0})
+
+-- so are the alarms beside them, to which no firing makes a difference either
+abbrev pub AreWatchedUnderWay : Watched → Counting → Act → Journal → List Firing → Type 0
+AreWatchedUnderWay keeps settings act earlier some =
+    StandAsOne (AreSourcesUnderWay keeps.first settings act earlier some) (AreWhole keeps.second settings (act ∷ earlier)) (ReadsFrom sampled_cells settings)
+
+-- All groups are in an act after a journal, of which they have taken these firings.
+abbrev pub AreUnderWay : Groups → Counting → Act → Journal → List Firing → Type 0
+AreUnderWay groups settings act earlier some =
+    unfired.stands groups.first settings (act ∷ earlier)
+    × ((is_set act ≡ false) × EventsUnderWay (events_of groups) settings act earlier some)
+    × AreWatchedUnderWay (watched_of groups) settings act earlier some
 
 -- they have the storage of one row of each table whose rows take storage
 abbrev pub AreStocked : Groups → Type 0
@@ -60,10 +78,10 @@ frames_of = all_groups.frames
 abbrev pub AreAskable : Groups → ℕ → Type 0
 AreAskable = all_groups.askable
 
--- a bound of how many samples are left to take up to a moment, in milliseconds
+-- what falls due of them is the end of a report of hosts that runs, or the next sample of an alarm
+abbrev pub FallDue : Groups → Due → Type 0
+FallDue groups due = ReportsFallDue (collectors_of groups) due ⊎ IsSampleDue (alarms_of groups) due
+
+-- a bound of how many of these are left up to a moment, in milliseconds
 abbrev pub left_of : Groups → ℕ → ℕ
 left_of = all_groups.left
-
--- a sample that falls due, by its moment and the number of its alarm
-abbrev pub sample_in : Option Due → Option (ℕ × ℕ)
-sample_in next = option_map (λ due. (due.moment, due.number)) next

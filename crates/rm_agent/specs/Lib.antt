@@ -4,7 +4,9 @@ pub mod Known
 pub mod Groups
 pub mod Answers
 pub mod Orderly
+pub mod Dues
 pub mod Agent
 pub mod Notifications
 pub mod Advance
 pub mod Told
+pub mod Firings

@@ -1,5 +1,6 @@
--- The groups of objects that the agent answers for: the system group, the events, etherStats, the history, the hosts with their reports,
--- the matrix, and the alarms that sample variables of these but for the first two. What holds of a group is a record; two groups are one, and their record is made of both.
+-- The groups of objects that the agent answers for: the system group, the directory of protocols, the events, etherStats, the history, the
+-- hosts with their reports, the matrix, the filters and channels, and the alarms that sample variables of these from etherStats on. What
+-- holds of a group is a record; two groups are one, and their record is made of both.
 use Rattle.std.specs.Prelude.{◌||◌, ◌⊎◌, ℕ, ◌+◌, List, Bool, max, Option, None}
 use Rattle.std.specs.Option.{option_or}
 use Rattle.rm_val.specs.Val.{Val}
@@ -21,8 +22,16 @@ use Rattle.rm_group.specs.declared.system.System.{System}
 use Rattle.rm_ether.specs.EtherStats.{ether_stats, ether_beginning, ether_table}
 use Rattle.rm_ether.specs.Group.{Stands as EtherStands, frames_given as ether_frames, last_given as ether_last, ether_tables, ether_alone}
 use Rattle.rm_ether.specs.declared.ether.Ether.{Ether}
-use Rattle.rm_collectors.specs.Group.{Stands as CollectorsStand, IsAskable as AreCollectorsAskable, IsStocked as AreCollectorsStocked, frames_given as collectors_frames, last_given as collectors_last, collected_cells, collected_objects, collected_alone, collected_together, CollectedReserves}
+use Rattle.rm_collectors.specs.Group.{left_of as reports_left, Stands as CollectorsStand, IsAskable as AreCollectorsAskable, IsStocked as AreCollectorsStocked, frames_given as collectors_frames, last_given as collectors_last, collected_cells, collected_objects, collected_alone, collected_together, CollectedReserves}
 use Rattle.rm_collectors.specs.declared.collectors.Collectors.{Collectors}
+use Rattle.rm_acts.specs.Shown.{channels_shown}
+use Rattle.rm_filter.specs.Group.{filter_cells, filters_alone, filters_together, group_tables as filter_tables}
+use Rattle.rm_filter.specs.Standing.{Stands as FiltersStand}
+use Rattle.rm_filter.specs.declared.filters.Filters.{Filters}
+use Rattle.rm_dir.specs.Group.{Stands as DirectoryStands}
+use Rattle.rm_dir.specs.Judging.{directory_alone, directory_together}
+use Rattle.rm_dir.specs.Tables.{directory_cells, directory_tables}
+use Rattle.rm_dir.specs.declared.directory.Directory.{Directory}
 use Rattle.rm_alarm.specs.AlarmTable.{alarms_table}
 use Rattle.rm_alarm.specs.Group.{alarm_tables, alarm_alone, alarm_together}
 use Rattle.rm_alarm.specs.Left.{samples_left}
@@ -35,14 +44,17 @@ use Rattle.rm_event.specs.Standing.{Stands as EventsStand}
 use Rattle.rm_event.specs.declared.events.Events.{Events}
 
 -- The groups as they stand in one another: a pair is a group, and the alarms stand beside the groups whose variables they sample.
+abbrev pub Unfired : Type 0
+Unfired = Both System Directory
+
 abbrev pub Sources : Type 0
-Sources = Both Ether Collectors
+Sources = Both (Both Ether Collectors) Filters
 
 abbrev pub Watched : Type 0
 Watched = Both Sources Alarms
 
 abbrev pub Groups : Type 0
-Groups = Both System (Both Events Watched)
+Groups = Both Unfired (Both Events Watched)
 
 -- each group by its name, and the alarms with the groups whose variables they sample
 abbrev pub events_of : Groups → Events
@@ -50,6 +62,12 @@ events_of groups = groups.second.first
 
 abbrev pub watched_of : Groups → Watched
 watched_of groups = groups.second.second
+
+abbrev pub collectors_of : Groups → Collectors
+collectors_of groups = (watched_of groups).first.first.second
+
+abbrev pub filters_of : Groups → Filters
+filters_of groups = (watched_of groups).first.second
 
 abbrev pub alarms_of : Groups → Alarms
 alarms_of groups = (watched_of groups).second
@@ -114,6 +132,22 @@ system = record {
   reserves = λ journal bindings index. ⊥;
 }
 
+abbrev pub directory : OfObjects Directory
+directory = record {
+  stands = λ keeps settings journal. DirectoryStands keeps journal;
+  tied = λ settings. Unit {0};
+  clock = λ keeps. 0;
+  askable = λ keeps moment. Unit {0};
+  frames = λ keeps. 0;
+  stocked = λ keeps. Unit {0};
+  left = λ keeps latest. 0;
+  cells = λ settings journal now. directory_cells journal;
+  objects = is_listed directory_tables;
+  alone = directory_alone;
+  together = λ settings journal now. directory_together journal;
+  reserves = λ journal bindings index. ⊥;
+}
+
 abbrev pub events : OfObjects Events
 events = record {
   stands = EventsStand;
@@ -155,12 +189,28 @@ collectors = record {
   askable = AreCollectorsAskable;
   frames = collectors_frames;
   stocked = AreCollectorsStocked;
-  left = λ keeps latest. 0;
+  left = reports_left;
   cells = collected_cells;
   objects = collected_objects;
   alone = collected_alone;
   together = λ settings journal now. collected_together journal;
   reserves = CollectedReserves;
+}
+
+abbrev pub filters : OfObjects Filters
+filters = record {
+  stands = FiltersStand;
+  tied = λ settings. Unit {0};
+  clock = λ keeps. 0;
+  askable = λ keeps moment. Unit {0};
+  frames = λ keeps. 0;
+  stocked = λ keeps. Unit {0};
+  left = λ keeps latest. 0;
+  cells = λ settings journal now. filter_cells settings journal;
+  objects = is_listed filter_tables;
+  alone = filters_alone;
+  together = λ settings journal now. filters_together journal;
+  reserves = λ journal bindings index. ⊥;
 }
 
 -- Alarms that sample variables among these cells. An alarm that becomes valid is judged by what its variable reads then.
@@ -180,14 +230,23 @@ alarms sampleable = record {
   reserves = λ journal bindings index. ⊥;
 }
 
--- those whose variables alarms may sample
+-- those to which neither firings nor samples make a difference
+abbrev pub unfired : OfObjects Unfired
+unfired = both system directory
+
+-- those with variables that alarms may sample
 abbrev pub sources : OfObjects Sources
-sources = both ether collectors
+sources = both (both ether collectors) filters
+
+-- the variables that alarms may sample: those of etherStats and of the tables that collect, and of filters and channels those of channelTable
+abbrev pub sampled_cells : Sampleable
+sampled_cells settings journal now name =
+    option_or ((both ether collectors).cells settings journal now name) (cells_of (channels_shown settings journal) name)
 
 -- these, and the alarms beside them
 abbrev pub watched : OfObjects Watched
-watched = both sources (alarms sources.cells)
+watched = both sources (alarms sampled_cells)
 
 -- all groups as one
 abbrev pub all_groups : OfObjects Groups
-all_groups = both system (both events watched)
+all_groups = both unfired (both events watched)

@@ -1,5 +1,5 @@
 -- The notification of a sample, as it is made.
-use Rattle.std.specs.Prelude.{◌≡◌, ℕ, pos, List, [], ◌∷◌, Some, None}
+use Rattle.std.specs.Prelude.{◌≡◌, ℕ, pos, List, [], ◌∷◌, Some}
 use Rattle.rm_val.specs.Val.{int, name}
 use Rattle.rm_model.specs.Counting.{Counting}
 use Rattle.rm_model.specs.Journal.{Journal, samples}
@@ -7,9 +7,6 @@ use Rattle.rm_acts.specs.Alarms.{due_of, number_of, name_of, sampled}
 use Rattle.rm_alarm.specs.AlarmTable.{alarm_shown}
 use Rattle.rm_alarm.specs.Watched.{number_read}
 use Rattle.rm_acts.specs.Events.{event_asked}
-use Rattle.rm_acts.specs.declared.firing.Firing.{Firing}
-use Rattle.rm_event.specs.declared.fired.Fired.{Fired}
-use Rattle.rm_event.specs.declared.fired.Fired.TheVariants as became
 use Rattle.rm_event.specs.EventTable.{event_state, type_of}
 use Rattle.rm_event.specs.Standing.{fired_of}
 use Rattle.rm_pdu.specs.Message.{Binding, Message}
@@ -39,11 +36,6 @@ stated_bindings moment alarm trap told = trap_bindings moment alarm trap (int to
 abbrev pub stated_trap : (community : List ℕ) → (id moment alarm : ℕ) → AlarmTrap → Told → Message
 stated_trap community id moment alarm trap told =
     record { community = community; kind = Trap; id = pos id; first = pos 0; second = pos 0; bindings = stated_bindings moment alarm trap told }
-
--- the firings by the event that a sample asks for, and what becomes of that: an event without a valid row doesn't fire
-abbrev pub firings_by : (event : ℕ) → Fired → List Firing
-firings_by event became.Absent = []
-firings_by event other = record { event = event; channel = None } ∷ []
 
 -- What was taken is the sample of an alarm at a moment after a journal, with its firings: the groups stand for the journal with the
 -- sample in front. It tells what the sample came to, the event that this asked for, and what became of that event.

@@ -3,8 +3,8 @@ use Rattle.std.specs.Prelude.{ℕ}
 use Rattle.rm_model.specs.Counting.{Counting}
 use Rattle.rm_model.specs.Journal.{Journal}
 use Rattle.rm_model.specs.Cells.{Cells}
-use Rattle.rm_agent.specs.Members.{sources}
+use Rattle.rm_agent.specs.Members.{sampled_cells}
 
--- those of etherStats, of the history, of the hosts, of their reports and of the matrix
+-- those of etherStats, of the history, of the hosts, of their reports, of the matrix and of channelTable
 abbrev pub watched_cells : Counting → Journal → ℕ → Cells
-watched_cells = sources.cells
+watched_cells = sampled_cells

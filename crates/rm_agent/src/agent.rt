@@ -1,13 +1,13 @@
 // The agent.
-ghost use Rattle.std.specs.Prelude.{◌≡◌, ℕ, ◌+◌, ◌≤◌, ◌<◌, ◌^◌, [], ◌∷◌, true, length, max, Some, IfOk, IfSome};
-ghost use Rattle.std.specs.Option.{option_map};
-ghost use Rattle.rm_agent.specs.Groups.{AreStocked, clock_of, frames_of, sample_in};
+ghost use Rattle.std.specs.Prelude.{◌≡◌, ℕ, ◌+◌, ◌≤◌, ◌<◌, ◌^◌, [], ◌∷◌, true, length, max, Option, Some, IfOk, IfSome};
+ghost use Rattle.rm_agent.specs.Dues.{moment_in};
+ghost use Rattle.rm_agent.specs.Groups.{AreStocked, clock_of, frames_of};
 
 use crate::answer::{Answer, Reason};
 use crate::groups::{Groups, all_groups, end_by, next_due, pass};
 use crate::notification::notification;
 use crate::sampling::take;
-use rm_group::{Due, MOST_FRAMES, Passing};
+use rm_group::{Due, MOST_FRAMES, Passing, SAMPLES};
 use rm_pcap::Frame;
 use rm_pdu::{Places, read_message};
 use rm_proto::facts;
@@ -19,8 +19,8 @@ use std::alloc::Global;
 // How many request-ids notifications have: they are numbers of 31 bits.
 const REQUEST_IDS: u32 = 0x8000_0000;
 
-/// The agent: what it was set to, and the groups of objects that it answers for. A report of hosts ends before what comes next at its end
-/// or later: no act tells of it, and nothing is sent.
+/// The agent: what it was set to, and the groups of objects that it answers for. What falls due is told by `next_due` and handled by `due`: a
+/// report of hosts ends, of which no act tells, or the sample of an alarm is taken.
 #[derive(Drop)]
 pub struct Agent {
     settings: Settings,
@@ -39,12 +39,17 @@ pub struct Agent {
 
 impl Agent {
     ghost use Rattle.rm_acts.specs.Alarms.{due_of, IsNextDue};
+    ghost use Rattle.rm_alarm.specs.Group.{due_in};
+    ghost use Rattle.rm_group.specs.Due.{HaveEnded};
+    ghost use Rattle.rm_group.specs.declared.due.Due.{Due as Falling};
     ghost use Rattle.rm_model.specs.Journal.{Journal, passes};
     ghost use Rattle.rm_pcap.specs.Progress.{frame_of};
     ghost use Rattle.rm_pdu.specs.Parse.{Parse, IsParse};
     ghost use Rattle.rm_agent.specs.Answers.{reason_for, reason_in, IsReplied, IsShort};
+    ghost use Rattle.rm_agent.specs.Dues.{IsNext};
+    ghost use Rattle.rm_agent.specs.Members.{alarms_of};
     ghost use Rattle.rm_agent.specs.Orderly.{NoneIsDue};
-    ghost use Rattle.rm_agent.specs.Agent.{settings_of, last_given, frames_given, due_of_agent, samples_left_of, IsNextMoment, HasSampled, Stands};
+    ghost use Rattle.rm_agent.specs.Agent.{settings_of, last_given, frames_given, dues_of, dues_left_of, IsNextMoment, NothingIsDue, HasSampled, HasHandled, Stands};
 
     /// The agent before the first frame. It takes the storage of one row of each table whose rows take storage while they are
     /// valid. NoMemory where there is none.
@@ -64,8 +69,8 @@ impl Agent {
     }
 
     /// Counts a frame. Its moment isn't below the last one given, it had at most 262,144 octets and was captured with no more
-    /// than it had, and fewer than `MOST_FRAMES` frames were given before. The samples that are due up to its moment come first
-    /// (`due`): of what a frame does before them nothing is said.
+    /// than it had, and fewer than `MOST_FRAMES` frames were given before. What is due up to its moment comes first (`due`): of what a frame
+    /// does before samples that are due nothing is said, and reports end that should have.
     pub fn frame(&mut self, frame: &Frame<'_>)
         requires later { last_given self.old ≤ frame.now.moment }
         requires captured { length frame.now.bytes.now ≤ frame.now.original }
@@ -90,8 +95,8 @@ impl Agent {
 
     /// Answers a datagram at a moment in milliseconds, which isn't below the last one given, and becomes it. A reply comes to
     /// the front of `out`. Drop says why there is none. Memory is asked for only by a SetRequest with which nothing is wrong and
-    /// which makes a row valid that takes storage. The samples that are due up to the moment come first (`due`): of what the agent
-    /// stands for after an answer before them nothing is said.
+    /// which makes a row valid that takes storage. What is due up to the moment comes first (`due`): of what the agent stands for after an
+    /// answer before samples that are due nothing is said, and reports end that should have.
     pub fn answer(
         &mut self,
         alloc: Global,
@@ -128,30 +133,55 @@ impl Agent {
         Answer::Reply(draft.finish(out))
     }
 
-    /// The moment of the next sample of an alarm, in milliseconds. None where no alarm is valid.
+    /// The moment of what falls due next, in milliseconds: of the end of a report of hosts, or of the sample of an alarm. None where neither
+    /// ever does.
     pub fn next_due(&self) -> Option<u64>
-        ensures next { IsNextMoment (due_of_agent self.now) result }
-        ensures journal { (journal : Journal) → Stands self.now journal → IsNextMoment (due_of journal) result }
+        ensures next { IsNextMoment (dues_of self.now) result }
+        ensures journal { (journal : Journal) → Stands self.now journal
+            → (next : Option Falling) × IsNext journal (last_given self.now) next × (result ≡ moment_in next) }
         ensures none { (journal : Journal) (to : ℕ) → Stands self.now journal → IfSome result (λ moment. to < moment)
             → NoneIsDue to journal }
+        ensures nothing { (to : ℕ) → IfSome result (λ moment. to < moment) → NothingIsDue to self.now }
     {
         moment_of(next_due(&self.groups))
     }
 
-    /// Takes the sample of an alarm that comes next, which is due at this moment, in milliseconds, and fires its event. Of several
-    /// alarms that are due then it is the lowest. Where the event sends a trap (RFC 1757, section 5), the notification comes
-    /// to the front of `note`, and the result is how many octets it has. None where no notification is sent. It takes no memory.
+    /// Handles what falls due next, which is due at this moment, in milliseconds. At one moment the reports of hosts end that are due then,
+    /// and of that nothing is sent. Then the samples of alarms are taken, one by one, of several that are due the one of the lowest alarm,
+    /// and its event fires. Where the event sends a trap (RFC 1757, section 5), the notification comes to the front of `note`, and the result
+    /// is how many octets it has. None where no notification is sent. It takes no memory.
     pub fn due(&mut self, moment: u32, note: &mut [u8; MOST_REPLY]) -> Option<usize>
-        requires { IsNextMoment (due_of_agent self.old) (Some moment) }
-        ensures sampled { (journal : Journal) → Stands self.old journal
-            → HasSampled (settings_of self.old) journal moment self.new result note.new }
+        requires { IsNextMoment (dues_of self.old) (Some moment) }
+        ensures handled { (journal : Journal) → Stands self.old journal
+            → HasHandled (settings_of self.old) journal (last_given self.old) moment self.new result note.new }
+        ensures ended { HaveEnded (dues_of self.new) moment }
         ensures short { IfSome result (λ count. count ≤ MOST_REPLY) }
         ensures settings { settings_of self.new ≡ settings_of self.old }
         ensures last { last_given self.new ≡ max (last_given self.old) moment }
         ensures frames { frames_given self.new ≡ frames_given self.old }
-        ensures fewer { (latest : ℕ) → moment ≤ latest → samples_left_of self.new latest < samples_left_of self.old latest }
+        ensures fewer { (latest : ℕ) → moment ≤ latest → dues_left_of self.new latest < dues_left_of self.old latest }
     {
-        let alarm = self.due_alarm(moment);
+        let next = next_due(&self.groups).unwrap();
+        if next.kind == SAMPLES {
+            self.sample(next.number, moment, note)
+        } else {
+            self.end_reports(moment);
+            None
+        }
+    }
+
+    // Takes the sample of an alarm that is due at a moment, in milliseconds.
+    fn sample(&mut self, alarm: u32, moment: u32, note: &mut [u8; MOST_REPLY]) -> Option<usize>
+        requires { due_in (alarms_of self.old.groups.value) alarm ≡ Some moment }
+        ensures sampled { (journal : Journal) → Stands self.old journal → IsNextDue (due_of journal) (Some (moment, alarm))
+            → HasSampled (settings_of self.old) journal moment self.new result note.new }
+        ensures ended { HaveEnded (dues_of self.new) moment }
+        ensures short { IfSome result (λ count. count ≤ MOST_REPLY) }
+        ensures settings { settings_of self.new ≡ settings_of self.old }
+        ensures last { last_given self.new ≡ max (last_given self.old) moment }
+        ensures frames { frames_given self.new ≡ frames_given self.old }
+        ensures fewer { (latest : ℕ) → moment ≤ latest → dues_left_of self.new latest < dues_left_of self.old latest }
+    {
         let taken = take(&mut self.groups, alarm, moment);
         self.last = self.last.max(moment);
         let id = (self.notifications + 1) % REQUEST_IDS;
@@ -160,19 +190,24 @@ impl Agent {
         Some(draft.finish(note))
     }
 
-    // The alarm whose sample comes next, which is due at this moment.
-    fn due_alarm(&self, moment: u32) -> u32
-        requires { IsNextMoment (due_of_agent self.now) (Some moment) }
-        ensures next { IsNextDue (due_of_agent self.now) (Some (moment, result)) }
-        ensures journal { (journal : Journal) → Stands self.now journal → IsNextDue (due_of journal) (Some (moment, result)) }
+    // Ends the reports of hosts that are due up to a moment, in milliseconds.
+    fn end_reports(&mut self, moment: u32)
+        ensures stands { (journal : Journal) → Stands self.old journal → Stands self.new journal }
+        ensures ended { HaveEnded (dues_of self.new) moment }
+        ensures settings { settings_of self.new ≡ settings_of self.old }
+        ensures last { last_given self.new ≡ max (last_given self.old) moment }
+        ensures frames { frames_given self.new ≡ frames_given self.old }
+        ensures fewer { (due : Falling) (latest : ℕ) → dues_of self.old due → due.kind < SAMPLES → due.moment ≤ moment → due.moment ≤ latest
+            → dues_left_of self.new latest < dues_left_of self.old latest }
     {
-        next_due(&self.groups).unwrap().number
+        end_by(&mut self.groups, moment);
+        self.last = self.last.max(moment);
     }
 }
 
 // The moment of what falls due next, if there is something.
 fn moment_of(next: Option<Due>) -> Option<u64>
-    ensures { result ≡ option_map (λ sample. sample.0) (sample_in next) }
+    ensures { result ≡ moment_in next }
 {
     match next {
         Some(due) => Some(due.moment),

@@ -1,32 +1,41 @@
 // The groups of objects that the agent answers for. Only here is it said how they stand in one another.
-ghost use Rattle.std.specs.Prelude.{◌≡◌, ℕ, ◌+◌, ◌≤◌, ◌<◌, max, [], ◌∷◌, Some, IfOk, OnOk};
+ghost use Rattle.std.specs.Prelude.{◌≡◌, ℕ, ◌+◌, ◌≤◌, ◌<◌, max, List, [], ◌∷◌, ◌++◌, Some, IfOk, OnOk};
 ghost use Rattle.rm_model.specs.Counting.{Counting};
 ghost use Rattle.rm_model.specs.Journal.{Act, Frame, Journal, passes, samples, moment_of, last_moment};
+ghost use Rattle.rm_group.specs.Due.{IsFirst};
 ghost use Rattle.rm_group.specs.Passing.{IsOf};
+ghost use Rattle.rm_group.specs.declared.due.Due.{Due as Falling};
+ghost use Rattle.rm_group.specs.declared.due.TheConstants.{SAMPLES};
 ghost use Rattle.rm_group.specs.declared.bounds.TheConstants.{MOST_FRAMES, MOST_OCTETS};
-ghost use Rattle.rm_acts.specs.Alarms.{due_of, IsNextDue, sampled};
-ghost use Rattle.rm_acts.specs.Fired.{act_fires, fired};
+ghost use Rattle.rm_acts.specs.Alarms.{sampled};
+ghost use Rattle.rm_acts.specs.declared.firing.Firing.{Firing as Fires};
 ghost use Rattle.rm_alarm.specs.Group.{due_in};
 ghost use Rattle.rm_alarm.specs.Watched.{number_read};
-ghost use Rattle.rm_agent.specs.Members.{alarms_of, events_of, sources, watched};
+ghost use Rattle.rm_agent.specs.Members.{alarms_of, collectors_of, events_of, filters_of, sources, watched, unfired};
 ghost use Rattle.rm_agent.specs.Known.{counting_by};
-ghost use Rattle.rm_agent.specs.Groups.{GroupsStand, AreAskable, AreUnderWay, AreStocked, clock_of, frames_of, left_of, sample_in};
+ghost use Rattle.rm_agent.specs.Groups.{GroupsStand, AreAskable, AreUnderWay, AreStocked, FallDue, clock_of, frames_of, left_of};
 
+use crate::firing::fire_accepting;
 use rm_acts::Firing;
 use rm_alarm::{Alarms, Sampled, Watched, reads_cells, take_sample};
 use rm_collectors::Collectors;
+use rm_dir::Directory;
 use rm_ether::Ether;
 use rm_event::Events;
-use rm_group::{Both, Due, FallsDue, Passing, System, pass_whole, sample_begins, take_whole};
+use rm_filter::Filters;
+use rm_group::{Both, Due, FallsDue, Passing, Steps, System, sample_begins};
 use rm_settings::Settings;
 use rm_val::NoMemory;
 use std::alloc::Global;
 
 /// All groups of objects that the agent answers for.
-pub(crate) type Groups = Both<System, Both<Events, Watched<Sources>>>;
+pub(crate) type Groups = Both<Unfired, Both<Events, Watched<Sources>>>;
 
-/// The groups whose variables alarms may sample.
-type Sources = Both<Ether, Collectors>;
+/// The groups to which neither firings nor samples make a difference.
+type Unfired = Both<System, Directory>;
+
+/// The groups with variables that alarms may sample.
+type Sources = Both<Both<Ether, Collectors>, Filters>;
 
 /// The groups of a probe that is set so, before the first act, which stand in memory of their own. They take the storage of one row of
 /// each table whose rows take storage while they are valid. NoMemory where there is none.
@@ -51,11 +60,22 @@ fn first_groups(settings: &Settings) -> Groups
     ensures frames { frames_of result ≡ 0 }
 {
     Both {
-        first: System,
+        first: first_unfired(),
         second: Both {
             first: Events::new(),
             second: first_watched(settings),
         },
+    }
+}
+
+// The groups to which neither firings nor samples make a difference.
+#[inline(never)]
+fn first_unfired() -> Unfired
+    ensures { (settings : Counting) → unfired.stands result settings [] }
+{
+    Both {
+        first: System,
+        second: Directory::new(),
     }
 }
 
@@ -73,7 +93,7 @@ fn first_watched(settings: &Settings) -> Watched<Sources>
     }
 }
 
-// The groups whose variables alarms sample.
+// The groups with variables that alarms sample.
 #[inline(never)]
 fn first_sources(settings: &Settings) -> Sources
     ensures stands { sources.stands result (counting_by settings.now) [] }
@@ -81,8 +101,11 @@ fn first_sources(settings: &Settings) -> Sources
     ensures frames { sources.frames result ≡ 0 }
 {
     Both {
-        first: Ether::new(),
-        second: Collectors::new(settings),
+        first: Both {
+            first: Ether::new(),
+            second: Collectors::new(settings),
+        },
+        second: Filters::new(),
     }
 }
 
@@ -94,7 +117,7 @@ fn reserve(alloc: Global, groups: &mut Groups) -> Result<(), NoMemory>
     ensures stocked { OnOk result (AreStocked groups.new) }
 {
     groups.second.first.reserve(alloc)?;
-    groups.second.second.first.second.reserve(alloc)
+    groups.second.second.first.first.second.reserve(alloc)
 }
 
 /// The events.
@@ -104,6 +127,13 @@ pub(crate) fn events(groups: &Groups) -> &Events
     &groups.second.first
 }
 
+/// The filters and channels.
+pub(crate) fn filters(groups: &Groups) -> &Filters
+    ensures { result.now ≡ filters_of groups.now }
+{
+    &groups.second.second.first.second
+}
+
 /// The alarms.
 pub(crate) fn alarms(groups: &Groups) -> &Alarms
     ensures { result.now ≡ alarms_of groups.now }
@@ -111,14 +141,11 @@ pub(crate) fn alarms(groups: &Groups) -> &Alarms
     &groups.second.second.second
 }
 
-/// What falls due next, which is the sample that is taken next: its moment, in milliseconds, and the number of the alarm. None where
-/// no alarm is valid.
+/// What falls due next: the end of a report of hosts, or the sample of an alarm. None where neither ever does.
 pub(crate) fn next_due(groups: &Groups) -> Option<Due>
-    ensures next { IsNextDue (due_in (alarms_of groups.now)) (sample_in result) }
-    ensures journal { (settings : Counting) (journal : Journal) → GroupsStand groups.now settings journal
-        → IsNextDue (due_of journal) (sample_in result) }
+    ensures { IsFirst (FallDue groups.now) result }
 {
-    groups.second.second.second.next_due()
+    groups.next_due()
 }
 
 /// Ends the reports of hosts that are due up to a moment, in milliseconds: the groups may then be asked at it.
@@ -130,26 +157,29 @@ pub(crate) fn end_by(groups: &mut Groups, moment: u32)
     ensures stocked { AreStocked groups.old → AreStocked groups.new }
     ensures events { events_of groups.new ≡ events_of groups.old }
     ensures alarms { alarms_of groups.new ≡ alarms_of groups.old }
-    ensures left { (latest : ℕ) → left_of groups.new latest ≡ left_of groups.old latest }
+    ensures left { (latest : ℕ) → left_of groups.new latest ≤ left_of groups.old latest }
+    ensures fewer { (due : Falling) (latest : ℕ) → FallDue groups.old due → due.kind < SAMPLES → due.moment ≤ moment → due.moment ≤ latest
+        → left_of groups.new latest < left_of groups.old latest }
 {
-    groups.second.second.first.second.end_by(moment);
+    groups.second.second.first.first.second.end_by(moment);
 }
 
-/// A frame passes, once the reports of hosts have ended that are due by its moment. Frames fire by channels, and the agent has none.
+/// A frame passes, once the reports of hosts have ended that are due by its moment. All channels judge it before the events fire of those
+/// that accept it.
 pub(crate) fn pass(groups: &mut Groups, passing: &Passing<'_>)
     requires later { clock_of groups.old ≤ passing.now.moment }
     requires room { frames_of groups.old < MOST_FRAMES }
     requires length { passing.now.facts.length ≤ MOST_OCTETS }
     ensures stands { (settings : Counting) (earlier : Journal) (frame : Frame)
         → IsOf settings frame passing.now.facts passing.now.octets.now passing.now.number passing.now.moment
-        → GroupsStand groups.old settings earlier → last_moment earlier ≤ passing.now.moment
-        → [] ≡ act_fires settings (passes frame) earlier (fired settings earlier) → GroupsStand groups.new settings (passes frame ∷ earlier) }
+        → GroupsStand groups.old settings earlier → last_moment earlier ≤ passing.now.moment → GroupsStand groups.new settings (passes frame ∷ earlier) }
     ensures clock { clock_of groups.new ≤ passing.now.moment }
     ensures frames { frames_of groups.new ≤ frames_of groups.old + 1 }
     ensures stocked { AreStocked groups.old → AreStocked groups.new }
 {
     end_by(groups, passing.moment);
-    pass_whole(groups, passing, &[]);
+    groups.pass(passing);
+    fire_accepting(groups, passing.moment);
 }
 
 /// Takes the sample of an alarm that is due at a moment, in milliseconds, at which the groups may be asked, and tells what it comes to.
@@ -157,28 +187,31 @@ pub(crate) fn pass(groups: &mut Groups, passing: &Passing<'_>)
 pub(crate) fn sample(groups: &mut Groups, index: u32, moment: u32) -> Sampled
     requires { due_in (alarms_of groups.old) index ≡ Some moment }
     ensures under_way { (settings : Counting) (journal : Journal) → GroupsStand groups.old settings journal → last_moment journal ≤ moment
-        → AreAskable groups.old moment → AreUnderWay groups.new settings (samples moment index (number_read settings journal moment index)) journal }
+        → AreAskable groups.old moment → AreUnderWay groups.new settings (samples moment index (number_read settings journal moment index)) journal [] }
     ensures result { (settings : Counting) (journal : Journal) → GroupsStand groups.old settings journal → last_moment journal ≤ moment
         → AreAskable groups.old moment → result ≡ sampled settings journal moment index (number_read settings journal moment index) }
     ensures events { events_of groups.new ≡ events_of groups.old }
+    ensures collectors { collectors_of groups.new ≡ collectors_of groups.old }
     ensures clock { clock_of groups.new ≡ clock_of groups.old }
     ensures frames { frames_of groups.new ≡ frames_of groups.old }
     ensures stocked { AreStocked groups.old → AreStocked groups.new }
     ensures fewer { (latest : ℕ) → moment ≤ latest → left_of groups.new latest < left_of groups.old latest }
 {
+    sample_begins(&groups.first, moment);
     sample_begins(&groups.second.first, moment);
     take_sample(&mut groups.second.second, index, moment)
 }
 
-/// Takes the firings of an act that is under way at a moment, in milliseconds. Alarms take none.
-pub(crate) fn take_each(groups: &mut Groups, firings: &[Firing], moment: u32)
-    ensures stands { (settings : Counting) (act : Act) (earlier : Journal) → moment_of act ≡ moment → AreUnderWay groups.old settings act earlier
-        → firings.now ≡ act_fires settings act earlier (fired settings earlier) → GroupsStand groups.new settings (act ∷ earlier) }
+/// Takes a firing of the act that is under way, at its moment in milliseconds: the events and the filters do, to which it makes a difference.
+pub(crate) fn fire(groups: &mut Groups, firing: &Firing, moment: u32)
+    ensures under_way { (settings : Counting) (act : Act) (earlier : Journal) (some : List Fires) → moment_of act ≡ moment
+        → AreUnderWay groups.old settings act earlier some → AreUnderWay groups.new settings act earlier (some ++ firing.now ∷ []) }
     ensures clock { clock_of groups.new ≡ clock_of groups.old }
     ensures frames { frames_of groups.new ≡ frames_of groups.old }
     ensures stocked { AreStocked groups.old → AreStocked groups.new }
     ensures alarms { alarms_of groups.new ≡ alarms_of groups.old }
+    ensures collectors { collectors_of groups.new ≡ collectors_of groups.old }
 {
-    take_whole(&mut groups.second.first, firings, moment);
-    take_whole(&mut groups.second.second.first, firings, moment);
+    groups.second.first.take(firing, moment);
+    groups.second.second.first.second.take(firing, moment);
 }

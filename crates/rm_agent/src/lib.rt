@@ -3,6 +3,7 @@
 
 mod agent;
 mod answer;
+mod firing;
 mod groups;
 mod laws;
 mod notification;

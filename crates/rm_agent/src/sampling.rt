@@ -1,21 +1,21 @@
 // The samples of alarms, and their firings.
-ghost use Rattle.std.specs.Prelude.{◌≡◌, ℕ, ◌≤◌, ◌<◌, max, [], ◌∷◌, true, Some, is_some};
+ghost use Rattle.std.specs.Prelude.{◌≡◌, ℕ, ◌≤◌, ◌<◌, max, true, Some, is_some};
 ghost use Rattle.rm_val.specs.Val.{int};
 ghost use Rattle.rm_val.specs.Contents.{natural_in};
 ghost use Rattle.rm_model.specs.Counting.{Counting};
-ghost use Rattle.rm_model.specs.Journal.{Act, Journal, moment_of, last_moment};
+ghost use Rattle.rm_model.specs.Journal.{Journal, last_moment};
 ghost use Rattle.rm_model.specs.ControlRows.{is_valid};
 ghost use Rattle.rm_acts.specs.Alarms.{alarm_state, due_of};
 ghost use Rattle.rm_acts.specs.Events.{event_asked};
-ghost use Rattle.rm_acts.specs.Fired.{act_fires, fired as all_fired};
 ghost use Rattle.rm_alarm.specs.Group.{due_in};
 ghost use Rattle.rm_alarm.specs.Standing.{Stands as AlarmsStand};
 ghost use Rattle.rm_agent.specs.Members.{alarms_of};
-ghost use Rattle.rm_agent.specs.Groups.{GroupsStand, AreUnderWay, AreStocked, clock_of, frames_of, left_of};
+ghost use Rattle.rm_agent.specs.Groups.{GroupsStand, AreAskable, AreStocked, clock_of, frames_of, left_of};
 ghost use Rattle.rm_agent.specs.Notifications.{trap_of};
-ghost use Rattle.rm_agent.specs.Told.{IsTaken, firings_by};
+ghost use Rattle.rm_agent.specs.Told.{IsTaken};
 
-use crate::groups::{Groups, alarms, end_by, events, sample, take_each};
+use crate::firing::fire_by;
+use crate::groups::{Groups, alarms, end_by, events, sample};
 use rm_acts::Firing;
 use rm_alarm::{Alarms, Sampled};
 use rm_columns::natural_in;
@@ -39,6 +39,7 @@ pub(crate) fn take(groups: &mut Groups, index: u32, moment: u32) -> Taken
     ensures clock { clock_of groups.new ≤ max (clock_of groups.old) moment }
     ensures frames { frames_of groups.new ≡ frames_of groups.old }
     ensures stocked { AreStocked groups.old → AreStocked groups.new }
+    ensures askable { AreAskable groups.new moment }
     ensures fewer { (latest : ℕ) → moment ≤ latest
         → left_of groups.new latest < left_of groups.old latest }
 {
@@ -46,30 +47,15 @@ pub(crate) fn take(groups: &mut Groups, index: u32, moment: u32) -> Taken
     let comes = sample(groups, index, moment);
     let event = event_asked(alarms(groups), index, comes);
     let fired = events(groups).becomes(event);
-    take_firing(groups, event, fired, moment);
-    Taken {
-        comes,
-        event,
-        fired,
-    }
-}
-
-// Takes the firing of an act that is under way at a moment, in milliseconds, by the event that it asks for and what becomes of that.
-fn take_firing(groups: &mut Groups, event: u32, fired: Fired, moment: u32)
-    ensures stands { (settings : Counting) (act : Act) (earlier : Journal) → moment_of act ≡ moment → AreUnderWay groups.old settings act earlier
-        → firings_by event fired ≡ act_fires settings act earlier (all_fired settings earlier) → GroupsStand groups.new settings (act ∷ earlier) }
-    ensures clock { clock_of groups.new ≡ clock_of groups.old }
-    ensures frames { frames_of groups.new ≡ frames_of groups.old }
-    ensures stocked { AreStocked groups.old → AreStocked groups.new }
-    ensures alarms { alarms_of groups.new ≡ alarms_of groups.old }
-{
     let firing = Firing {
         event,
         channel: None,
     };
-    match fired {
-        Fired::Absent => take_each(groups, &[], moment),
-        _ => take_each(groups, &[firing], moment),
+    fire_by(groups, &firing, fired, moment);
+    Taken {
+        comes,
+        event,
+        fired,
     }
 }
 

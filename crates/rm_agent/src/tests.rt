@@ -37,7 +37,18 @@ const BEGIN_ALARM: (&str, &str) = (
     "1d02010102010002010030123010060b2b06010201100301010c01020101",
 );
 
-// The notification of its first sample, at 7000: risingAlarm, with the value 2.
+// The first makes row 1 of hostTopNControl, whose reports run for 5 seconds, and the second begins one.
+const MAKE_REPORT: (&str, &str) = (
+    "304f020101040770726976617465",
+    "4102010102010002010030363010060b2b060102011005010102010201013010060b2b060102011005010104010201053010060b2b06010201100501010a01020102",
+);
+
+const BEGIN_REPORT: (&str, &str) = (
+    "302b020101040770726976617465",
+    "1d02010102010002010030123010060b2b06010201100501010a01020101",
+);
+
+// The notification of the first sample of alarm 1, at 7000: risingAlarm, with the value 2.
 const RISING: &str =
     "3081a602010104067075626c6963a7819802010102010002010030818c300e06082b06010201010300430202bc3016060a2b06010603010104010006082b060102011000013010060b2b06010201100301010101020101301a060b2b06010201100301010301060b2b060102011001010105013010060b2b060102011003010104010201013010060b2b060102011003010105010201023010060b2b06010201100301010701020102";
 
@@ -100,8 +111,8 @@ fn check_set(
     Ok(())
 }
 
-// The moment of the next sample, with its notification in hexadecimal digits, of no digit where it has none.
-fn sample_next(agent: &mut Agent, alloc: Global) -> Result<Option<(u32, String)>, Fail> {
+// The moment of what falls due next, with its notification in hexadecimal digits, of no digit where it has none.
+fn handle_next(agent: &mut Agent, alloc: Global) -> Result<Option<(u32, String)>, Fail> {
     let Some(next) = agent.next_due() else {
         return Ok(None);
     };
@@ -116,7 +127,7 @@ fn sample_next(agent: &mut Agent, alloc: Global) -> Result<Option<(u32, String)>
     Ok(Some((moment, told)))
 }
 
-// Compares the next sample with this moment and this notification.
+// Compares what falls due next with this moment and this notification.
 fn check_next(
     rt: &impl Abort,
     agent: &mut Agent,
@@ -124,12 +135,12 @@ fn check_next(
     moment: u32,
     note: &str,
 ) -> Result<(), Fail> {
-    match sample_next(agent, alloc)? {
+    match handle_next(agent, alloc)? {
         Some((at, told)) => {
             assert_eq!(rt; at, moment);
             assert_eq!(rt; told.as_str(), note);
         }
-        None => assert!(rt; false, "no sample is due"),
+        None => assert!(rt; false, "nothing is due"),
     }
     Ok(())
 }
@@ -148,16 +159,20 @@ fn datagrams_are_answered(rt: HostRuntime) -> Result<(), Fail> {
     Ok(())
 }
 
-// The first sample is due one interval after the alarm became valid. It crosses a threshold once.
+// The first sample is due one interval after the alarm became valid. It crosses a threshold once. A report that ends at its moment ends
+// first, and nothing is sent of that.
 #[test]
-fn samples_are_taken(rt: HostRuntime) -> Result<(), Fail> {
+fn what_is_due_is_handled(rt: HostRuntime) -> Result<(), Fail> {
     let alloc = rt.alloc();
     let mut agent = agent_with_frames(alloc)?;
     check_set(&rt, &mut agent, alloc, MAKE_EVENT)?;
     check_set(&rt, &mut agent, alloc, BEGIN_EVENT)?;
     check_set(&rt, &mut agent, alloc, MAKE_ALARM)?;
+    check_set(&rt, &mut agent, alloc, MAKE_REPORT)?;
     assert_eq!(rt; agent.next_due(), None);
     check_set(&rt, &mut agent, alloc, BEGIN_ALARM)?;
+    check_set(&rt, &mut agent, alloc, BEGIN_REPORT)?;
+    check_next(&rt, &mut agent, alloc, 7000, "")?;
     check_next(&rt, &mut agent, alloc, 7000, RISING)?;
     check_next(&rt, &mut agent, alloc, 12000, "")
 }

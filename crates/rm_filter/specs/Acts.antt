@@ -12,11 +12,11 @@ use Rattle.rm_status.proofs.RowsAfterLemmas.{rows_passes, rows_samples}
 use Rattle.rm_acts.specs.Seen.{Seen, with_act, seen_since}
 use Rattle.rm_acts.specs.Filters.{filter_table}
 use Rattle.rm_acts.specs.Channels.{channel_table, accepts}
-use Rattle.rm_acts.specs.Fired.{act_fires, fired}
+use Rattle.rm_acts.specs.Fired.{act_fires, fired, is_set}
 use Rattle.rm_filter.specs.declared.filters.Filters.{Filters}
 use Rattle.rm_filter.specs.FilterRows as filter
 use Rattle.rm_filter.specs.ChannelForm.{set_to}
-use Rattle.rm_filter.specs.Standing.{Stands, IsUnderWay, is_set}
+use Rattle.rm_filter.specs.Standing.{Stands, IsUnderWay}
 
 -- a channel that isn't valid has accepted nothing
 idle_before : (settings : Counting) (channel : ℕ) (journal : Journal) → is_valid (state_of channel_table no_rows journal (channel ∷ [])) ≡ false → seen_since channel_table no_rows journal (channel ∷ []) ≡ []

@@ -1,14 +1,14 @@
 -- When what is kept of filters and channels is what a journal gives.
-use Rattle.std.specs.Prelude.{◌≡◌, List, ◌∷◌, Bool, true, false}
+use Rattle.std.specs.Prelude.{◌≡◌, List, ◌∷◌, false}
 use Rattle.rm_model.specs.Counting.{Counting}
-use Rattle.rm_model.specs.Journal.{Act, Journal, passes, assigns, samples}
+use Rattle.rm_model.specs.Journal.{Act, Journal}
 use Rattle.rm_model.specs.ControlRows.{no_rows}
 use Rattle.rm_model.specs.Judgement.{Bindings}
 use Rattle.rm_status.specs.RowsAfter.{AreRowsAfter}
 use Rattle.rm_group.specs.Both.{StandAsOne}
 use Rattle.rm_acts.specs.declared.firing.Firing.{Firing}
 use Rattle.rm_acts.specs.Channels.{channel_table}
-use Rattle.rm_acts.specs.Fired.{fired}
+use Rattle.rm_acts.specs.Fired.{fired, is_set}
 use Rattle.rm_filter.specs.declared.filters.Filters.{Filters}
 use Rattle.rm_filter.specs.ChannelForm.{set_to}
 use Rattle.rm_filter.specs.Judging.{AreAcceptingIn}
@@ -17,12 +17,6 @@ use Rattle.rm_filter.specs.Tables.{HasFilters, HasChannels, ArePresent, AreFilte
 -- The group stands for a journal: its rows are those after the journal, with the present state of each channel.
 abbrev pub Stands : Filters → Counting → Journal → Type 0
 Stands filters settings journal = StandAsOne (HasFilters filters.tables.first journal) (HasChannels filters.tables.second settings journal) (Unit {0})
-
--- whether an act is a Set
-abbrev pub is_set : Act → Bool
-is_set (assigns moment values) = true
-is_set (passes frame) = false
-is_set (samples moment alarm reading) = false
 
 -- The group is in an act, which is no Set, after a journal: each channel was turned and spent by the firings that were taken so
 -- far, and a frame was counted by the channels that accept it.

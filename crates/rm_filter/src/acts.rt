@@ -13,7 +13,8 @@ impl Steps for Filters {
 
     fn pass(&mut self, passing: &Passing<'_>) {
         prove!(self.tables.second.rows.len() <= 32);
-        self.accepting = judge(
+        judge(
+            &mut self.accepting,
             &self.tables.first.rows,
             &self.tables.second.rows,
             &passing.facts,

@@ -1,5 +1,5 @@
 // The group filter.
-ghost use Rattle.std.specs.Prelude.{◌≡◌, [], List};
+ghost use Rattle.std.specs.Prelude.{◌≡◌, ◌≤◌, [], List, length};
 ghost use Rattle.rm_model.specs.Counting.{Counting};
 ghost use Rattle.rm_model.specs.Journal.{Frame, Journal, passes};
 ghost use Rattle.rm_acts.specs.declared.firing.Firing.{Firing};
@@ -39,7 +39,8 @@ impl Filters {
     /// The valid channels that accept the frame that passes, in the order of their indexes, as they were before any event fired by
     /// it.
     pub fn accepting(&self) -> &[Accepted]
-        ensures { (settings : Counting) (frame : Frame) (earlier : Journal) (some : List Firing)
+        ensures few { length result.now ≤ 32 }
+        ensures accepting { (settings : Counting) (frame : Frame) (earlier : Journal) (some : List Firing)
             → IsUnderWay self.now settings (passes frame) earlier some → AreAccepting settings frame earlier result.now }
     {
         self.accepting.as_slice()

@@ -26,30 +26,27 @@ use rm_status::{Controls, MAX_ROWS, Row};
 /// The channels that accept a frame, in the order of their indexes.
 pub(crate) type Accepting = ArrayVec<Accepted, MAX_ROWS>;
 
-/// The valid channels that accept a packet, in the order of their indexes.
+/// Lists the valid channels that accept a packet, in the order of their indexes.
 pub(crate) fn judge(
+    accepting: &mut Accepting,
     filters: &Controls<FilterRow>,
     channels: &Controls<Channel>,
     facts: &Facts,
     octets: &[u8],
-) -> Accepting
+)
     ensures { (settings : Counting) (journal : Journal) (frame : Frame) (number moment : ℕ)
         → AreRowsAfter filter_table no_rows filter_set_to filters.now journal
         → AreRowsAfter channel_table no_rows set_to channels.now journal
         → IsOf settings frame facts.now octets.now number moment
-        → result.items ≡ filter_map (judged settings journal frame) channels.now }
+        → accepting.new.items ≡ filter_map (judged settings journal frame) channels.now }
 {
     prove!(channels.len() <= MAX_ROWS);
-    let mut accepting = ArrayVec::new();
+    accepting.clear();
     let mut last = 0;
     while let Some(index) = channels.after(last) {
-        add(
-            &mut accepting,
-            judge_at(filters, channels, index, facts, octets),
-        );
+        add(accepting, judge_at(filters, channels, index, facts, octets));
         last = index;
     }
-    accepting
 }
 
 // Adds one to some channels, if it accepts the packet.

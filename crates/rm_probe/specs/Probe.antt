@@ -1,8 +1,11 @@
 -- The probe, as its callers see it.
-use Rattle.std.specs.Prelude.{◌≡◌, ℕ, []}
+use Rattle.std.specs.Prelude.{◌≡◌, ℕ, List, [], ◌∷◌, Some}
+use Rattle.rm_acts.specs.Alarms.{due_of, IsNextDue}
 use Rattle.rm_model.specs.Journal.{Journal}
 use Rattle.rm_settings.specs.declared.settings.Settings.{Settings}
-use Rattle.rm_agent.specs.Agent.{settings_of as agent_settings, last_given as agent_last, frames_given as agent_frames, Stands as AgentStands}
+use Rattle.rm_agent.specs.Agent.{settings_of as agent_settings, last_given as agent_last, frames_given as agent_frames, sample_of, Stands as AgentStands}
+use Rattle.rm_probe.specs.Advance.{notes_of}
+use Rattle.rm_probe.specs.Notes.{Note}
 use Rattle.rm_probe.specs.declared.probe.Probe.{Probe}
 
 -- what the probe was set to
@@ -26,3 +29,10 @@ pub record IsFresh (probe : Probe) : Type 0 where
   pub stands : Stands probe []
   pub last : last_given probe ≡ 0
   pub frames : frames_given probe ≡ 0
+
+-- What falls due next after a journal, at a moment, was handled, with these notes. A report ended, of which there is none, and the journal is as
+-- before; or the sample was taken that comes next.
+pub data IsHandled (settings : Settings) (journal : Journal) (moment : ℕ) (notes : List Note) (probe : Probe) : Type 0 where
+  ends : notes ≡ [] → Stands probe journal → IsHandled settings journal moment notes probe
+  samples : (alarm : ℕ) → IsNextDue (due_of journal) (Some (moment, alarm)) → notes ≡ notes_of settings journal (moment, alarm) → Stands probe (sample_of settings journal moment alarm ∷ journal)
+      → IsHandled settings journal moment notes probe

@@ -1,11 +1,9 @@
 // The probe.
 ghost use Rattle.std.specs.Prelude.{◌≡◌, ℕ, ◌+◌, ◌≤◌, ◌<◌, max, List, [], ◌∷◌, length, Some, IfOk, IfSome, IfNone, map};
 ghost use Rattle.rm_model.specs.Journal.{Journal};
-ghost use Rattle.rm_acts.specs.Alarms.{due_of, IsNextDue};
-ghost use Rattle.rm_agent.specs.Agent.{due_of_agent, IsNextMoment, samples_left_of, sample_of};
+ghost use Rattle.rm_agent.specs.Agent.{dues_of, dues_left_of, IsNextMoment, NothingIsDue};
 ghost use Rattle.rm_agent.specs.Answers.{IsShort};
 ghost use Rattle.rm_agent.specs.Orderly.{NoneIsDue};
-ghost use Rattle.rm_probe.specs.Advance.{notes_of};
 ghost use Rattle.rm_probe.specs.Notes.{Note};
 ghost use Rattle.rm_probe.specs.Said.{Notified, SaysMore};
 
@@ -28,7 +26,7 @@ impl Probe {
     ghost use Rattle.rm_probe.specs.Advance.{IsAdvanced};
     ghost use Rattle.rm_probe.specs.Said.{response_of};
     ghost use Rattle.rm_probe.specs.Text.{IsAnswered};
-    ghost use Rattle.rm_probe.specs.Probe.{settings_of, last_given, frames_given, IsFresh, Stands};
+    ghost use Rattle.rm_probe.specs.Probe.{settings_of, last_given, frames_given, IsFresh, IsHandled, Stands};
 
     /// The probe before the first frame. NoMemory where there is none for the storage that tables take at first.
     pub fn new(alloc: Global, settings: Settings) -> Result<Probe, NoMemory>
@@ -40,28 +38,31 @@ impl Probe {
         })
     }
 
-    /// Takes all samples of alarms that are due up to a moment, in milliseconds, which isn't below the last one given. They come in
-    /// order of their moments, at one moment in order of the alarms, and each sees those before it. One that crosses a threshold
-    /// has its event fire, and where the event asks for a trap, the notification goes to `notes`.
+    /// Handles all that is due up to a moment, in milliseconds, which isn't below the last one given. Reports of hosts end, and samples of
+    /// alarms are taken. They come in order of their moments, at one moment the ends of reports first, and then the samples in order of the
+    /// alarms, and each sample sees those before it. One that crosses a threshold has its event fire, and where the event asks for a trap,
+    /// the notification goes to `notes`.
     pub fn advance<N: Notes>(&mut self, to: u32, notes: &mut N)
         requires { last_given self.old ≤ to }
         ensures advanced { (more : List Note) × SaysMore N.since notes.old notes.new (map Notified more)
             × ((journal : Journal) → Stands self.old journal → (after : Journal) × IsAdvanced (settings_of self.old) to journal more after
             × Stands self.new after) }
+        ensures nothing { NothingIsDue to self.new.agent }
         ensures settings { settings_of self.new ≡ settings_of self.old }
         ensures last { last_given self.new ≤ to }
         ensures frames { frames_given self.new ≡ frames_given self.old }
     {
         while let Some(moment) = self.next_by(to) {
-            self.sample(moment, notes);
+            self.handle(moment, notes);
         }
     }
 
-    // The moment of the next sample, in milliseconds, if it is due up to a moment.
+    // The moment of what falls due next, in milliseconds, if it is due up to a moment.
     fn next_by(&self, to: u32) -> Option<u32>
         ensures due { IfSome result (λ moment. moment ≤ to) }
-        ensures next { IfSome result (λ moment. IsNextMoment (due_of_agent self.now.agent) (Some moment)) }
+        ensures next { IfSome result (λ moment. IsNextMoment (dues_of self.now.agent) (Some moment)) }
         ensures none { IfNone result ((journal : Journal) → Stands self.now journal → NoneIsDue to journal) }
+        ensures nothing { IfNone result (NothingIsDue to self.now.agent) }
     {
         match self.agent.next_due() {
             Some(moment) if moment <= u64::from(to) => Some(moment as u32),
@@ -69,14 +70,12 @@ impl Probe {
         }
     }
 
-    // Takes the next sample, which is due at a moment in milliseconds.
-    fn sample<N: Notes>(&mut self, moment: u32, notes: &mut N)
-        requires { IsNextMoment (due_of_agent self.old.agent) (Some moment) }
-        ensures taken { (more : List Note) × SaysMore N.since notes.old notes.new (map Notified more)
-            × ((journal : Journal) → Stands self.old journal → (alarm : ℕ) × IsNextDue (due_of journal) (Some (moment, alarm))
-            × (more ≡ notes_of (settings_of self.old) journal (moment, alarm))
-            × Stands self.new (sample_of (settings_of self.old) journal moment alarm ∷ journal)) }
-        ensures fewer { (latest : ℕ) → moment ≤ latest → samples_left_of self.new.agent latest < samples_left_of self.old.agent latest }
+    // Handles what falls due next, which is due at a moment in milliseconds.
+    fn handle<N: Notes>(&mut self, moment: u32, notes: &mut N)
+        requires { IsNextMoment (dues_of self.old.agent) (Some moment) }
+        ensures handled { (more : List Note) × SaysMore N.since notes.old notes.new (map Notified more)
+            × ((journal : Journal) → Stands self.old journal → IsHandled (settings_of self.old) journal moment more self.new) }
+        ensures fewer { (latest : ℕ) → moment ≤ latest → dues_left_of self.new.agent latest < dues_left_of self.old.agent latest }
         ensures settings { settings_of self.new ≡ settings_of self.old }
         ensures last { last_given self.new ≡ max (last_given self.old) moment }
         ensures frames { frames_given self.new ≡ frames_given self.old }
@@ -87,8 +86,7 @@ impl Probe {
         }
     }
 
-    /// Takes the samples that are due up to the moment of a frame, as `advance` does, and counts the frame. Its moment, in
-    /// milliseconds, isn't below the last one given, it had at most 262,144 octets and was captured with no more than it had, and
+    /// Handles what is due up to the moment of a frame, as `advance` does, and counts the frame. Its moment, in milliseconds, isn't below the last one given, it had at most 262,144 octets and was captured with no more than it had, and
     /// fewer than `MOST_FRAMES` frames were given before.
     pub fn frame<N: Notes>(&mut self, frame: &Frame<'_>, notes: &mut N)
         requires later { last_given self.old ≤ frame.now.moment }
@@ -108,8 +106,7 @@ impl Probe {
         self.agent.frame(frame);
     }
 
-    /// Takes the samples that are due up to a moment, in milliseconds, as `advance` does, and answers a datagram at it. The moment
-    /// isn't below the last one given. A reply comes to the front of `out`. Drop says why there is none.
+    /// Handles what is due up to a moment, in milliseconds, as `advance` does, and answers a datagram at it. The moment isn't below the last one given. A reply comes to the front of `out`. Drop says why there is none.
     pub fn datagram<N: Notes>(
         &mut self,
         alloc: Global,

@@ -3,9 +3,9 @@ use Rattle.rm_group.specs.Both.{StandAsOne}
 use Rattle.rm_agent.proofs.groups.reserve.Goals as goal
 
 -- the groups stand where the events and those that collect do, and the others did
-with_storage : {System Events Ether Collectors Alarms Reserved Kept Tied Watching Firing All : Type 0}
-    → StandAsOne System (StandAsOne Events (StandAsOne (StandAsOne Ether Collectors Tied) Alarms Watching) Firing) All → Reserved → Kept
-    → StandAsOne System (StandAsOne Reserved (StandAsOne (StandAsOne Ether Kept Tied) Alarms Watching) Firing) All
+with_storage : {Unfired Events Ether Collectors Filters Alarms Reserved Kept Tied Judging Watching Firing All : Type 0}
+    → StandAsOne Unfired (StandAsOne Events (StandAsOne (StandAsOne (StandAsOne Ether Collectors Tied) Filters Judging) Alarms Watching) Firing) All → Reserved → Kept
+    → StandAsOne Unfired (StandAsOne Reserved (StandAsOne (StandAsOne (StandAsOne Ether Kept Tied) Filters Judging) Alarms Watching) Firing) All
 with_storage stands events collectors =
     let watched = stands.second.second in
     record {
@@ -13,7 +13,11 @@ with_storage stands events collectors =
       second = record {
         first = events;
         second = record {
-          first = record { first = watched.first.first; second = collectors; tied = watched.first.tied };
+          first = record {
+            first = record { first = watched.first.first.first; second = collectors; tied = watched.first.first.tied };
+            second = watched.first.second;
+            tied = watched.first.tied;
+          };
           second = watched.second;
           tied = watched.tied;
         };
@@ -24,8 +28,8 @@ with_storage stands events collectors =
 
 pub returns-in_err-reserve-clause-stands : goal.returns-in_err-reserve-clause-stands
 returns-in_err-reserve-clause-stands c settings stands =
-    with_storage stands (c.reserve.ensures.stands settings [] stands.second.first) stands.second.second.first.second
+    with_storage stands (c.reserve.ensures.stands settings [] stands.second.first) stands.second.second.first.first.second
 
 pub returns-clause-stands : goal.returns-clause-stands
 returns-clause-stands c settings stands =
-    with_storage stands (c.reserve.ensures.stands settings [] stands.second.first) (c.reserve-2.ensures.stands settings [] stands.second.second.first.second)
+    with_storage stands (c.reserve.ensures.stands settings [] stands.second.first) (c.reserve-2.ensures.stands settings [] stands.second.second.first.first.second)

@@ -7,7 +7,7 @@ use Rattle.rm_filter.proofs.judging.judge.Goals as goal
 pub loop-index-init : goal.loop-index-init
 loop-index-init c =
     let none = none_to_0 c.args.channels.now c.len.ensures.rows.1 in
-    let begun = c.new-accepting.ensures in
+    let begun = c.clear.ensures in
     let few = ap length begun in
     (omega (arith, few), λ settings journal frame number moment filters channels of. begun ∙ sym (ap (filter_map (judged settings journal frame)) none))
 

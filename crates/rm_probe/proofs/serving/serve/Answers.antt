@@ -1,4 +1,5 @@
-use Rattle.std.proofs.Common.{◌∙◌, [], ◌∷◌, arith, inr, refl, subst, sym}
+use Rattle.std.proofs.Common.{◌∙◌, [], ◌∷◌, ap, arith, inr, refl, subst, sym}
+use Rattle.rm_edge.proofs.Keeping.{keeps_then}
 use Rattle.rm_edge.specs.Outside.{Adds}
 use Rattle.rm_edge.specs.Uses.{file_use, link_use, sink_use}
 use Rattle.rm_pcap.specs.View.{progress_of}
@@ -63,3 +64,8 @@ returns-clause-serves g c =
       bound = inr (record { unbound = stays_adds (g.L.Link.bound c.args.link.now) (g.L.Link.bound c.bind.new.self) c.in-Err-bind.ensures.ports; unasked = refl; unsent = c.in-Err-bind.ensures.sent });
       ends = (c.in-Err-bind.ensures.cause.failed, none_written c.args.lead c.args.settings (local_port c.args.trap_port) capture out link c.in-Ok.ensures.judged (record { unwritten = refl; unsent = c.in-Err-bind.ensures.sent }));
     }
+
+pub returns-in-Ok-bind-clause-shelf : goal.returns-in-Ok-bind-clause-shelf
+returns-in-Ok-bind-clause-shelf g c =
+    keeps_then g.F.Shelf.held g.F.Shelf.faults c.args.shelf.now c.prepare.new.shelf c.serve_all.new.shelf _ _ _ _ _ _ c.in-Ok.ensures.shelf c.serve_all.ensures.shelf (λ each is. is) (λ each is. is) (λ failed. absurd (cc))
+    (λ failed. c.ended.ensures ∙ ap ends_by failed)

@@ -10,7 +10,6 @@ use Rattle.rm_reply.specs.Responses.{IsReplyBy}
 use Rattle.rm_agent.specs.Answers.{reason_for}
 use Rattle.rm_agent.proofs.Written.{written}
 use Rattle.rm_agent.proofs.CountLemmas.{same_count}
-use Rattle.rm_agent.proofs.ChannelLemmas.{reply_makes_none}
 use Rattle.rm_reply.proofs.ReadLemmas.{read_one}
 use Rattle.rm_agent.proofs.RepliesOrderly.{reply_orderly}
 use Rattle.rm_agent.proofs.agent.Agent.answer.Goals as goal
@@ -41,7 +40,6 @@ returns-clause-reply c journal stands =
       λ none. record {
         groups = stood;
         last = moment;
-        channels = reply_makes_none settings journal c.args.now stands.channels m.kind (may_write settings m.community) m reply after is;
         orderly = reply_orderly settings journal c.args.now stands.orderly none m.kind (may_write settings m.community) m reply after is;
         notifications = stands.notifications ∙ ap (λ (n : ℕ). n % 2 ^ 31) (sym counted);
       },

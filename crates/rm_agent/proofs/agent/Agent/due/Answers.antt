@@ -1,29 +1,52 @@
-use Rattle.std.proofs.Common.{ℕ, ◌+◌, ◌%◌, ◌^◌, Option, refl, sym, subst, ◌∙◌, arith}
+use Rattle.std.proofs.Common.{ℕ, Some, refl, ap, subst, ◌∙◌, arith}
+use Rattle.rm_acts.specs.Alarms.{due_of, IsNextDue}
+use Rattle.rm_group.specs.Due.{IsFirst}
+use Rattle.rm_agent.specs.Agent.{dues_of}
 use Rattle.rm_agent.specs.Known.{counting_by}
-use Rattle.rm_agent.specs.Notifications.{count_notifications, notification_of}
-use Rattle.rm_agent.specs.Agent.{sample_of, IsWritten}
-use Rattle.rm_agent.proofs.CountLemmas.{counts_one, counts_none, finished, unsent}
-use Rattle.rm_agent.proofs.SampleLemmas.{has_sampled, next_number}
+use Rattle.rm_agent.proofs.GroupDues.{at_moment, is_next, its_end, its_sample, next_sample, there_is}
 use Rattle.rm_agent.proofs.agent.Agent.due.Goals as goal
 
-pub returns-in_err-draft-clause-sampled : goal.returns-in_err-draft-clause-sampled
-returns-in_err-draft-clause-sampled c journal stands =
-    let counting = counting_by c.args.self.now.settings in
-    let act = sample_of c.args.self.now.settings journal c.args.moment c.due_alarm-alarm.result in
-    let next = c.due_alarm-alarm.ensures.journal journal stands in
-    let taken = c.take-taken.ensures.taken counting journal (rw c.deref_mut.ensures.value stands.groups) (stands.orderly.timely c.due_alarm-alarm.result c.args.moment next.0) next.0 in
-    let none = sym c.in_err-draft.was ∙ c.notification.ensures counting journal (count_notifications counting journal + 1) (rw c.deref.ensures taken) (next_number (count_notifications counting journal) c.args.self.now.notifications stands.notifications) in
-    has_sampled c.args.self.now _ journal c.args.moment c.due_alarm-alarm.result _ c.args.note.now stands next taken.stands refl (omega (arith, c.max-self.ensures))
-    (counts_none counting act journal (count_notifications counting journal + 1) c.args.self.now.notifications none stands.notifications)
-    (subst (λ (count : Option ℕ). IsWritten (notification_of counting act journal) count c.args.note.now) (sym c.from_residual.ensures) (unsent (notification_of counting act journal) c.args.note.now none))
+pub unwrap-next-requires : goal.unwrap-next-requires
+unwrap-next-requires c = there_is (dues_of c.args.self.now) c.args.moment c.next_due.result c.requires (rw c.deref.ensures at c.next_due.ensures)
 
-pub returns-clause-sampled : goal.returns-clause-sampled
-returns-clause-sampled c journal stands =
-    let counting = counting_by c.args.self.now.settings in
-    let act = sample_of c.args.self.now.settings journal c.args.moment c.due_alarm-alarm.result in
-    let next = c.due_alarm-alarm.ensures.journal journal stands in
-    let taken = c.take-taken.ensures.taken counting journal (rw c.deref_mut.ensures.value stands.groups) (stands.orderly.timely c.due_alarm-alarm.result c.args.moment next.0) next.0 in
-    let made = sym c.in_ok-draft.was ∙ c.notification.ensures counting journal (count_notifications counting journal + 1) (rw c.deref.ensures taken) (next_number (count_notifications counting journal) c.args.self.now.notifications stands.notifications) in
-    has_sampled c.args.self.now _ journal c.args.moment c.due_alarm-alarm.result _ _ stands next taken.stands refl (omega (arith, c.max-self.ensures))
-    (counts_one counting act journal (count_notifications counting journal + 1) c.args.self.now.notifications ((c.args.self.now.notifications + 1) % 2 ^ 31) c.in_ok-draft.draft made stands.notifications refl)
-    (finished (notification_of counting act journal) c.in_ok-draft.draft c.finish.result c.args.note.now c.finish.new.out made c.finish.ensures.count c.finish.ensures.written)
+pub sample-requires : goal.sample-requires
+sample-requires c =
+    let agent = c.args.self.now in
+    let first = subst (IsFirst (dues_of agent)) c.unwrap-next.ensures (rw c.deref.ensures at c.next_due.ensures) in
+    let at = at_moment (dues_of agent) c.args.moment c.next_due.result c.unwrap-next.result c.requires (rw c.deref.ensures at c.next_due.ensures) c.unwrap-next.ensures in
+    its_sample agent.groups.value c.unwrap-next.result first.0 c.if-next-eq-SAMPLES.true ∙ ap Some at
+
+pub returns-then-next-eq-SAMPLES-clause-handled : goal.returns-then-next-eq-SAMPLES-clause-handled
+returns-then-next-eq-SAMPLES-clause-handled c journal stands =
+    let agent = c.args.self.now in
+    let first = subst (IsFirst (dues_of agent)) c.unwrap-next.ensures (rw c.deref.ensures at c.next_due.ensures) in
+    let at = at_moment (dues_of agent) c.args.moment c.next_due.result c.unwrap-next.result c.requires (rw c.deref.ensures at c.next_due.ensures) c.unwrap-next.ensures in
+    let is = is_next agent.groups.value (counting_by agent.settings) journal stands.groups agent.last (Some c.unwrap-next.result) agent.later stands.last first in
+    record {
+      next = c.unwrap-next.result;
+      comes = is;
+      at = at;
+      ended = λ kind. absurd (omega (arith, kind, c.if-next-eq-SAMPLES.true));
+      sampled = λ kind.
+          c.sample.ensures.sampled journal stands (subst (λ (moment : ℕ). IsNextDue (due_of journal) (Some (moment, c.unwrap-next.result.number))) at (next_sample is.ended journal c.unwrap-next.result is.first kind));
+    }
+
+pub returns-else-next-eq-SAMPLES-clause-handled : goal.returns-else-next-eq-SAMPLES-clause-handled
+returns-else-next-eq-SAMPLES-clause-handled c journal stands =
+    let agent = c.args.self.now in
+    let first = subst (IsFirst (dues_of agent)) c.unwrap-next.ensures (rw c.deref.ensures at c.next_due.ensures) in
+    record {
+      next = c.unwrap-next.result;
+      comes = is_next agent.groups.value (counting_by agent.settings) journal stands.groups agent.last (Some c.unwrap-next.result) agent.later stands.last first;
+      at = at_moment (dues_of agent) c.args.moment c.next_due.result c.unwrap-next.result c.requires (rw c.deref.ensures at c.next_due.ensures) c.unwrap-next.ensures;
+      ended = λ kind. (c.end_reports.ensures.stands journal stands, refl);
+      sampled = λ kind. absurd (omega (arith, kind, c.if-next-eq-SAMPLES.false));
+    }
+
+pub returns-else-next-eq-SAMPLES-clause-fewer : goal.returns-else-next-eq-SAMPLES-clause-fewer
+returns-else-next-eq-SAMPLES-clause-fewer c latest within =
+    let agent = c.args.self.now in
+    let first = subst (IsFirst (dues_of agent)) c.unwrap-next.ensures (rw c.deref.ensures at c.next_due.ensures) in
+    let at = at_moment (dues_of agent) c.args.moment c.next_due.result c.unwrap-next.result c.requires (rw c.deref.ensures at c.next_due.ensures) c.unwrap-next.ensures in
+    let kind = its_end agent.groups.value c.unwrap-next.result first.0 (λ is. omega (arith, is, c.if-next-eq-SAMPLES.false)) in
+    c.end_reports.ensures.fewer c.unwrap-next.result latest first.0 (omega (arith, kind)) (omega (arith, at)) (omega (arith, at, within))

@@ -1,7 +1,5 @@
-use Rattle.std.proofs.Common.{arith, refl, sym}
+use Rattle.std.proofs.Common.{arith, refl}
 use Rattle.rm_pcap.specs.Progress.{frame_of}
-use Rattle.rm_acts.specs.Fired.{fired}
-use Rattle.rm_acts.proofs.ChannelLaws.{no_channel_fires}
 use Rattle.rm_agent.specs.Known.{counting_by}
 use Rattle.rm_agent.proofs.CountLemmas.{same_passing}
 use Rattle.rm_agent.proofs.OrderlyLemmas.{orderly_passes}
@@ -13,9 +11,8 @@ returns-clause-stands c journal stands none =
     let frame = frame_of c.args.frame.now in
     record {
       groups = c.pass.ensures.stands counting journal frame (record { known = c.facts.ensures; captured = refl; counted = refl; at = refl })
-          (rw c.deref_mut.ensures.value stands.groups) (omega (arith, stands.last, c.requires.later)) (sym (no_channel_fires counting frame journal (fired counting journal) stands.channels));
+          (rw c.deref_mut.ensures.value stands.groups) (omega (arith, stands.last, c.requires.later));
       last = omega arith;
       orderly = orderly_passes journal frame none stands.orderly;
-      channels = stands.channels;
       notifications = same_passing counting frame journal _ stands.notifications;
     }

@@ -1,4 +1,4 @@
-use Rattle.std.proofs.Common.{refl, arith}
+use Rattle.std.proofs.Common.{arith}
 use Rattle.rm_agent.proofs.OrderlyLemmas.{orderly_begins}
 use Rattle.rm_agent.proofs.agent.Agent.new.Goals as goal
 
@@ -7,6 +7,5 @@ returns-clause-stands c = record {
   groups = c.in_ok-all_groups.ensures.stands;
   last = omega arith;
   orderly = orderly_begins;
-  channels = refl;
   notifications = omega arith;
 }

@@ -10,7 +10,7 @@ returns-clause-begins c settings earlier frame of stands later askable =
     let rising = c.len.ensures.rows.0 in
     let is = stands.second.rows in
     let are = stands.second.present in
-    let found = c.judge-self.ensures settings earlier frame c.args.passing.now.number c.args.passing.now.moment stands.first is of in
+    let found = c.judge.ensures settings earlier frame c.args.passing.now.number c.args.passing.now.moment stands.first is of in
     let list = c.as_slice-accepting.result.now in
     let listed = c.as_slice-accepting.ensures.value ∙ found in
     record {

@@ -4,7 +4,7 @@ use Rattle.rm_probe.specs.Advance.{IsAdvanced}
 use Rattle.rm_probe.specs.Notes.{Note}
 use Rattle.rm_probe.specs.Probe.{settings_of}
 use Rattle.rm_probe.proofs.SayingLemmas.{notes_both, says_nothing}
-use Rattle.rm_probe.proofs.SampleLemmas.{advanced_none, next_more}
+use Rattle.rm_probe.proofs.SampleLemmas.{advanced_none, next_handled}
 use Rattle.rm_probe.proofs.probe.Probe.advance.Goals as goal
 
 pub loop-moment-init : goal.loop-moment-init
@@ -20,17 +20,16 @@ loop-moment-init g c = record {
 pub loop-moment-preserved : goal.loop-moment-preserved
 loop-moment-preserved g c =
     let i = c.loop-moment.invariant in
-    let (more, noted, taken) = c.sample.ensures.taken in
+    let (more, noted, handled) = c.handle.ensures.handled in
     record {
-      settings = c.sample.ensures.settings ∙ i.settings;
-      last = omega (arith, c.sample.ensures.last, i.last, c.in-Some.ensures.due);
-      frames = c.sample.ensures.frames ∙ i.frames;
+      settings = c.handle.ensures.settings ∙ i.settings;
+      last = omega (arith, c.handle.ensures.last, i.last, c.in-Some.ensures.due);
+      frames = c.handle.ensures.frames ∙ i.frames;
       more = i.more ++ more;
-      noted = notes_both g.N.Notes.since c.args.notes.now c.loop-moment.notes c.sample.new.notes i.more more i.noted noted;
+      noted = notes_both g.N.Notes.since c.args.notes.now c.loop-moment.notes c.handle.new.notes i.more more i.noted noted;
       goes = λ journal stands.
           let (reached, stood, goes) = i.goes journal stands in
-          let (alarm, due, told, stood') = taken reached stood in
-          next_more (settings_of c.args.self.now) (settings_of c.loop-moment.self) c.args.to journal reached (c.in-Some.moment, alarm) i.more more c.sample.new.self i.settings due c.in-Some.ensures.due told stood' goes;
+          next_handled (settings_of c.args.self.now) (settings_of c.loop-moment.self) c.args.to journal reached c.in-Some.moment i.more more c.handle.new.self i.settings c.in-Some.ensures.due (handled reached stood) goes;
     }
 
 pub returns-clause-advanced : goal.returns-clause-advanced

@@ -1,4 +1,4 @@
-use Rattle.rm_agent.specs.Agent.{samples_left_of}
+use Rattle.rm_agent.specs.Agent.{dues_left_of}
 use Rattle.rm_probe.proofs.SampleLemmas.{Sampling}
 use Rattle.rm_probe.proofs.probe.Probe.advance.Given as goal
 
@@ -6,4 +6,4 @@ abbrev pub invariant-loop-moment : goal.invariant-loop-moment
 invariant-loop-moment g l = Sampling g.N.Notes.since l.initial.notes l.notes l.to l.initial.self l.self
 
 abbrev pub decreases-loop-moment : goal.decreases-loop-moment
-decreases-loop-moment g l = samples_left_of l.self.agent l.to
+decreases-loop-moment g l = dues_left_of l.self.agent l.to

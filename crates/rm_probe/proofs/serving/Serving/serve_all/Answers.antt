@@ -1,12 +1,14 @@
 use Rattle.std.proofs.Common.{◌≡◌, ◌∙◌, ◌∷◌, ◌++◌, [], ◌+◌, arith, length-append, refl, rules, subst}
+use Rattle.rm_edge.proofs.Keeping.{quiet_then}
 use Rattle.rm_edge.specs.Uses.{clock_use, link_use, sink_use}
 use Rattle.rm_pcap.specs.View.{progress_of}
 use Rattle.rm_probe.specs.Probe.{settings_of}
 use Rattle.rm_probe.specs.Serving.{asking_of}
+use Rattle.rm_probe.specs.Steps.{IsLastLine}
 use Rattle.rm_probe.specs.Turns.{HasServed}
 use Rattle.rm_probe.proofs.FrameLemmas.{keeps_begun}
 use Rattle.rm_probe.proofs.OutputLemmas.{says_none}
-use Rattle.rm_probe.proofs.RunLemmas.{capture_finds}
+use Rattle.rm_probe.proofs.RunLemmas.{capture_finds, last_finds, says_faultless}
 use Rattle.rm_probe.proofs.ServingLemmas.{end_served, front_beside, put_beside, run_begins, run_more, served_last, stop_served, turn_finds, turn_stops}
 use Rattle.rm_probe.proofs.TurnLemmas.{on_done}
 use Rattle.rm_probe.proofs.serving.Serving.serve_all.Goals as goal
@@ -95,3 +97,22 @@ returns-clause-served g c =
           served_last (settings_of c.args.self.now.replaying.probe) bytes frames stop arrivals (progress_of c.loop-number.self.replaying.capture) c.loop-number.self.replaying.probe said last _ r (omega (arith, c.from-2.ensures, all, i.number_is)) faultless c.put_last.result
           (line bytes r.left stop (i.same c.args.name.now ∙ is) r.records_left),
     )
+
+pub returns-in-Err-clause-shelf : goal.returns-in-Err-clause-shelf
+returns-in-Err-clause-shelf g c =
+    let (arrivals, said, i, whole, manager, within) = c.loop-number.invariant in
+    quiet_then g.F.Shelf.held g.F.Shelf.faults c.args.shelf.now c.loop-number.shelf c.serve_one.new.shelf _ _ _ _ i.same i.quiet c.in-Err.ensures.shelf (λ each is. is) (λ failed. failed)
+
+pub returns-clause-finds : goal.returns-clause-finds
+returns-clause-finds g c =
+    let (arrivals, said, i, whole, manager, within) = c.loop-number.invariant in
+    let (last, more, line, silent) = c.put_last.ensures.says in
+    last_finds (g.F.Shelf.held c.args.shelf.now c.args.name.now) (progress_of c.args.self.now.replaying.capture) ⊥ c.put_last.result c.put_last.ensures.loud
+    (λ bytes frames stop is left none faultless.
+    let r = i.run bytes frames stop is left none in
+    says_faultless {T = Unit {0}} (IsLastLine (progress_of c.loop-number.self.replaying.capture).reach.count c.from-2.result r.left stop) (λ notes. notes ≡ []) stop last faultless c.put_last.result (line bytes r.left stop (i.same c.args.name.now ∙ is) r.records_left))
+
+pub returns-clause-shelf : goal.returns-clause-shelf
+returns-clause-shelf g c =
+    let (arrivals, said, i, whole, manager, within) = c.loop-number.invariant in
+    quiet_then g.F.Shelf.held g.F.Shelf.faults c.args.shelf.now c.loop-number.shelf c.put_last.new.shelf _ _ _ _ i.same i.quiet c.put_last.ensures.shelf (λ each is. is) (λ failed. failed)
