@@ -1,7 +1,6 @@
 pub mod CrossingLaws
 mod CrossingExamples
 mod AlarmExamples
-pub mod ChannelLaws
 pub mod ShownLaws
 pub mod RecurringLaws
 mod FilterExamples

@@ -1,12 +1,11 @@
 -- The control table of channels (RFC 1757, section 5), and the frames that a channel accepts.
-use Rattle.std.specs.Prelude.{◌≡◌, ℕ, pos, List, [], ◌∷◌, length, Bool, ◌&&◌, not, nat_eq, if◌then◌else◌, filter}
+use Rattle.std.specs.Prelude.{ℕ, pos, List, [], ◌∷◌, length, Bool, ◌&&◌, not, nat_eq, if◌then◌else◌, filter}
 use Rattle.std.specs.List.{list_any}
 use Rattle.rm_val.specs.Val.{int}
 use Rattle.rm_model.specs.Counting.{Counting}
 use Rattle.rm_model.specs.Journal.{Frame, Journal}
 use Rattle.rm_model.specs.ControlTable.{Column, ControlTable, number, up_from, plain_column, always_column, text_column, owner_column, entry_table}
 use Rattle.rm_model.specs.ControlRows.{no_rows}
-use Rattle.rm_model.specs.Indexes.{indexes_of}
 use Rattle.rm_model.specs.declared.interface.TheConstants.{INTERFACES}
 use Rattle.rm_acts.specs.Rows.{number_in, valid_rows}
 use Rattle.rm_acts.specs.Seen.{seen_since}
@@ -63,7 +62,3 @@ accepts settings journal channel frame =
 abbrev pub match_count : Counting → Journal → (channel : ℕ) → ℕ
 match_count settings journal channel =
     length (filter (λ seen. accepts settings seen.before channel seen.frame) (seen_since channel_table no_rows journal (channel ∷ [])))
-
--- there is no row of channelTable, nor was there one
-abbrev pub HasNoChannel : Journal → Type 0
-HasNoChannel journal = indexes_of channel_table [] journal ≡ []

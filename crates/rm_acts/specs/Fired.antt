@@ -1,7 +1,7 @@
 -- Which events fire, and what becomes of channels by it (RFC 1757, section 5). The firings of each act follow from the state
 -- before it, and that from the firings of the acts before. So they are one recursion, act by act, and all else is read off a
 -- journal and its firings.
-use Rattle.std.specs.Prelude.{ℕ, List, [], ◌∷◌, ◌++◌, map, filter, Bool, false, ◌&&◌, ◌||◌, nat_eq, if◌then◌else◌, Some, None}
+use Rattle.std.specs.Prelude.{ℕ, List, [], ◌∷◌, ◌++◌, map, filter, Bool, true, false, ◌&&◌, ◌||◌, nat_eq, if◌then◌else◌, Some, None}
 use Rattle.std.specs.Option.{option_map_or}
 use Rattle.rm_val.specs.Contents.{natural_in}
 use Rattle.rm_model.specs.Counting.{Counting}
@@ -13,6 +13,12 @@ use Rattle.rm_acts.specs.declared.firing.Firing.{Firing}
 use Rattle.rm_acts.specs.Rows.{row_state, has_valid, valid_rows}
 use Rattle.rm_acts.specs.Events.{event_table, event_asked}
 use Rattle.rm_acts.specs.Channels.{channel_entry, channel_table, turn_on_event, turn_off_event, event_of, accepts}
+
+-- whether an act is a Set, which fires no event
+abbrev pub is_set : Act → Bool
+is_set (assigns moment values) = true
+is_set (passes frame) = false
+is_set (samples moment alarm reading) = false
 
 -- the firings of each act of a journal, in the order in which they come, the newest act's first
 abbrev pub Fired : Type 0

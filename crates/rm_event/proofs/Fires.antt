@@ -24,7 +24,7 @@ use Rattle.rm_event.specs.EventTable.{event_table, event_state, event_set, type_
 use Rattle.rm_event.specs.declared.event_row.EventRow.{EventRow}
 use Rattle.rm_event.specs.EventRows.{set_to}
 use Rattle.rm_acts.specs.Fired.{firings, firings_with, moments_in}
-use Rattle.rm_event.specs.Firings.{is_set}
+use Rattle.rm_acts.specs.Fired.{is_set}
 use Rattle.rm_event.specs.Log.{IsLog, HasFired}
 use Rattle.rm_pool.specs.Slots.{part_in}
 use Rattle.rm_event.specs.Standing.{IsLogOf, AreLogs, fired_of, community_of}

@@ -5,7 +5,7 @@ use Rattle.rm_model.specs.Journal.{Act, Journal}
 use Rattle.rm_event.specs.declared.events.Events.{Events}
 use Rattle.rm_event.specs.EventTable.{event_state, type_of}
 use Rattle.rm_acts.specs.Fired.{act_fires, fired, firings}
-use Rattle.rm_event.specs.Firings.{is_set}
+use Rattle.rm_acts.specs.Fired.{is_set}
 use Rattle.rm_pool.specs.Slots.{part_in}
 use Rattle.rm_event.specs.Standing.{Stands, IsUnderWay, IsLogOf}
 use Rattle.rm_event.specs.Moments.{nothing_with, same_state, same_type, same_rows_after}

@@ -1,6 +1,5 @@
 -- What eventTable and logTable show of firings (RFC 1757, section 5). Moments are in milliseconds, ticks in hundredths of a second.
-use Rattle.std.specs.Prelude.{ℕ, ◌/◌, ◌-◌, List, [], ◌∷◌, length, drop, if◌then◌else◌, Bool, true, false}
-use Rattle.rm_model.specs.Journal.{Act, passes, assigns, samples}
+use Rattle.std.specs.Prelude.{ℕ, ◌/◌, ◌-◌, List, [], ◌∷◌, length, drop, if◌then◌else◌}
 use Rattle.rm_event.specs.declared.event_type.EventType.{EventType}
 use Rattle.rm_event.specs.EventType.{is_logged}
 
@@ -24,9 +23,3 @@ most_shown = 32
 -- 2147483647 of them. Their numbers rise from 1 on.
 abbrev pub logged : EventType → List ℕ → List ℕ
 logged kind moments = if is_logged kind then drop (length moments - most_entries) moments else []
-
--- whether an act is a Set
-abbrev pub is_set : Act → Bool
-is_set (assigns moment values) = true
-is_set (passes frame) = false
-is_set (samples moment alarm reading) = false

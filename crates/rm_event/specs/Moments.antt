@@ -12,7 +12,7 @@ use Rattle.rm_event.specs.EventTable.{event_table, event_state, event_set, type_
 use Rattle.rm_event.specs.declared.event_row.EventRow.{EventRow}
 use Rattle.rm_event.specs.EventRows.{set_to}
 use Rattle.rm_acts.specs.Fired.{act_fires, fired, moments_in, firings, firings_with}
-use Rattle.rm_event.specs.Firings.{is_set}
+use Rattle.rm_acts.specs.Fired.{is_set}
 
 -- one event more that fires
 pub moments_more : (moment event : ℕ) (some : List Firing) (index : Firing) → moments_in moment event (some ++ index ∷ []) ≡ cond (nat_eq index.event event) (moment ∷ moments_in moment event some) (moments_in moment event some)

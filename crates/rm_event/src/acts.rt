@@ -1,7 +1,7 @@
 // The acts that fire events.
 ghost use Rattle.std.specs.Prelude.{◌≡◌, false, refl};
 ghost use Rattle.rm_model.specs.Journal.{samples};
-ghost use Rattle.rm_event.specs.Firings.{is_set};
+ghost use Rattle.rm_acts.specs.Fired.{is_set};
 ghost use Rattle.rm_event.specs.Standing.{IsUnderWay};
 ghost use Rattle.rm_event.specs.Acts.{begun, ended};
 

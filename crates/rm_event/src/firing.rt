@@ -13,7 +13,7 @@ ghost use Rattle.rm_pool.specs.Slots.{part_in, has_part};
 ghost use Rattle.rm_event.specs.declared.log.Log.{Log as Kept};
 ghost use Rattle.rm_event.specs.Log.{HasFired};
 ghost use Rattle.rm_event.specs.EventTable.{event_state, type_of};
-ghost use Rattle.rm_event.specs.Firings.{is_set};
+ghost use Rattle.rm_acts.specs.Fired.{is_set};
 ghost use Rattle.rm_event.specs.Group.{IsStocked, IsReleased};
 ghost use Rattle.rm_event.specs.Standing.{HasRows, Stands, IsUnderWay, fired_of, community_of};
 

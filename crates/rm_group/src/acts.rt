@@ -121,53 +121,9 @@ impl<G: Unsampled, H: Unsampled + Beside<G>> Unsampled for Both<G, H> {
         } };
 }
 
-/// A frame passes, and these are its firings.
-pub fn pass_whole<G: Steps>(group: &mut G, passing: &Passing<'_>, firings: &[Firing])
-    requires later { G.clock group.old ≤ passing.now.moment }
-    requires room { G.frames group.old < MOST_FRAMES }
-    requires length { passing.now.facts.length ≤ MOST_OCTETS }
-    ensures stands { (settings : Counting) (earlier : Journal) (frame : Frame)
-        → IsOf settings frame passing.now.facts passing.now.octets.now passing.now.number passing.now.moment
-        → G.stands group.old settings earlier → last_moment earlier ≤ passing.now.moment → G.askable group.old passing.now.moment
-        → firings.now ≡ act_fires settings (passes frame) earlier (fired settings earlier)
-        → G.stands group.new settings (passes frame ∷ earlier) }
-    ensures clock { G.clock group.new ≤ passing.now.moment }
-    ensures frames { G.frames group.new ≤ G.frames group.old + 1 }
-    ensures stocked { G.stocked group.old → G.stocked group.new }
-{
-    group.pass(passing);
-    take_whole(group, firings, passing.moment);
-}
-
 /// A law: the sample of an alarm begins at a moment, in milliseconds. It does nothing.
 pub fn sample_begins<G: Unsampled>(group: &G, moment: u32)
     ensures { (settings : Counting) (earlier : Journal) (alarm : ℕ) (reading : Option ℤ)
         → G.stands group.now settings earlier → last_moment earlier ≤ moment → G.askable group.now moment
         → G.under_way group.now settings (samples moment alarm reading) earlier [] }
 {}
-
-/// An act has begun at a moment, in milliseconds, and these are its firings.
-pub fn take_whole<G: Steps>(group: &mut G, firings: &[Firing], moment: u32)
-    ensures stands { (settings : Counting) (act : Act) (earlier : Journal) → moment_of act ≡ moment
-        → G.under_way group.old settings act earlier [] → firings.now ≡ act_fires settings act earlier (fired settings earlier)
-        → G.stands group.new settings (act ∷ earlier) }
-    ensures clock { G.clock group.new ≡ G.clock group.old }
-    ensures frames { G.frames group.new ≡ G.frames group.old }
-    ensures stocked { G.stocked group.old → G.stocked group.new }
-{
-    take_all(group, firings, moment);
-}
-
-// Takes the firings of the act that is under way, one by one.
-fn take_all<G: Steps>(group: &mut G, firings: &[Firing], moment: u32)
-    ensures under_way { (settings : Counting) (act : Act) (earlier : Journal) (some : List Fires) → moment_of act ≡ moment
-        → G.under_way group.old settings act earlier some → G.under_way group.new settings act earlier (some ++ firings.now) }
-    ensures clock { G.clock group.new ≡ G.clock group.old }
-    ensures frames { G.frames group.new ≡ G.frames group.old }
-    ensures stocked { G.stocked group.old → G.stocked group.new }
-{
-    if let Some((first, rest)) = firings.split_first() {
-        group.take(first, moment);
-        take_all(group, rest, moment);
-    }
-}

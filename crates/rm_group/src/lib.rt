@@ -30,7 +30,7 @@ mod system;
 mod tests;
 mod wrong;
 
-pub use acts::{Steps, Unfired, Unsampled, pass_whole, sample_begins, take_whole};
+pub use acts::{Steps, Unfired, Unsampled, sample_begins};
 pub use assignments::Assignments;
 pub use assigns::Assigns;
 pub use beside::Beside;
