@@ -53,4 +53,5 @@ def main():
         out.write(octets)
 
 
-main()
+if __name__ == "__main__":
+    main()
