@@ -12,6 +12,7 @@ use Rattle.rm_capture.specs.declared.full_action.FullAction.{FullAction}
 use Rattle.rm_capture.specs.declared.full_action.FullAction.TheVariants.{Lock, Wrap}
 use Rattle.rm_capture.specs.Captured.{wraps, stored_of, cost_at, kept_in, HasKept}
 use Rattle.rm_capture.specs.Keeping.{ring_after, lost_after}
+use Rattle.rm_capture.specs.Numbers.{numbered_long}
 use Rattle.rm_capture.proofs.KeptLemmas.{wraps_more, wraps_lost, locked_same, locked_more}
 
 -- how many octets are stored
@@ -25,10 +26,6 @@ stored_is n size few = by_size (nat_eq size 0)
 -- the newest packet of some frames
 abbrev pub newest : Frame → List Frame → Packet
 newest frame earlier = record { number = length earlier + 1; frame = frame }
-
-numbered_long : (frames : List Frame) → length (numbered frames) ≡ length frames
-numbered_long [] = refl
-numbered_long (frame ∷ frames) = omega (arith, numbered_long frames)
 
 -- a packet as it is stored, by what the code has of it
 pub stored_as : (settings : Counting) (size slice : ℕ) (frame : Frame) (earlier : List Frame) (facts : Facts) (octets : List ℕ) (number moment accepted : ℕ) → IsOf settings frame facts octets number moment
@@ -138,3 +135,8 @@ pub same_places : (action : FullAction) (lost : Bool) (ring : Kept PacketInfo) (
 same_places Lock true ring packet = refl
 same_places Lock false ring packet = refl
 same_places Wrap lost ring packet = refl
+
+pub same_slice : (action : FullAction) (lost : Bool) (ring : Kept PacketInfo) (packet : Stored PacketInfo) → (ring_after action lost ring packet).slice ≡ ring.slice
+same_slice Lock true ring packet = refl
+same_slice Lock false ring packet = refl
+same_slice Wrap lost ring packet = refl

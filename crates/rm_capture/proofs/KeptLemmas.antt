@@ -1,21 +1,14 @@
 -- What a buffer keeps with one more packet.
 use Rattle.std.proofs.Common.{◌≡◌, ℕ, ◌+◌, ◌-◌, ◌<◌, ◌≤◌, List, [], ◌∷◌, ◌++◌, length, map, reverse, Bool, true, false, cond, not, ◌||◌, nat_lt, nat_le, refl, sym, ap, ◌∙◌, arith}
 use Rattle.std.proofs.lemmas.Bool.Decides.{nat_tests}
-use Rattle.std.proofs.lemmas.Grind.{reverse_onto}
-use Rattle.std.proofs.lemmas.List.{map-append, reverse-append, length-reverse, length-take}
+use Rattle.std.proofs.lemmas.List.{map-append, length-reverse, length-take}
 use Rattle.rm_model.specs.Counting.{Counting}
 use Rattle.rm_acts.specs.Buffers.{Packet, stored_size, longest_front}
 use Rattle.rm_ring.specs.Kept.{Stored, cost, longest_tail}
 use Rattle.rm_ring.specs.Kept.{cost_of as cost_of_stored, longest_front as longest_stored}
 use Rattle.rm_capture.specs.declared.captured.PacketInfo.{PacketInfo}
 use Rattle.rm_capture.specs.Captured.{stored_of, cost_at}
-
-reverse_more : (x : Packet) (xs : List Packet) → reverse (x ∷ xs) ≡ reverse xs ++ x ∷ []
-reverse_more x xs = reverse_onto xs x []
-
-reverse_twice : (xs : List Packet) → reverse (reverse xs) ≡ xs
-reverse_twice [] = refl
-reverse_twice (x ∷ xs) = ap reverse (reverse_more x xs) ∙ reverse-append (reverse xs) (x ∷ []) ∙ ap (λ ys. x ∷ ys) (reverse_twice xs)
+use Rattle.rm_capture.specs.Numbers.{reverse_more, reverse_twice}
 
 module _ (settings : Counting) (size : ℕ) where
   abbrev pub stored : Packet → Stored PacketInfo

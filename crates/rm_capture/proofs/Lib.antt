@@ -1,2 +1,4 @@
 pub mod AcceptLemmas
 pub mod KeptLemmas
+mod OneMore
+mod Showing

@@ -3,3 +3,16 @@ pub mod Captured
 pub mod Downloads
 pub mod FullAction
 pub mod Keeping
+pub mod Kept
+pub mod InRange
+pub mod Taking
+pub mod PacketTable
+pub mod BufferShown
+pub mod ShownLaws
+pub mod BufferColumns
+pub mod Numbers
+pub mod TakingLaws
+pub mod SameCells
+pub mod Finite
+pub mod Collection
+pub mod Lawful

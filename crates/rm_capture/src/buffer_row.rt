@@ -4,6 +4,7 @@ ghost use Rattle.rm_val.specs.Val.{int};
 ghost use Rattle.rm_val.specs.Contents.{natural_in};
 ghost use Rattle.rm_acts.specs.Buffers.{all_or, granted_for};
 ghost use Rattle.rm_capture.specs.Downloads.{downloaded};
+ghost use Rattle.rm_capture.specs.InRange.{channel_kept};
 
 use crate::full_action::FullAction;
 use arrayvec::ArrayVec;
@@ -71,6 +72,13 @@ pub struct BufferRow {
 }
 
 impl BufferRow {
+    /// bufferControlChannelIndex, 0 until that was set.
+    pub fn channel(&self) -> u32
+        ensures { result ≡ channel_kept self.now }
+    {
+        natural(self.channel.unwrap_or(0))
+    }
+
     /// How many octets of a packet are stored at most.
     pub fn slice(&self) -> u32
         ensures value { result ≡ all_or MOST_SLICE (natural_in (int self.now.slice_size)) }

@@ -6,6 +6,7 @@ ghost use Rattle.rm_group.specs.Passing.{IsOf};
 ghost use Rattle.rm_acts.specs.Buffers.{all_or};
 ghost use Rattle.rm_ring.specs.Kept.{stored};
 ghost use Rattle.rm_capture.specs.Keeping.{ring_after, lost_after};
+ghost use Rattle.rm_group.specs.declared.bounds.TheConstants.{MOST_FRAMES};
 
 use crate::buffer_row::{MOST_GRANTED, MOST_SLICE};
 use crate::full_action::FullAction;
@@ -46,6 +47,8 @@ pub struct Captured {
     /// Whether one of them isn't kept.
     pub lost: bool,
     ghost sliced: { slice ≡ ring.slice },
+    ghost fewer: { length ring.packets ≤ accepted },
+    ghost few: { accepted ≤ MOST_FRAMES },
 }
 
 impl PacketInfo {
@@ -60,12 +63,14 @@ impl PacketInfo {
 
 impl Captured {
     ghost use Rattle.rm_capture.specs.Captured.{HasKept, wraps};
+    ghost use Rattle.rm_capture.specs.Kept.{oldest_in, packet_with};
 
     /// No packets, with storage for as many as any buffer may keep. AllocError where there is no memory.
     pub fn new(alloc: Global) -> Result<Captured, AllocError>
         ensures storage { IfOk result (λ captured. captured.ring.storage ≡ MOST_GRANTED + MOST_SLICE) }
         ensures places { IfOk result (λ captured. captured.ring.places ≡ MOST_GRANTED / 32) }
         ensures packets { IfOk result (λ captured. captured.ring.packets ≡ []) }
+        ensures accepted { IfOk result (λ captured. captured.accepted ≡ 0) }
     {
         let ring = Ring::new(alloc, MOST_GRANTED as usize, MOST_SLICE as usize)?;
         Ok(Captured {
@@ -115,6 +120,36 @@ impl Captured {
         };
         let stored = &passing.octets[..passing.octets.len().min(self.slice)];
         self.lost = keep(&mut self.ring, self.action, self.lost, info, stored);
+    }
+
+    /// How many packets are kept.
+    pub fn len(&self) -> usize
+        ensures { result ≡ length self.now.ring.packets }
+    {
+        self.ring.len()
+    }
+
+    /// The number of the oldest packet that is kept, or of the next one where none is. The numbers of those that are kept follow one another.
+    pub fn oldest(&self) -> u32
+        ensures value { result ≡ oldest_in self.now }
+        ensures some { 1 ≤ result }
+        ensures few { result ≤ MOST_FRAMES + 1 }
+    {
+        match self.action {
+            FullAction::Lock => 1,
+            FullAction::Wrap => self.accepted - self.ring.len() as u32 + 1,
+        }
+    }
+
+    /// The packet with a number. None where it isn't kept.
+    pub fn numbered(&self, number: u32) -> Option<Packet<'_, PacketInfo>>
+        ensures { option_map (λ packet. stored packet.info packet.octets.now) result ≡ packet_with self.now number }
+    {
+        let oldest = self.oldest();
+        if number < oldest {
+            return None;
+        }
+        self.packet((number - oldest) as usize)
     }
 
     /// The packet at a place, from 0 for the oldest that is kept; None behind the last.

@@ -1,4 +1,6 @@
 // What buffers keep of packets, worked out by hand.
+mod sets;
+
 ghost use Rattle.std.specs.Prelude.{◌≤◌, length};
 
 use crate::{BufferRow, Captured, FullAction, PacketInfo};
