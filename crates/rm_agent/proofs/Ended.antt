@@ -5,7 +5,7 @@ use Rattle.std.specs.Prelude.{◌∷◌}
 use Rattle.rm_acts.specs.Fired.{act_fires, fired}
 use Rattle.rm_event.specs.Acts.{ended as events_ended}
 use Rattle.rm_filter.specs.Acts.{ended as filters_ended}
-use Rattle.rm_agent.specs.Members.{Groups, events_of, filters_of}
+use Rattle.rm_agent.specs.Members.{Groups, events_of, channels_of}
 use Rattle.rm_agent.specs.Groups.{GroupsStand, AreUnderWay}
 
 pub ended : (groups : Groups) (settings : Counting) (act : Act) (earlier : Journal) → AreUnderWay groups settings act earlier (act_fires settings act earlier (fired settings earlier)) → GroupsStand groups settings (act ∷ earlier)
@@ -16,7 +16,11 @@ ended groups settings act earlier under = record {
     second = record {
       first = record {
         first = under.2.first.first;
-        second = filters_ended (filters_of groups) settings act earlier under.2.first.second;
+        second = record {
+          first = filters_ended (channels_of groups).groups.first settings act earlier under.2.first.second.channels;
+          second = under.2.first.second.buffers;
+          tied = tt;
+        };
         tied = tt;
       };
       second = under.2.second;

@@ -15,7 +15,7 @@ use Rattle.rm_alarm.specs.Watched.{ReadsFrom}
 use Rattle.rm_acts.specs.Fired.{is_set}
 use Rattle.rm_collectors.specs.Group.{FallsDue as ReportsFallDue}
 use Rattle.rm_event.specs.Standing.{IsUnderWay as EventsUnderWay}
-use Rattle.rm_filter.specs.Standing.{IsUnderWay as FiltersUnderWay}
+use Rattle.rm_channels.specs.Group.{IsUnderWay as ChannelsUnderWay}
 use Rattle.rm_settings.specs.declared.settings.Settings.{Settings}
 use Rattle.rm_agent.specs.Members.{Groups, Sources, Watched, alarms_of, collectors_of, events_of, watched_of, ether, collectors, both, unfired, sampled_cells, all_groups}
 use Rattle.rm_agent.specs.Known.{counting_by}
@@ -37,7 +37,7 @@ abbrev pub together : Settings → Journal → ℕ → Bindings → ℕ → Opti
 together settings = all_groups.together (counting_by settings)
 
 -- After a journal there may be no memory for the row that the binding with that number, from 1, makes valid: it is one of
--- eventTable, of historyControl, of hostControl, of hostTopNControl or of matrixControl, and not the only valid one of its table.
+-- eventTable, of historyControl, of hostControl, of hostTopNControl, of matrixControl or of bufferControlTable, and not the only valid one of its table.
 abbrev pub Reserves : Journal → Bindings → ℕ → Type 0
 Reserves = all_groups.reserves
 
@@ -49,7 +49,7 @@ GroupsStand = all_groups.stands
 -- frames bring stand for the journal with the act in front already: no firing makes a difference to them.
 abbrev pub AreSourcesUnderWay : Sources → Counting → Act → Journal → List Firing → Type 0
 AreSourcesUnderWay keeps settings act earlier some =
-    StandAsOne ((both ether collectors).stands keeps.first settings (act ∷ earlier)) (FiltersUnderWay keeps.second settings act earlier some) (Unit {0})
+    StandAsOne ((both ether collectors).stands keeps.first settings (act ∷ earlier)) (ChannelsUnderWay keeps.second settings act earlier some) (Unit {0})
 
 -- so are the alarms beside them, to which no firing makes a difference either
 abbrev pub AreWatchedUnderWay : Watched → Counting → Act → Journal → List Firing → Type 0

@@ -1,5 +1,5 @@
 -- The groups of objects that the agent answers for: the system group, the directory of protocols, the events, etherStats, the history, the
--- hosts with their reports, the matrix, the filters and channels, and the alarms that sample variables of these from etherStats on. What
+-- hosts with their reports, the matrix, the filters, channels and buffers, and the alarms that sample variables of these from etherStats on. What
 -- holds of a group is a record; two groups are one, and their record is made of both.
 use Rattle.std.specs.Prelude.{◌||◌, ◌⊎◌, ℕ, ◌+◌, List, Bool, max, Option, None}
 use Rattle.std.specs.Option.{option_or}
@@ -24,10 +24,8 @@ use Rattle.rm_ether.specs.Group.{Stands as EtherStands, frames_given as ether_fr
 use Rattle.rm_ether.specs.declared.ether.Ether.{Ether}
 use Rattle.rm_collectors.specs.Group.{left_of as reports_left, Stands as CollectorsStand, IsAskable as AreCollectorsAskable, IsStocked as AreCollectorsStocked, frames_given as collectors_frames, last_given as collectors_last, collected_cells, collected_objects, collected_alone, collected_together, CollectedReserves}
 use Rattle.rm_collectors.specs.declared.collectors.Collectors.{Collectors}
-use Rattle.rm_acts.specs.Shown.{channels_shown}
-use Rattle.rm_filter.specs.Group.{filter_cells, filters_alone, filters_together, group_tables as filter_tables}
-use Rattle.rm_filter.specs.Standing.{Stands as FiltersStand}
-use Rattle.rm_filter.specs.declared.filters.Filters.{Filters}
+use Rattle.rm_channels.specs.Group.{Stands as ChannelsStand, IsStocked as AreChannelsStocked, frames_given as channels_frames, last_given as channels_last, channel_cells, channel_sampleable, channel_objects, channel_alone, channel_together, ChannelReserves}
+use Rattle.rm_channels.specs.declared.channels.Channels.{Channels}
 use Rattle.rm_dir.specs.Group.{Stands as DirectoryStands}
 use Rattle.rm_dir.specs.Judging.{directory_alone, directory_together}
 use Rattle.rm_dir.specs.Tables.{directory_cells, directory_tables}
@@ -48,7 +46,7 @@ abbrev pub Unfired : Type 0
 Unfired = Both System Directory
 
 abbrev pub Sources : Type 0
-Sources = Both (Both Ether Collectors) Filters
+Sources = Both (Both Ether Collectors) Channels
 
 abbrev pub Watched : Type 0
 Watched = Both Sources Alarms
@@ -66,8 +64,8 @@ watched_of groups = groups.second.second
 abbrev pub collectors_of : Groups → Collectors
 collectors_of groups = (watched_of groups).first.first.second
 
-abbrev pub filters_of : Groups → Filters
-filters_of groups = (watched_of groups).first.second
+abbrev pub channels_of : Groups → Channels
+channels_of groups = (watched_of groups).first.second
 
 abbrev pub alarms_of : Groups → Alarms
 alarms_of groups = (watched_of groups).second
@@ -197,20 +195,21 @@ collectors = record {
   reserves = CollectedReserves;
 }
 
-abbrev pub filters : OfObjects Filters
-filters = record {
-  stands = FiltersStand;
+-- the filters, the channels and the capture buffers
+abbrev pub channels : OfObjects Channels
+channels = record {
+  stands = ChannelsStand;
   tied = λ settings. Unit {0};
-  clock = λ keeps. 0;
-  askable = λ keeps moment. Unit {0};
-  frames = λ keeps. 0;
-  stocked = λ keeps. Unit {0};
+  clock = channels_last;
+  askable = λ keeps moment. Unit {0} × Unit {0};
+  frames = channels_frames;
+  stocked = AreChannelsStocked;
   left = λ keeps latest. 0;
-  cells = λ settings journal now. filter_cells settings journal;
-  objects = is_listed filter_tables;
-  alone = filters_alone;
-  together = λ settings journal now. filters_together journal;
-  reserves = λ journal bindings index. ⊥;
+  cells = channel_cells;
+  objects = channel_objects;
+  alone = channel_alone;
+  together = λ settings journal now. channel_together journal;
+  reserves = ChannelReserves;
 }
 
 -- Alarms that sample variables among these cells. An alarm that becomes valid is judged by what its variable reads then.
@@ -236,12 +235,13 @@ unfired = both system directory
 
 -- those with variables that alarms may sample
 abbrev pub sources : OfObjects Sources
-sources = both (both ether collectors) filters
+sources = both (both ether collectors) channels
 
--- the variables that alarms may sample: those of etherStats and of the tables that collect, and of filters and channels those of channelTable
+-- the variables that alarms may sample: those of etherStats and of the tables that collect, and of filters, channels and buffers those of
+-- channelTable and bufferControlTable
 abbrev pub sampled_cells : Sampleable
 sampled_cells settings journal now name =
-    option_or ((both ether collectors).cells settings journal now name) (cells_of (channels_shown settings journal) name)
+    option_or ((both ether collectors).cells settings journal now name) (channel_sampleable settings journal now name)
 
 -- these, and the alarms beside them
 abbrev pub watched : OfObjects Watched

@@ -5,6 +5,6 @@ use Rattle.rm_model.specs.Journal.{Journal}
 use Rattle.rm_model.specs.Cells.{Cells}
 use Rattle.rm_agent.specs.Members.{sampled_cells}
 
--- those of etherStats, of the history, of the hosts, of their reports, of the matrix and of channelTable
+-- those of etherStats, of the history, of the hosts, of their reports, of the matrix, of channelTable and of bufferControlTable
 abbrev pub watched_cells : Counting → Journal → ℕ → Cells
 watched_cells = sampled_cells

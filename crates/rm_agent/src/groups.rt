@@ -1,5 +1,5 @@
 // The groups of objects that the agent answers for. Only here is it said how they stand in one another.
-ghost use Rattle.std.specs.Prelude.{◌≡◌, ℕ, ◌+◌, ◌≤◌, ◌<◌, max, List, [], ◌∷◌, ◌++◌, Some, IfOk, OnOk};
+ghost use Rattle.std.specs.Prelude.{◌≡◌, ℕ, ◌+◌, ◌≤◌, ◌<◌, max, List, [], ◌∷◌, ◌++◌, length, Some, IfOk, OnOk};
 ghost use Rattle.rm_model.specs.Counting.{Counting};
 ghost use Rattle.rm_model.specs.Journal.{Act, Frame, Journal, passes, samples, moment_of, last_moment};
 ghost use Rattle.rm_group.specs.Due.{IsFirst};
@@ -11,18 +11,19 @@ ghost use Rattle.rm_acts.specs.Alarms.{sampled};
 ghost use Rattle.rm_acts.specs.declared.firing.Firing.{Firing as Fires};
 ghost use Rattle.rm_alarm.specs.Group.{due_in};
 ghost use Rattle.rm_alarm.specs.Watched.{number_read};
-ghost use Rattle.rm_agent.specs.Members.{alarms_of, collectors_of, events_of, filters_of, sources, watched, unfired};
+ghost use Rattle.rm_agent.specs.Members.{alarms_of, collectors_of, events_of, channels_of, sources, watched, unfired};
+ghost use Rattle.rm_capture.specs.declared.buffer_row.TheConstants.{MOST_SLICE};
 ghost use Rattle.rm_agent.specs.Known.{counting_by};
 ghost use Rattle.rm_agent.specs.Groups.{GroupsStand, AreAskable, AreUnderWay, AreStocked, FallDue, clock_of, frames_of, left_of};
 
 use crate::firing::fire_accepting;
 use rm_acts::Firing;
 use rm_alarm::{Alarms, Sampled, Watched, reads_cells, take_sample};
+use rm_channels::Channels;
 use rm_collectors::Collectors;
 use rm_dir::Directory;
 use rm_ether::Ether;
 use rm_event::Events;
-use rm_filter::Filters;
 use rm_group::{Both, Due, FallsDue, Passing, Steps, System, sample_begins};
 use rm_settings::Settings;
 use rm_val::NoMemory;
@@ -35,7 +36,7 @@ pub(crate) type Groups = Both<Unfired, Both<Events, Watched<Sources>>>;
 type Unfired = Both<System, Directory>;
 
 /// The groups with variables that alarms may sample.
-type Sources = Both<Both<Ether, Collectors>, Filters>;
+type Sources = Both<Both<Ether, Collectors>, Channels>;
 
 /// The groups of a probe that is set so, before the first act, which stand in memory of their own. They take the storage of one row of
 /// each table whose rows take storage while they are valid. NoMemory where there is none.
@@ -105,7 +106,7 @@ fn first_sources(settings: &Settings) -> Sources
             first: Ether::new(),
             second: Collectors::new(settings),
         },
-        second: Filters::new(),
+        second: Channels::new(),
     }
 }
 
@@ -117,7 +118,8 @@ fn reserve(alloc: Global, groups: &mut Groups) -> Result<(), NoMemory>
     ensures stocked { OnOk result (AreStocked groups.new) }
 {
     groups.second.first.reserve(alloc)?;
-    groups.second.second.first.first.second.reserve(alloc)
+    groups.second.second.first.first.second.reserve(alloc)?;
+    groups.second.second.first.second.reserve(alloc)
 }
 
 /// The events.
@@ -127,9 +129,9 @@ pub(crate) fn events(groups: &Groups) -> &Events
     &groups.second.first
 }
 
-/// The filters and channels.
-pub(crate) fn filters(groups: &Groups) -> &Filters
-    ensures { result.now ≡ filters_of groups.now }
+/// The filters, channels and buffers.
+pub(crate) fn channels(groups: &Groups) -> &Channels
+    ensures { result.now ≡ channels_of groups.now }
 {
     &groups.second.second.first.second
 }
@@ -164,12 +166,13 @@ pub(crate) fn end_by(groups: &mut Groups, moment: u32)
     groups.second.second.first.first.second.end_by(moment);
 }
 
-/// A frame passes, once the reports of hosts have ended that are due by its moment. All channels judge it before the events fire of those
-/// that accept it.
+/// A frame passes, once the reports of hosts have ended that are due by its moment. All channels judge it, and buffers keep it, before the
+/// events fire of the channels that accept it.
 pub(crate) fn pass(groups: &mut Groups, passing: &Passing<'_>)
     requires later { clock_of groups.old ≤ passing.now.moment }
     requires room { frames_of groups.old < MOST_FRAMES }
     requires length { passing.now.facts.length ≤ MOST_OCTETS }
+    requires captured { length passing.now.octets.now ≤ MOST_SLICE }
     ensures stands { (settings : Counting) (earlier : Journal) (frame : Frame)
         → IsOf settings frame passing.now.facts passing.now.octets.now passing.now.number passing.now.moment
         → GroupsStand groups.old settings earlier → last_moment earlier ≤ passing.now.moment → GroupsStand groups.new settings (passes frame ∷ earlier) }
@@ -178,7 +181,11 @@ pub(crate) fn pass(groups: &mut Groups, passing: &Passing<'_>)
     ensures stocked { AreStocked groups.old → AreStocked groups.new }
 {
     end_by(groups, passing.moment);
-    groups.pass(passing);
+    groups.first.pass(passing);
+    groups.second.first.pass(passing);
+    groups.second.second.first.first.pass(passing);
+    groups.second.second.first.second.pass(passing);
+    groups.second.second.second.pass(passing);
     fire_accepting(groups, passing.moment);
 }
 
@@ -199,6 +206,8 @@ pub(crate) fn sample(groups: &mut Groups, index: u32, moment: u32) -> Sampled
 {
     sample_begins(&groups.first, moment);
     sample_begins(&groups.second.first, moment);
+    sample_begins(&groups.second.second.first.first, moment);
+    groups.second.second.first.second.sample_begins(moment);
     take_sample(&mut groups.second.second, index, moment)
 }
 

@@ -1,4 +1,6 @@
-use Rattle.std.proofs.Common.{ap, arith}
+use Rattle.std.proofs.Common.{[], ap, sym, subst, arith}
+use Rattle.rm_model.specs.Journal.{Act, samples}
+use Rattle.rm_agent.specs.Groups.{AreSourcesUnderWay}
 use Rattle.rm_alarm.specs.Watched.{number_read}
 use Rattle.rm_collectors.specs.Group.{left_of}
 use Rattle.rm_agent.specs.Members.{Sources}
@@ -8,10 +10,22 @@ use Rattle.rm_agent.proofs.groups.sample.Goals as goal
 pub returns-clause-under_way : goal.returns-clause-under_way
 returns-clause-under_way c settings journal stands later asked =
     let index = c.args.index in
-    let moment = c.args.moment in (
-      c.sample_begins.ensures settings journal index (number_read settings journal moment index) stands.first later asked.0,
-      c.sample_begins-2.ensures settings journal index (number_read settings journal moment index) stands.second.first later asked.1.0,
-      c.take_sample.ensures.under_way settings journal stands.second.second later (sources_askable c.args.groups.now c.args.moment asked),
+    let moment = c.args.moment in
+    let reading = number_read settings journal moment index in
+    let act : Act = samples moment index reading in
+    let watched = stands.second.second in
+    let begun : AreSourcesUnderWay c.args.groups.now.second.second.first settings act journal [] = record {
+      first = c.sample_begins-3.ensures settings journal index reading watched.first.first later asked.1.1.0.0;
+      second = c.sample_begins-4.ensures settings journal index reading watched.first.second later;
+      tied = tt;
+    } in (
+      c.sample_begins.ensures settings journal index reading stands.first later asked.0,
+      c.sample_begins-2.ensures settings journal index reading stands.second.first later asked.1.0,
+      record {
+        first = subst (λ (sources : Sources). AreSourcesUnderWay sources settings act journal []) (sym c.take_sample.ensures.watched) begun;
+        second = c.take_sample.ensures.stands settings journal watched later (sources_askable c.args.groups.now c.args.moment asked);
+        tied = watched.tied;
+      },
     )
 
 pub returns-clause-result : goal.returns-clause-result

@@ -7,18 +7,14 @@ use Rattle.rm_alarm.specs.Standing.{Stands, AreBased}
 use Rattle.rm_alarm.proofs.Watching.{reads}
 use Rattle.rm_alarm.proofs.watched.take_sample.Goals as goal
 
-pub returns-clause-under_way : goal.returns-clause-under_way
-returns-clause-under_way g c settings journal is later askable =
+pub returns-clause-stands : goal.returns-clause-stands
+returns-clause-stands g c settings journal is later askable =
     let read = ap (option_map (λ reading. reading.value)) (reads g.G.Readable.sampleable (g.G.Readable.shown c.args.group.now.first c.args.moment) settings journal c.args.moment (c.shows.ensures settings journal is.first later askable) is.tied (variable_of journal c.args.index)) in
     record {
-      first = g.met.G.Unsampled.begins c.args.group.now.first settings journal c.args.moment c.args.index _ is.first later askable;
-      second = record {
-        stand = subst (λ (number : Option ℤ). Stands c.sample.new.self settings (samples c.args.moment c.args.index number ∷ journal)) read
-            (c.sample.ensures.stands settings journal is.second.stand is.second.based);
-        based = subst (λ (number : Option ℤ). AreBased c.sample.new.self settings (samples c.args.moment c.args.index number ∷ journal)) read
-            (c.sample.ensures.based settings journal is.second.stand is.second.based);
-      };
-      tied = is.tied;
+      stand = subst (λ (number : Option ℤ). Stands c.sample.new.self settings (samples c.args.moment c.args.index number ∷ journal)) read
+          (c.sample.ensures.stands settings journal is.second.stand is.second.based);
+      based = subst (λ (number : Option ℤ). AreBased c.sample.new.self settings (samples c.args.moment c.args.index number ∷ journal)) read
+          (c.sample.ensures.based settings journal is.second.stand is.second.based);
     }
 
 pub returns-clause-result : goal.returns-clause-result
