@@ -1,0 +1,11 @@
+pub mod Spans
+pub mod Values
+pub mod Made
+pub mod EventSteps
+pub mod Cells
+pub mod Deletes
+pub mod MarkLemmas
+pub mod TurningLemmas
+pub mod Ticks
+pub mod CapacityLemmas
+pub mod Examples
