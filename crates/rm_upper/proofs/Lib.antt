@@ -1,0 +1,10 @@
+pub mod KeptLemmas
+pub mod CreditLemmas
+pub mod SeenLemmas
+pub mod StandingLemmas
+pub mod WalkLemmas
+pub mod RowWalk
+pub mod Lasts
+pub mod NetworkWalk
+pub mod BeforeLemmas
+pub mod CountLemmas

@@ -1,0 +1,166 @@
+-- The walk over the rows of keys.
+use Rattle.std.proofs.Common.{◌≡◌, ℕ, ◌<◌, ◌≤◌, ◌+◌, zero, suc, Bool, true, false, cond, List, [], ◌∷◌, length, Contains, Option, Some, None, refl, sym, ap, ◌∙◌, arith, subst, inl, inr}
+use Rattle.std.specs.Prelude.{⊤}
+use Rattle.std.specs.List.{count_by}
+use Rattle.std.specs.Option.{option_map}
+use Rattle.std.specs.declared.cmp.Ordering.{Ordering}
+use Rattle.std.specs.declared.cmp.Ordering.TheVariants.{Less, Equal, Greater}
+use Rattle.std.specs.Ordering.{nat_cmp, is_lt, ordering_reverse}
+use Rattle.std.specs.Cmp.{IsTotalOrder}
+use Rattle.std.proofs.lemmas.Bool.{cases_Bool, true≢false}
+use Rattle.std.proofs.lemmas.List.Elements.{All-contains}
+use Rattle.std.proofs.lemmas.List.Sums.{sum_by-cons}
+use Rattle.rm_evicting.specs.Held.{IsExact}
+use Rattle.rm_evicting.specs.declared.Row.{Row}
+use Rattle.rm_rows.specs.Table.{row_of, keys_of, value_of, IsNextKey}
+use Rattle.rm_layers.specs.Marks.{IsLeast, StandsAt, IsAboveName, IsAboveApplication, pair_cmp}
+use Rattle.rm_layers.proofs.MarkLemmas.{in_row, at_next, at_end, at_first_row, at_no_row}
+use Rattle.rm_upper.specs.declared.host_row.HostRow.{HostRow}
+use Rattle.rm_upper.specs.Standing.{Layered}
+use Rattle.rm_upper.specs.Walk.{IsShown, IsMarked, ShowsApplication}
+use Rattle.rm_upper.proofs.WalkLemmas.{least-shown}
+
+module _ {K : Type 0} (cmp : K → K → Ordering) where
+  pub next_is_least : (ks : List K) (from res : Option K) → IsNextKey cmp ks from res → IsLeast cmp (Contains ks) (IsAboveName cmp from) res
+  next_is_least ks None None next = λ x c a. All-contains (λ k. ⊤ → ⊥) ks x next c tt
+  next_is_least ks (Some j) None next = λ x c a. All-contains (λ k. cmp j k ≡ Less → ⊥) ks x next c a
+  next_is_least ks None (Some k) next = (next.0, tt, λ y c a l. All-contains (λ j. ⊤ → cmp j k ≡ Less → ⊥) ks y next.2 c tt l)
+  next_is_least ks (Some j) (Some k) next = (next.0, next.1, λ y c a l. All-contains (λ i. cmp j i ≡ Less → cmp i k ≡ Less → ⊥) ks y next.2 c a l)
+
+  less_lt : (j k : K) → cmp j k ≡ Less → is_lt (cmp j k) ≡ true
+  less_lt j k e = ap is_lt e
+
+  module _ (order : IsTotalOrder cmp) where
+    not_itself : (k : K) → is_lt (cmp k k) ≡ false
+    not_itself k = go (cmp k k) (order.antisymm k k)
+      where
+        go : (o : Ordering) → o ≡ ordering_reverse o → is_lt o ≡ false
+        go Less e = cc
+        go Equal e = refl
+        go Greater e = refl
+
+    lt_less : (o : Ordering) → is_lt o ≡ true → o ≡ Less
+    lt_less Less e = refl
+    lt_less Equal e = absurd (true≢false (sym e))
+    lt_less Greater e = absurd (true≢false (sym e))
+
+    over : (j k x : K) → cmp j k ≡ Less → is_lt (cmp k x) ≡ true → is_lt (cmp j x) ≡ true
+    over j k x e i = less_lt j x (order.trans j k x e (lt_less (cmp k x) i))
+
+    abbrev left : K → List K → ℕ
+    left k ks = count_by (λ x. is_lt (cmp k x)) ks
+
+    left-cons : (k x : K) (ks : List K) → left k (x ∷ ks) ≡ cond (is_lt (cmp k x)) 1 0 + left k ks
+    left-cons k x ks = sum_by-cons (λ y. cond (is_lt (cmp k y)) 1 0) x ks
+
+    no_more : (j k : K) → cmp j k ≡ Less → (ks : List K) → left k ks ≤ left j ks
+    no_more j k e [] = omega arith
+    no_more j k e (x ∷ ks) =
+        let rest : left k ks ≤ left j ks = no_more j k e ks in
+        let a : left k (x ∷ ks) ≡ cond (is_lt (cmp k x)) 1 0 + left k ks = left-cons k x ks in
+        let b : left j (x ∷ ks) ≡ cond (is_lt (cmp j x)) 1 0 + left j ks = left-cons j x ks in
+        elim (cases_Bool (is_lt (cmp k x))) [
+          | inl i ↦
+              let a1 : left k (x ∷ ks) ≡ 1 + left k ks = a ∙ ap (λ t. cond t 1 0 + left k ks) i in
+              let b1 : left j (x ∷ ks) ≡ 1 + left j ks = b ∙ ap (λ t. cond t 1 0 + left j ks) (over j k x e i) in
+              omega arith
+          | inr o ↦
+              let a0 : left k (x ∷ ks) ≡ 0 + left k ks = a ∙ ap (λ t. cond t 1 0 + left k ks) o in
+              any (is_lt (cmp j x)) a0 b rest
+        ]
+      where
+        any : (t : Bool) → left k (x ∷ ks) ≡ 0 + left k ks → left j (x ∷ ks) ≡ cond t 1 0 + left j ks → left k ks ≤ left j ks → left k (x ∷ ks) ≤ left j (x ∷ ks)
+        any true a0 b rest = omega arith
+        any false a0 b rest = omega arith
+
+    -- fewer keys are left above the next one
+    pub fewer_left : (j k : K) → cmp j k ≡ Less → (ks : List K) → Contains ks k → left k ks < left j ks
+    fewer_left j k e [] c = absurd (omega (arith, c.1))
+    fewer_left j k e (x ∷ ks) (zero, lt, at) =
+        let same : x ≡ k = at in
+        let rest : left k ks ≤ left j ks = no_more j k e ks in
+        let off : is_lt (cmp k x) ≡ false = ap (λ y. is_lt (cmp k y)) same ∙ not_itself k in
+        let on : is_lt (cmp j x) ≡ true = ap (λ y. is_lt (cmp j y)) same ∙ less_lt j k e in
+        let a : left k (x ∷ ks) ≡ 0 + left k ks = left-cons k x ks ∙ ap (λ t. cond t 1 0 + left k ks) off in
+        let b : left j (x ∷ ks) ≡ 1 + left j ks = left-cons j x ks ∙ ap (λ t. cond t 1 0 + left j ks) on in
+        omega arith
+    fewer_left j k e (x ∷ ks) (suc i, lt, at) =
+        let rest : left k ks < left j ks = fewer_left j k e ks (i, omega arith, at) in
+        let a : left k (x ∷ ks) ≡ cond (is_lt (cmp k x)) 1 0 + left k ks = left-cons k x ks in
+        let b : left j (x ∷ ks) ≡ cond (is_lt (cmp j x)) 1 0 + left j ks = left-cons j x ks in
+        elim (cases_Bool (is_lt (cmp k x))) [
+          | inl y ↦
+              let a1 : left k (x ∷ ks) ≡ 1 + left k ks = a ∙ ap (λ t. cond t 1 0 + left k ks) y in
+              let b1 : left j (x ∷ ks) ≡ 1 + left j ks = b ∙ ap (λ t. cond t 1 0 + left j ks) (over j k x e y) in
+              omega arith
+          | inr o ↦
+              let a0 : left k (x ∷ ks) ≡ 0 + left k ks = a ∙ ap (λ t. cond t 1 0 + left k ks) o in
+              any (is_lt (cmp j x)) a0 b rest
+        ]
+      where
+        any : (t : Bool) → left k (x ∷ ks) ≡ 0 + left k ks → left j (x ∷ ks) ≡ cond t 1 0 + left j ks → left k ks < left j ks → left k (x ∷ ks) < left j (x ∷ ks)
+        any true a0 b rest = omega arith
+        any false a0 b rest = omega arith
+
+module _ {K : Type 0} (eq : K → K → Bool) (layered : Layered K) (mark : ℕ) where
+  row_there : (v : HostRow) (o : Option (Row K HostRow)) → option_map value_of o ≡ Some v → (row : Row K HostRow) × (o ≡ Some row) × (row.value ≡ v)
+  row_there v None e = cc
+  row_there v (Some row) e = (row, refl, cc)
+
+  -- what a row's slots have is what is shown of its key
+  pub in_is : (k : K) (v : HostRow) → option_map value_of (row_of eq k layered.table.rows) ≡ Some v → (from res : Option ℕ) → IsLeast nat_cmp (IsMarked mark layered.slots v.applications) (IsAboveName nat_cmp from) res → IsLeast nat_cmp (λ p. StandsAt (ShowsApplication eq layered) mark (k, p)) (IsAboveName nat_cmp from) res
+  in_is k v e from res l =
+      let there = row_there v (row_of eq k layered.table.rows) e in
+      least-shown nat_cmp (IsMarked mark layered.slots v.applications) (λ p. StandsAt (ShowsApplication eq layered) mark (k, p)) (IsAboveName nat_cmp from)
+      (λ p m. (m.0, (there.0, there.1, subst (λ (w : HostRow). IsShown layered.slots w.applications p m.0) (sym there.2) m.1), m.2))
+      (λ p s. back p s) res l
+    where
+      same_value : (row : Row K HostRow) → row_of eq k layered.table.rows ≡ Some row → row.value ≡ v
+      same_value row f = let both : Some row.value ≡ Some v = sym (ap (option_map value_of) f) ∙ e in cc
+
+      back : (p : ℕ) → StandsAt (ShowsApplication eq layered) mark (k, p) → IsMarked mark layered.slots v.applications p
+      back p s = (s.0, subst (λ (w : HostRow). IsShown layered.slots w.applications p s.0) (same_value s.1.0 s.1.1) s.1.2, s.2)
+
+  pub in_none : (k : K) → option_map value_of (row_of eq k layered.table.rows) ≡ None → (from : Option ℕ) → IsLeast nat_cmp (λ p. StandsAt (ShowsApplication eq layered) mark (k, p)) (IsAboveName nat_cmp from) None
+  in_none k e from = λ p s a. let both : Some s.1.0.value ≡ None = sym (ap (option_map value_of) s.1.1) ∙ e in cc
+
+  module _ (exact : IsExact eq) where
+    found_in : (k : K) (rows : List (Row K HostRow)) (row : Row K HostRow) → row_of eq k rows ≡ Some row → Contains (keys_of rows) k
+    found_in k [] row e = cc
+    found_in k (x ∷ rows) row e = elim (cases_Bool (eq k x.key)) [
+      | inl y ↦ (0, omega arith, sym (exact.same k x.key y))
+      | inr o ↦ let more = found_in k rows row (rw o at e) in (suc more.0, (let lt : more.0 < length (keys_of rows) = more.1 in omega arith), more.2)
+    ]
+
+    -- what is shown is shown of a key that is held
+    pub shown_held : (x : K × ℕ) → StandsAt (ShowsApplication eq layered) mark x → Contains (keys_of layered.table.rows) x.0
+    shown_held x s = found_in x.0 layered.table.rows s.1.0 s.1.1
+
+module _ {K : Type 0} (eq : K → K → Bool) (same_key : IsExact eq) (cmp : K → K → Ordering) (order : IsTotalOrder cmp) (exact : (a b : K) → cmp a b ≡ Equal → a ≡ b) (layered : Layered K) (mark : ℕ) where
+  abbrev pub Shown : K × ℕ → Type 0
+  Shown x = StandsAt (ShowsApplication eq layered) mark x
+
+  -- the least application row from there on
+  abbrev pub Found : Option (K × Option ℕ) → Option (K × ℕ) → Type 0
+  Found from res = IsLeast (pair_cmp cmp nat_cmp) Shown (IsAboveApplication cmp from) res
+
+  abbrev pub FoundIn : K → Option ℕ → Option ℕ → Type 0
+  FoundIn j q res = IsLeast nat_cmp (λ m. Shown (j, m)) (IsAboveName nat_cmp q) res
+
+  abbrev keys : List K
+  keys = keys_of layered.table.rows
+
+  pub found_here : (j : K) (q : Option ℕ) (p : ℕ) → FoundIn j q (Some p) → Found (Some (j, q)) (Some (j, p))
+  found_here j q p l = in_row cmp order exact (Contains keys) Shown (λ x s. shown_held eq layered mark same_key x s) j q p l
+
+  pub goes_on : (j k : K) (q : Option ℕ) (res : Option (K × ℕ)) → FoundIn j q None → IsNextKey cmp keys (Some j) (Some k) → Found (Some (k, None)) res → Found (Some (j, q)) res
+  goes_on j k q res none next l = at_next cmp order exact (Contains keys) Shown (λ x s. shown_held eq layered mark same_key x s) j k q res none (next_is_least cmp keys (Some j) (Some k) next) l
+
+  pub ends : (j : K) (q : Option ℕ) → FoundIn j q None → IsNextKey cmp keys (Some j) None → Found (Some (j, q)) None
+  ends j q none end = at_end cmp order exact (Contains keys) Shown (λ x s. shown_held eq layered mark same_key x s) j q none (next_is_least cmp keys (Some j) None end)
+
+  pub starts : (k : K) (res : Option (K × ℕ)) → IsNextKey cmp keys None (Some k) → Found (Some (k, None)) res → Found None res
+  starts k res next l = at_first_row cmp order exact (Contains keys) Shown (λ x s. shown_held eq layered mark same_key x s) k res (next_is_least cmp keys None (Some k) next) l
+
+  pub is_empty : IsNextKey cmp keys None None → Found None None
+  is_empty none = at_no_row cmp order exact (Contains keys) Shown (λ x s. shown_held eq layered mark same_key x s) (next_is_least cmp keys None None none)

@@ -1,0 +1,7 @@
+pub mod Counts
+pub mod Kept
+pub mod Shown
+pub mod Standing
+pub mod Walk
+pub mod Count
+pub mod LayerTable

@@ -1,0 +1,73 @@
+// The network and application rows of one control row.
+
+ghost use Rattle.std.specs.Prelude.{◌≡◌, ℕ, ◌+◌, ◌<◌, ◌≤◌, ◌^◌, Bool, List, ◌∷◌, ◌++◌, true, replicate, IfOk, None, []};
+ghost use Rattle.rm_layers.specs.Event.{Contribution, Event, names, turns_ip, begins, is_ip_on, AreUpTo, AreRising};
+ghost use Rattle.rm_layers.specs.Upper.{AreTuned};
+ghost use Rattle.rm_layers.specs.Turning.{IsChange};
+
+use crate::counts::NetworkCounts;
+use crate::network_rows::NetworkRows;
+use rm_evicting::Key;
+use rm_val::NoMemory;
+use std::alloc::Global;
+use std::marker::Model;
+
+/// The network and application rows that a row of hlHostControl holds, and whether ip is on for hosts. While it isn't, no frame is a
+/// reference.
+#[derive(Drop)]
+pub struct LayerTable<K: Key> {
+    rows: NetworkRows<K>,
+    on: bool,
+    // The stamps of all references so far are below it.
+    next: u64,
+    // The ticks of all references so far aren't above it.
+    latest: u32,
+}
+
+impl<K: Key> Model for LayerTable<K> {
+    ghost use Rattle.rm_upper.specs.LayerTable.{LayerTable as Layers, IsReady};
+
+    ghost Value = { Layers K };
+
+    ghost view = { λ s. record { layered = s.rows; on = s.on; next = s.next; latest = s.latest } };
+
+    ghost invariant = { λ s. IsReady s.rows s.next s.latest };
+}
+
+impl<K: Key> LayerTable<K> {
+    ghost use Rattle.rm_upper.specs.Shown.{protocols, Agrees};
+    ghost use Rattle.rm_upper.specs.Standing.{StandsFor};
+
+    /// Takes a frame that names a key, with the protocols on its path that are on, its stamp, its tick, and what it adds: a reference
+    /// while ip is on.
+    pub fn name(&mut self, key: K, path: &[u32], stamp: u64, tick: u32, gain: &NetworkCounts)
+        requires next { self.old.next ≤ stamp }
+        requires latest { self.old.latest ≤ tick }
+        requires fits { stamp < 2 ^ 58 }
+        ensures on { self.new.on ≡ self.old.on }
+        ensures slots { self.new.layered.slots ≡ self.old.layered.slots }
+        ensures next { self.new.next ≡ stamp + 1 }
+        ensures latest { self.new.latest ≡ tick }
+        ensures stands { (earlier : List (Event K NetworkCounts)) (brings : Contribution NetworkCounts) → brings.stamp ≡ stamp → brings.tick ≡ tick → brings.gain ≡ gain.now
+            → Agrees self.old.layered.slots path.now brings → is_ip_on earlier ≡ self.old.on → AreTuned (protocols self.old.layered.slots) earlier → AreRising (names key brings ∷ earlier)
+            → StandsFor K.eq earlier self.old.layered → StandsFor K.eq (names key brings ∷ earlier) self.new.layered }
+    {
+        if self.on {
+            self.rows.refer(key, path, stamp, tick, gain);
+        }
+        self.next = stamp + 1;
+        self.latest = tick;
+    }
+
+    /// Turns ip on or off, by which every row goes.
+    pub fn turn_ip(&mut self, on: bool)
+        ensures on { self.new.on ≡ on }
+        ensures slots { self.new.layered.slots ≡ self.old.layered.slots }
+        ensures next { self.new.next ≡ self.old.next }
+        ensures latest { self.new.latest ≡ self.old.latest }
+        ensures stands { (earlier : List (Event K NetworkCounts)) → StandsFor K.eq earlier self.old.layered → StandsFor K.eq (turns_ip on ∷ earlier) self.new.layered }
+    {
+        self.rows.clear();
+        self.on = on;
+    }
+}

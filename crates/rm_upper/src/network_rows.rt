@@ -1,0 +1,232 @@
+// The network rows of one control row.
+
+ghost use Rattle.std.specs.Prelude.{◌≡◌, ℕ, ◌+◌, ◌-◌, ◌<◌, ◌≤◌, ◌^◌, Bool, true, List, [], ◌∷◌, ◌++◌, length, All, IfOk, IfSome, replicate, None};
+ghost use Rattle.rm_evicting.specs.Row.{holds, touched};
+ghost use Rattle.rm_layers.specs.Event.{Contribution, Event, names, turns_ip, begins, is_ip_on, AreUpTo, AreRising};
+ghost use Rattle.rm_layers.specs.Applications.{Slots};
+ghost use Rattle.rm_layers.specs.Upper.{AreTuned};
+ghost use Rattle.rm_layers.specs.Turning.{IsChange};
+
+use crate::counts::NetworkCounts;
+use crate::host_row::{HostRow, credit};
+use crate::slots::{Slot, retune_all};
+use crate::walk::{count_applications, next_protocol};
+use rm_evicting::Key;
+use rm_rows::{Rows, Touch};
+use rm_val::NoMemory;
+use std::alloc::Global;
+use std::marker::Model;
+
+/// The network rows of one control row, the protocols above ip that are on, each in a slot, and how many network rows and application
+/// rows were entered since the control row became active.
+#[derive(Drop)]
+pub struct NetworkRows<K: Key> {
+    rows: Rows<K, HostRow>,
+    slots: [Option<Slot>; 32],
+    network_inserts: u64,
+    application_inserts: u64,
+}
+
+impl<K: Key> Model for NetworkRows<K> {
+    ghost use Rattle.std.specs.Prelude.{◌<◌};
+    ghost use Rattle.rm_upper.specs.Standing.{Layered};
+
+    ghost Value = { Layered K };
+
+    ghost view = { λ s. record { table = s.rows; slots = s.slots; network_inserts = s.network_inserts; application_inserts = s.application_inserts } };
+
+    ghost invariant = { λ s. 0 < s.rows.capacity };
+}
+
+impl<K: Key> NetworkRows<K> {
+    ghost use Rattle.rm_upper.specs.Shown.{protocols, Agrees, AreSince};
+    ghost use Rattle.rm_upper.specs.Standing.{StandsFor, referred, slots_after};
+    ghost use Rattle.rm_upper.specs.Walk.{ShowsApplication};
+    ghost use Rattle.rm_layers.specs.Marks.{IsLeast, StandsAt, IsAboveName, IsAboveApplication, IsNextInstance, ApplicationLasts, NetworkLasts, pair_cmp};
+    ghost use Rattle.std.specs.Ordering.{nat_cmp};
+    ghost use Rattle.rm_layers.specs.Network.{network_inserts, application_inserts, network_deletes, application_deletes};
+    ghost use Rattle.rm_upper.specs.Count.{held_of, held_by_keys};
+
+    /// No rows, no protocol on, and memory for so many network rows. NoMemory where there is none.
+    pub fn new(alloc: Global, capacity: usize) -> Result<NetworkRows<K>, NoMemory>
+        requires some { 1 ≤ capacity }
+        requires bound { capacity ≤ 4096 }
+        ensures { IfOk result (λ layered. layered ≡ record { table = record { room = capacity; capacity = capacity; rows = [] }; slots = replicate 32 None; network_inserts = 0; application_inserts = 0 }) }
+    {
+        let rows = Rows::new(alloc, capacity)?;
+        Ok(NetworkRows {
+            rows,
+            slots: [None; 32],
+            network_inserts: 0,
+            application_inserts: 0,
+        })
+    }
+
+    /// Takes a reference to a key, with the protocols on its path that are on, its stamp, which is above those of all references before,
+    /// its tick, which isn't below theirs, and what it adds.
+    pub fn refer(&mut self, key: K, path: &[u32], stamp: u64, tick: u32, gain: &NetworkCounts)
+        requires stamp { All (λ row. row.last < stamp) self.old.table.rows }
+        requires tick { All (λ row. row.tick ≤ tick) self.old.table.rows }
+        requires network { self.old.network_inserts < 2 ^ 63 }
+        requires applications { self.old.application_inserts < 2 ^ 63 }
+        ensures kept { self.new ≡ referred K.eq path.now key stamp tick gain.now self.old }
+        ensures entered { self.new.network_inserts ≤ self.old.network_inserts + 1 }
+        ensures made { self.new.application_inserts ≤ self.old.application_inserts + 32 }
+        ensures stands { (earlier : List (Event K NetworkCounts)) (brings : Contribution NetworkCounts) → brings.stamp ≡ stamp → brings.tick ≡ tick → brings.gain ≡ gain.now
+            → Agrees self.old.slots path.now brings → is_ip_on earlier ≡ true → AreTuned (protocols self.old.slots) earlier → AreRising (names key brings ∷ earlier)
+            → StandsFor K.eq earlier self.old → StandsFor K.eq (names key brings ∷ earlier) self.new }
+    {
+        if let Touch::Held = self.rows.touch(key, stamp, tick) {} else {
+            self.network_inserts += 1;
+        }
+        let made = credit(&mut self.rows, &key, &self.slots, path, stamp, tick, gain);
+        self.application_inserts += made as u64;
+    }
+
+    /// Turns protocols on and off, by the one above ip that is on in each slot now. Those that are new are on from a stamp, which is above
+    /// those of all references so far.
+    pub fn retune(&mut self, now: &[Option<u32>; 32], stamp: u64)
+        ensures kept { self.new ≡ record { table = self.old.table; slots = slots_after stamp self.old.slots now.now; network_inserts = self.old.network_inserts; application_inserts = self.old.application_inserts } }
+        ensures stands { (turnings earlier : List (Event K NetworkCounts)) → AreUpTo stamp earlier → AreTuned (protocols self.old.slots) earlier → AreTuned now.now (turnings ++ earlier)
+            → IsChange stamp turnings earlier (protocols self.old.slots) now.now → StandsFor K.eq earlier self.old → StandsFor K.eq (turnings ++ earlier) self.new }
+    {
+        retune_all(&mut self.slots, now, stamp);
+    }
+
+    /// Takes every row away, as ip is turned on or off.
+    pub fn clear(&mut self)
+        ensures kept { self.new ≡ record { table = record { room = self.old.table.room; capacity = self.old.table.capacity; rows = [] }; slots = self.old.slots; network_inserts = self.old.network_inserts; application_inserts = self.old.application_inserts } }
+        ensures stands { (on : Bool) (earlier : List (Event K NetworkCounts)) → StandsFor K.eq earlier self.old → StandsFor K.eq (turns_ip on ∷ earlier) self.new }
+    {
+        self.rows.clear();
+    }
+
+    /// Begins anew, as the control row becomes active, with a capacity within the room that was reserved.
+    pub fn begin(&mut self, capacity: usize)
+        requires some { 1 ≤ capacity }
+        requires within { capacity ≤ self.old.table.room }
+        ensures kept { self.new ≡ record { table = record { room = self.old.table.room; capacity = capacity; rows = [] }; slots = self.old.slots; network_inserts = 0; application_inserts = 0 } }
+        ensures stands { (earlier : List (Event K NetworkCounts)) → ((limit : ℕ) → AreUpTo limit earlier → AreSince limit self.old.slots) → StandsFor K.eq (begins ∷ earlier) self.new }
+    {
+        self.rows.reset(capacity);
+        self.network_inserts = 0;
+        self.application_inserts = 0;
+    }
+
+    // The least protocol above another of which the row of a key has an application row at a mark.
+    fn next_in(&self, key: &K, mark: u64, from: Option<u32>) -> Option<u32>
+        ensures least { IsLeast nat_cmp (λ p. StandsAt (ShowsApplication K.eq self.now) mark (key.now, p)) (IsAboveName nat_cmp from) result }
+        ensures reached { IfSome result (λ p. mark < 2 ^ 32) }
+    {
+        match self.rows.get(key) {
+            Some(row) => next_protocol(&self.slots, &row.applications, mark, from),
+            None => None,
+        }
+    }
+
+    // The least application row above a key and maybe a protocol, among those that stand at a mark.
+    fn next_at(&self, mark: u64, from: Option<(K, Option<u32>)>) -> Option<(K, u32)>
+        ensures least { IsLeast (pair_cmp K.cmp nat_cmp) (StandsAt (ShowsApplication K.eq self.now) mark) (IsAboveApplication K.cmp from) result }
+        ensures reached { IfSome result (λ x. mark < 2 ^ 32) }
+    {
+        let (mut key, mut protocol) = match from {
+            Some(from) => from,
+            None => {
+                let nothing: Option<K> = None;
+                match self.rows.after(nothing.as_ref()) {
+                    Some(first) => (*first, None),
+                    None => return None,
+                }
+            }
+        };
+        loop {
+            if let Some(found) = self.next_in(&key, mark, protocol) {
+                return Some((key, found));
+            }
+            match self.rows.after(Some(&key)) {
+                Some(next) => {
+                    key = *next;
+                    protocol = None;
+                }
+                None => return None,
+            }
+        }
+    }
+
+    /// The next instance of an application row, by mark, key and protocol, above a mark, maybe a key and maybe a protocol. Each row stands
+    /// at each mark up to the tick of its last contribution (RFC 2021, TimeFilter). None where there is none.
+    pub fn application_after(
+        &self,
+        mark: u32,
+        from: Option<(K, Option<u32>)>,
+    ) -> Option<(u32, (K, u32))>
+        ensures shown { IsNextInstance (pair_cmp K.cmp nat_cmp) (ShowsApplication K.eq self.now) mark (IsAboveApplication K.cmp from) result }
+        ensures stands { (events : List (Event K NetworkCounts)) → AreTuned (protocols self.now.slots) events → StandsFor K.eq events self.now
+            → IsNextInstance (pair_cmp K.cmp nat_cmp) (ApplicationLasts K.eq self.now.table.capacity events) mark (IsAboveApplication K.cmp from) result }
+    {
+        if let Some(found) = self.next_at(mark as u64, from) {
+            return Some((mark, found));
+        }
+        match self.next_at(mark as u64 + 1, None) {
+            Some(found) => Some((mark + 1, found)),
+            None => None,
+        }
+    }
+
+    /// The next instance of a network row, by mark and key, above a mark and maybe a key. None where there is none.
+    pub fn network_after(&self, mark: u32, from: Option<K>) -> Option<(u32, K)>
+        ensures { (events : List (Event K NetworkCounts)) → AreTuned (protocols self.now.slots) events → StandsFor K.eq events self.now
+            → IsNextInstance K.cmp (NetworkLasts K.eq self.now.table.capacity events) mark (IsAboveName K.cmp from) result }
+    {
+        match self.rows.mark_after(mark, from.as_ref()) {
+            Some((mark, key)) => Some((mark, *key)),
+            None => None,
+        }
+    }
+
+    /// How many network rows were entered since the control row became active.
+    pub fn network_inserts(&self) -> u64
+        ensures { (events : List (Event K NetworkCounts)) → StandsFor K.eq events self.now → result ≡ network_inserts K.eq self.now.table.capacity events }
+    {
+        self.network_inserts
+    }
+
+    /// How many application rows were.
+    pub fn application_inserts(&self) -> u64
+        ensures { (events : List (Event K NetworkCounts)) → StandsFor K.eq events self.now → result ≡ application_inserts K.eq self.now.table.capacity events }
+    {
+        self.application_inserts
+    }
+
+    /// How many of the network rows that were entered are gone.
+    pub fn network_deletes(&self) -> u64
+        ensures { (events : List (Event K NetworkCounts)) → StandsFor K.eq events self.now → result ≡ network_deletes K.eq self.now.table.capacity events }
+    {
+        self.network_inserts.saturating_sub(self.rows.len() as u64)
+    }
+
+    // How many application rows the row of a key has.
+    fn count_in(&self, key: &K) -> u32
+        ensures { result ≡ held_of K.eq self.now key.now }
+    {
+        match self.rows.get(key) {
+            Some(row) => count_applications(&self.slots, &row.applications),
+            None => 0,
+        }
+    }
+
+    /// How many of the application rows that were entered are gone.
+    pub fn application_deletes(&self) -> u64
+        ensures kept { result ≡ self.now.application_inserts - held_by_keys K.eq self.now self.now.table.rows }
+        ensures stands { (events : List (Event K NetworkCounts)) → AreTuned (protocols self.now.slots) events → StandsFor K.eq events self.now
+            → result ≡ application_deletes K.eq self.now.table.capacity events }
+    {
+        let mut held: u64 = 0;
+        for place in 0..self.rows.len() {
+            if let Some(key) = self.rows.made(place + 1) {
+                held = held.saturating_add(self.count_in(key) as u64);
+            }
+        }
+        self.application_inserts.saturating_sub(held)
+    }
+}

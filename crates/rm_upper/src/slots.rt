@@ -1,0 +1,154 @@
+// Application rows in slots. A row from before its protocol was last turned on is none.
+
+ghost use Rattle.std.specs.Prelude.{◌≡◌, ℕ, ◌+◌, ◌≤◌, List, length};
+ghost use Rattle.rm_upper.specs.Standing.{slot_after, slots_after};
+ghost use Rattle.rm_upper.specs.Kept.{is_among, first, taken, is_made, kept_with, makes_here, all_with, all_made};
+
+use crate::counts::{NetworkCounts, Traffic};
+
+/// A protocol above ip that is on, by its local index in the directory, since a stamp: what comes from it on counts.
+#[derive(Clone, Copy, PartialEq, Eq, Debug)]
+pub struct Slot {
+    pub protocol: u32,
+    pub since: u64,
+}
+
+/// An application row: the stamp and the tick of its first contribution, the tick of its last one, and what they add up to. It is one
+/// of its slot only if its first contribution came when the protocol there was on already.
+#[derive(Clone, Copy, PartialEq, Eq, Debug)]
+pub struct KeptApplication {
+    pub stamp: u64,
+    pub created: u32,
+    pub tick: u32,
+    pub sums: Traffic,
+}
+
+// Whether a contribution to a slot makes an application row there.
+fn makes(slot: &Slot, kept: &Option<KeptApplication>) -> bool
+    ensures { result ≡ is_made slot.now kept.now }
+{
+    match kept {
+        Some(kept) => kept.stamp < slot.since,
+        None => true,
+    }
+}
+
+// The application row that a contribution makes.
+fn made(stamp: u64, tick: u32, gain: &NetworkCounts) -> KeptApplication
+    ensures { result ≡ first stamp tick gain.now }
+{
+    let mut sums = Traffic::none();
+    sums.add(&gain.traffic);
+    KeptApplication {
+        stamp,
+        created: tick,
+        tick,
+        sums,
+    }
+}
+
+// The application row of a slot with one contribution more.
+fn take(
+    slot: &Slot,
+    kept: &Option<KeptApplication>,
+    stamp: u64,
+    tick: u32,
+    gain: &NetworkCounts,
+) -> KeptApplication
+    ensures { result ≡ taken slot.now stamp tick gain.now kept.now }
+{
+    match kept {
+        Some(kept) if kept.stamp >= slot.since => {
+            let mut sums = kept.sums;
+            sums.add(&gain.traffic);
+            KeptApplication {
+                tick,
+                sums,
+                ..*kept
+            }
+        }
+        _ => made(stamp, tick, gain),
+    }
+}
+
+// Whether a contribution by a path makes an application row in a slot.
+fn makes_at(slot: &Option<Slot>, kept: &Option<KeptApplication>, path: &[u32]) -> bool
+    ensures { result ≡ makes_here (is_among path.now) slot.now kept.now }
+{
+    match slot {
+        Some(slot) => path.contains(&slot.protocol) && makes(slot, kept),
+        None => false,
+    }
+}
+
+// What a slot keeps after a contribution by a path.
+fn take_at(
+    slot: &Option<Slot>,
+    kept: &Option<KeptApplication>,
+    path: &[u32],
+    stamp: u64,
+    tick: u32,
+    gain: &NetworkCounts,
+) -> Option<KeptApplication>
+    ensures { result ≡ kept_with (is_among path.now) stamp tick gain.now slot.now kept.now }
+{
+    match slot {
+        Some(slot) => {
+            if path.contains(&slot.protocol) {
+                Some(take(slot, kept, stamp, tick, gain))
+            } else {
+                *kept
+            }
+        }
+        None => *kept,
+    }
+}
+
+/// A contribution comes to the slots of the protocols on its path. Tells how many application rows it makes.
+pub(crate) fn take_all(
+    applications: &mut [Option<KeptApplication>],
+    slots: &[Option<Slot>],
+    path: &[u32],
+    stamp: u64,
+    tick: u32,
+    gain: &NetworkCounts,
+) -> u32
+    requires same { length slots.now ≡ length applications.old }
+    requires few { length applications.old ≤ 32 }
+    ensures applications { applications.new ≡ all_with (is_among path.now) stamp tick gain.now slots.now applications.old }
+    ensures made { result ≡ all_made (is_among path.now) slots.now applications.old }
+    ensures few { result ≤ 32 }
+{
+    let mut made = 0;
+    for place in 0..applications.len() {
+        if makes_at(&slots[place], &applications[place], path) {
+            made += 1;
+        }
+        applications[place] = take_at(&slots[place], &applications[place], path, stamp, tick, gain);
+    }
+    made
+}
+
+// What a slot has after a change: it stays as it is where its protocol does, and another protocol is on from this stamp.
+fn retuned(slot: &Option<Slot>, protocol: Option<u32>, stamp: u64) -> Option<Slot>
+    ensures { result ≡ slot_after stamp slot.now protocol }
+{
+    let protocol = protocol?;
+    match slot {
+        Some(slot) if slot.protocol == protocol => Some(*slot),
+        _ => Some(Slot {
+            protocol,
+            since: stamp,
+        }),
+    }
+}
+
+/// What all slots have after a change.
+pub(crate) fn retune_all(slots: &mut [Option<Slot>], protocols: &[Option<u32>], stamp: u64)
+    requires { length protocols.now ≡ length slots.old }
+    ensures { slots.new ≡ slots_after stamp slots.old protocols.now }
+{
+    for place in 0..slots.len() {
+        slots[place] = retuned(&slots[place], protocols[place], stamp);
+    }
+}
