@@ -8,3 +8,4 @@ pub mod Lasts
 pub mod NetworkWalk
 pub mod BeforeLemmas
 pub mod CountLemmas
+pub mod CellLemmas

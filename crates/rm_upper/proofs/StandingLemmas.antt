@@ -91,7 +91,7 @@ module _ {K : Type 0} (eq : K → K → Bool) (exact : IsExact eq) where
   }
 
 module _ (s : ℕ) where
-  protocols-after : (old : List (Option Slot)) (ps : Slots) → length old ≡ length ps → protocols (slots_after s old ps) ≡ ps
+  pub protocols-after : (old : List (Option Slot)) (ps : Slots) → length old ≡ length ps → protocols (slots_after s old ps) ≡ ps
   protocols-after [] [] e = refl
   protocols-after [] (p ∷ ps) e = absurd (omega (arith, e))
   protocols-after (was ∷ old) [] e = absurd (omega (arith, e))
@@ -169,9 +169,20 @@ module _ {K : Type 0} (eq : K → K → Bool) (exact : IsExact eq) where
   }
 
   -- the slots are on by events of which those of the row are a part
-  pub stands-begins : (room cap : ℕ) (r : List (Event K NetworkCounts)) (slots : List (Option Slot)) → ((s : ℕ) → AreUpTo s r → AreSince s slots) → StandsFor eq (begins ∷ r) (record { table = record { room = room; capacity = cap; rows = [] }; slots = slots; network_inserts = 0; application_inserts = 0 })
+  stands-begins : (room cap : ℕ) (r : List (Event K NetworkCounts)) (slots : List (Option Slot)) → ((s : ℕ) → AreUpTo s r → AreSince s slots) → StandsFor eq (begins ∷ r) (record { table = record { room = room; capacity = cap; rows = [] }; slots = slots; network_inserts = 0; application_inserts = 0 })
   stands-begins room cap r slots since = record {
     is = is_of-begins eq exact no_counts plus no_traffic with_gain cap r (protocols slots);
     kept = λ s above. tt;
     since = λ s above. since s above;
   }
+
+-- a protocol in a slot that was empty is on since the stamp
+since_first : (limit n : ℕ) (ps : Slots) → AreSince limit (slots_after 0 (replicate n None) ps)
+since_first limit zero ps = tt
+since_first limit (suc n) [] = tt
+since_first limit (suc n) (None ∷ ps) = since_first limit n ps
+since_first limit (suc n) (Some p ∷ ps) = (omega arith, since_first limit n ps)
+
+-- the control row begins with slots that are all new
+pub stands-first : {K : Type 0} (eq : K → K → Bool) (exact : IsExact eq) (room cap : ℕ) (r : List (Event K NetworkCounts)) (ps : Slots) → StandsFor eq (begins ∷ r) (record { table = record { room = room; capacity = cap; rows = [] }; slots = slots_after 0 (replicate 32 None) ps; network_inserts = 0; application_inserts = 0 })
+stands-first eq exact room cap r ps = stands-begins eq exact room cap r (slots_after 0 (replicate 32 None) ps) (λ s up. since_first s 32 ps)

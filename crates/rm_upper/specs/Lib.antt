@@ -4,4 +4,5 @@ pub mod Shown
 pub mod Standing
 pub mod Walk
 pub mod Count
+pub mod Cells
 pub mod LayerTable

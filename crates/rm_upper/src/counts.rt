@@ -65,3 +65,10 @@ impl NetworkCounts {
             .wrapping_add(gain.out_non_unicast_pkts);
     }
 }
+
+/// What a row shows: the tick of its first contribution, in hundredths of a second, and what its contributions add up to.
+#[derive(Clone, Copy, PartialEq, Eq, Debug)]
+pub struct Counted<S> {
+    pub created: u32,
+    pub sums: S,
+}

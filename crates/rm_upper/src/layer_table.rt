@@ -38,6 +38,21 @@ impl<K: Key> LayerTable<K> {
     ghost use Rattle.rm_upper.specs.Shown.{protocols, Agrees};
     ghost use Rattle.rm_upper.specs.Standing.{StandsFor};
 
+    /// No rows, with ip on and no other protocol, and memory for so many network rows. NoMemory where there is none.
+    pub fn new(alloc: Global, capacity: usize) -> Result<LayerTable<K>, NoMemory>
+        requires some { 1 ≤ capacity }
+        requires bound { capacity ≤ 4096 }
+        ensures room { IfOk result (λ table. table.layered.table.room ≡ capacity) }
+    {
+        let rows = NetworkRows::new(alloc, capacity)?;
+        Ok(LayerTable {
+            rows,
+            on: true,
+            next: 0,
+            latest: 0,
+        })
+    }
+
     /// Takes a frame that names a key, with the protocols on its path that are on, its stamp, its tick, and what it adds: a reference
     /// while ip is on.
     pub fn name(&mut self, key: K, path: &[u32], stamp: u64, tick: u32, gain: &NetworkCounts)
@@ -46,6 +61,8 @@ impl<K: Key> LayerTable<K> {
         requires fits { stamp < 2 ^ 58 }
         ensures on { self.new.on ≡ self.old.on }
         ensures slots { self.new.layered.slots ≡ self.old.layered.slots }
+        ensures capacity { self.new.layered.table.capacity ≡ self.old.layered.table.capacity }
+        ensures room { self.new.layered.table.room ≡ self.old.layered.table.room }
         ensures next { self.new.next ≡ stamp + 1 }
         ensures latest { self.new.latest ≡ tick }
         ensures stands { (earlier : List (Event K NetworkCounts)) (brings : Contribution NetworkCounts) → brings.stamp ≡ stamp → brings.tick ≡ tick → brings.gain ≡ gain.now
@@ -63,11 +80,54 @@ impl<K: Key> LayerTable<K> {
     pub fn turn_ip(&mut self, on: bool)
         ensures on { self.new.on ≡ on }
         ensures slots { self.new.layered.slots ≡ self.old.layered.slots }
+        ensures capacity { self.new.layered.table.capacity ≡ self.old.layered.table.capacity }
+        ensures room { self.new.layered.table.room ≡ self.old.layered.table.room }
         ensures next { self.new.next ≡ self.old.next }
         ensures latest { self.new.latest ≡ self.old.latest }
         ensures stands { (earlier : List (Event K NetworkCounts)) → StandsFor K.eq earlier self.old.layered → StandsFor K.eq (turns_ip on ∷ earlier) self.new.layered }
     {
         self.rows.clear();
         self.on = on;
+    }
+
+    /// Turns protocols on and off, by the one above ip that is on in each slot now. Those that are new are on from a stamp, which is above
+    /// those of all references so far.
+    pub fn retune(&mut self, now: &[Option<u32>; 32], stamp: u64)
+        ensures on { self.new.on ≡ self.old.on }
+        ensures slots { protocols self.new.layered.slots ≡ now.now }
+        ensures capacity { self.new.layered.table.capacity ≡ self.old.layered.table.capacity }
+        ensures room { self.new.layered.table.room ≡ self.old.layered.table.room }
+        ensures next { self.new.next ≡ self.old.next }
+        ensures latest { self.new.latest ≡ self.old.latest }
+        ensures stands { (turnings earlier : List (Event K NetworkCounts)) → AreUpTo stamp earlier → AreTuned (protocols self.old.layered.slots) earlier → AreTuned now.now (turnings ++ earlier)
+            → IsChange stamp turnings earlier (protocols self.old.layered.slots) now.now → StandsFor K.eq earlier self.old.layered → StandsFor K.eq (turnings ++ earlier) self.new.layered }
+    {
+        self.rows.retune(now, stamp);
+    }
+
+    /// Begins anew, as the control row becomes active, with a capacity within the room that was reserved, with the protocol above ip that
+    /// is on in each slot, and with ip on or off.
+    pub fn begin(&mut self, capacity: usize, now: &[Option<u32>; 32], on: bool)
+        requires some { 1 ≤ capacity }
+        requires within { capacity ≤ self.old.layered.table.room }
+        ensures on { self.new.on ≡ on }
+        ensures slots { protocols self.new.layered.slots ≡ now.now }
+        ensures capacity { self.new.layered.table.capacity ≡ capacity }
+        ensures room { self.new.layered.table.room ≡ self.old.layered.table.room }
+        ensures next { self.new.next ≡ 0 }
+        ensures latest { self.new.latest ≡ 0 }
+        ensures stands { (earlier : List (Event K NetworkCounts)) → StandsFor K.eq (begins ∷ earlier) self.new.layered }
+    {
+        self.rows.begin(capacity, now);
+        self.on = on;
+        self.next = 0;
+        self.latest = 0;
+    }
+
+    /// The rows.
+    pub fn rows(&self) -> &NetworkRows<K>
+        ensures { result.now ≡ self.now.layered }
+    {
+        &self.rows
     }
 }

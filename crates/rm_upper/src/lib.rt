@@ -7,9 +7,11 @@ mod host_row;
 mod layer_table;
 mod network_rows;
 mod slots;
+#[cfg(test)]
+mod tests;
 mod walk;
 
-pub use counts::{NetworkCounts, Traffic};
+pub use counts::{Counted, NetworkCounts, Traffic};
 pub use host_row::HostRow;
 pub use layer_table::LayerTable;
 pub use network_rows::NetworkRows;

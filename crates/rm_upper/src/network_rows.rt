@@ -7,10 +7,10 @@ ghost use Rattle.rm_layers.specs.Applications.{Slots};
 ghost use Rattle.rm_layers.specs.Upper.{AreTuned};
 ghost use Rattle.rm_layers.specs.Turning.{IsChange};
 
-use crate::counts::NetworkCounts;
+use crate::counts::{Counted, NetworkCounts, Traffic};
 use crate::host_row::{HostRow, credit};
 use crate::slots::{Slot, retune_all};
-use crate::walk::{count_applications, next_protocol};
+use crate::walk::{count_applications, next_protocol, show_application};
 use rm_evicting::Key;
 use rm_rows::{Rows, Touch};
 use rm_val::NoMemory;
@@ -39,13 +39,15 @@ impl<K: Key> Model for NetworkRows<K> {
 }
 
 impl<K: Key> NetworkRows<K> {
-    ghost use Rattle.rm_upper.specs.Shown.{protocols, Agrees, AreSince};
+    ghost use Rattle.rm_upper.specs.Shown.{protocols, Agrees};
     ghost use Rattle.rm_upper.specs.Standing.{StandsFor, referred, slots_after};
     ghost use Rattle.rm_upper.specs.Walk.{ShowsApplication};
     ghost use Rattle.rm_layers.specs.Marks.{IsLeast, StandsAt, IsAboveName, IsAboveApplication, IsNextInstance, ApplicationLasts, NetworkLasts, pair_cmp};
     ghost use Rattle.std.specs.Ordering.{nat_cmp};
     ghost use Rattle.rm_layers.specs.Network.{network_inserts, application_inserts, network_deletes, application_deletes};
     ghost use Rattle.rm_upper.specs.Count.{held_of, held_by_keys};
+    ghost use Rattle.rm_upper.specs.Cells.{network_row, application_row, network_in, application_in_row};
+    ghost use Rattle.rm_rows.specs.Table.{row_of};
 
     /// No rows, no protocol on, and memory for so many network rows. NoMemory where there is none.
     pub fn new(alloc: Global, capacity: usize) -> Result<NetworkRows<K>, NoMemory>
@@ -87,6 +89,7 @@ impl<K: Key> NetworkRows<K> {
     /// those of all references so far.
     pub fn retune(&mut self, now: &[Option<u32>; 32], stamp: u64)
         ensures kept { self.new ≡ record { table = self.old.table; slots = slots_after stamp self.old.slots now.now; network_inserts = self.old.network_inserts; application_inserts = self.old.application_inserts } }
+        ensures slots { protocols self.new.slots ≡ now.now }
         ensures stands { (turnings earlier : List (Event K NetworkCounts)) → AreUpTo stamp earlier → AreTuned (protocols self.old.slots) earlier → AreTuned now.now (turnings ++ earlier)
             → IsChange stamp turnings earlier (protocols self.old.slots) now.now → StandsFor K.eq earlier self.old → StandsFor K.eq (turnings ++ earlier) self.new }
     {
@@ -101,16 +104,62 @@ impl<K: Key> NetworkRows<K> {
         self.rows.clear();
     }
 
-    /// Begins anew, as the control row becomes active, with a capacity within the room that was reserved.
-    pub fn begin(&mut self, capacity: usize)
+    /// Begins anew, as the control row becomes active, with a capacity within the room that was reserved, and with the protocol above ip
+    /// that is on in each slot.
+    pub fn begin(&mut self, capacity: usize, now: &[Option<u32>; 32])
         requires some { 1 ≤ capacity }
         requires within { capacity ≤ self.old.table.room }
-        ensures kept { self.new ≡ record { table = record { room = self.old.table.room; capacity = capacity; rows = [] }; slots = self.old.slots; network_inserts = 0; application_inserts = 0 } }
-        ensures stands { (earlier : List (Event K NetworkCounts)) → ((limit : ℕ) → AreUpTo limit earlier → AreSince limit self.old.slots) → StandsFor K.eq (begins ∷ earlier) self.new }
+        ensures kept { self.new ≡ record { table = record { room = self.old.table.room; capacity = capacity; rows = [] }; slots = slots_after 0 (replicate 32 None) now.now; network_inserts = 0; application_inserts = 0 } }
+        ensures slots { protocols self.new.slots ≡ now.now }
+        ensures stands { (earlier : List (Event K NetworkCounts)) → StandsFor K.eq (begins ∷ earlier) self.new }
     {
         self.rows.reset(capacity);
+        self.slots = [None; 32];
+        retune_all(&mut self.slots, now, 0);
         self.network_inserts = 0;
         self.application_inserts = 0;
+    }
+
+    // What is kept of the network row of a key.
+    fn find_network(&self, key: &K) -> Option<Counted<NetworkCounts>>
+        ensures { result ≡ network_in (row_of K.eq key.now self.now.table.rows) }
+    {
+        match self.rows.get(key) {
+            Some(row) => match row.created {
+                Some(created) => Some(Counted {
+                    created,
+                    sums: row.sums,
+                }),
+                None => None,
+            },
+            None => None,
+        }
+    }
+
+    // What is kept of the application row of a key and a protocol.
+    fn find_application(&self, key: &K, protocol: u32) -> Option<Counted<Traffic>>
+        ensures { result ≡ application_in_row self.now.slots protocol (row_of K.eq key.now self.now.table.rows) }
+    {
+        match self.rows.get(key) {
+            Some(row) => show_application(&self.slots, &row.applications, protocol),
+            None => None,
+        }
+    }
+
+    /// What the network row of a key shows. None where it has none.
+    pub fn network(&self, key: &K) -> Option<Counted<NetworkCounts>>
+        ensures { (events : List (Event K NetworkCounts)) → AreTuned (protocols self.now.slots) events → StandsFor K.eq events self.now
+            → result ≡ network_row K.eq self.now.table.capacity key.now events }
+    {
+        self.find_network(key)
+    }
+
+    /// What the application row of a key and a protocol shows. None where there is none.
+    pub fn application(&self, key: &K, protocol: u32) -> Option<Counted<Traffic>>
+        ensures { (events : List (Event K NetworkCounts)) → AreTuned (protocols self.now.slots) events → StandsFor K.eq events self.now
+            → result ≡ application_row K.eq self.now.table.capacity key.now protocol events }
+    {
+        self.find_application(key, protocol)
     }
 
     // The least protocol above another of which the row of a key has an application row at a mark.

@@ -1,12 +1,14 @@
-// The next application row of a network row, by mark and protocol.
+// The application rows of a network row, by protocol and by mark.
 
 ghost use Rattle.std.specs.Prelude.{◌≡◌, ℕ, ◌<◌, ◌≤◌, ◌^◌, length, IfSome, is_some};
 ghost use Rattle.std.specs.Ordering.{nat_cmp};
 ghost use Rattle.rm_layers.specs.Marks.{IsLeast, IsAboveName};
-ghost use Rattle.rm_layers.specs.Applications.{used};
+ghost use Rattle.rm_layers.specs.Applications.{used, is_in, application_at};
 ghost use Rattle.rm_upper.specs.Walk.{IsMarked, marked_at, better};
-ghost use Rattle.rm_upper.specs.Shown.{shown, shown_all};
+ghost use Rattle.rm_upper.specs.Shown.{shown, shown_all, protocol_of, protocols};
+ghost use Rattle.rm_upper.specs.Cells.{counted};
 
+use crate::counts::{Counted, Traffic};
 use crate::slots::{KeptApplication, Slot};
 
 // The protocol of a slot whose application row stands at a mark.
@@ -65,7 +67,11 @@ pub(crate) fn next_protocol(
 {
     let mut best = None;
     for place in 0..slots.len() {
-        best = better(from, marked(&slots[place], &applications[place], mark), best);
+        best = better(
+            from,
+            marked(&slots[place], &applications[place], mark),
+            best,
+        );
     }
     best
 }
@@ -99,4 +105,53 @@ pub(crate) fn count_applications(
         }
     }
     count
+}
+
+// Whether a protocol is in a slot.
+fn is_in(protocol: u32, slot: &Option<Slot>) -> bool
+    ensures { result ≡ is_in protocol (protocol_of slot.now) }
+{
+    match slot {
+        None => false,
+        Some(slot) => protocol == slot.protocol,
+    }
+}
+
+// What the application row in a slot shows.
+fn show(slot: &Option<Slot>, kept: &Option<KeptApplication>) -> Option<Counted<Traffic>>
+    ensures { result ≡ counted (shown slot.now kept.now) }
+{
+    match slot {
+        None => None,
+        Some(slot) => match kept {
+            None => None,
+            Some(kept) => {
+                if slot.since <= kept.stamp {
+                    Some(Counted {
+                        created: kept.created,
+                        sums: kept.sums,
+                    })
+                } else {
+                    None
+                }
+            }
+        },
+    }
+}
+
+/// What the application row of a protocol shows. None where there is none.
+pub(crate) fn show_application(
+    slots: &[Option<Slot>],
+    applications: &[Option<KeptApplication>],
+    protocol: u32,
+) -> Option<Counted<Traffic>>
+    requires { length slots.now ≡ length applications.now }
+    ensures { result ≡ counted (application_at protocol (protocols slots.now) (shown_all slots.now applications.now)) }
+{
+    for place in 0..slots.len() {
+        if is_in(protocol, &slots[place]) {
+            return show(&slots[place], &applications[place]);
+        }
+    }
+    None
 }

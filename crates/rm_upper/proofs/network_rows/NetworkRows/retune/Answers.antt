@@ -4,7 +4,7 @@ use Rattle.rm_layers.specs.Upper.{AreTuned}
 use Rattle.rm_layers.specs.Turning.{IsChange}
 use Rattle.rm_upper.specs.Shown.{protocols}
 use Rattle.rm_upper.specs.Standing.{Layered, StandsFor}
-use Rattle.rm_upper.proofs.StandingLemmas.{stands-retuned}
+use Rattle.rm_upper.proofs.StandingLemmas.{protocols-after, stands-retuned}
 use Rattle.rm_upper.proofs.network_rows.NetworkRows.retune.Goals as goal
 
 pub returns-clause-stands : goal.returns-clause-stands
@@ -18,3 +18,9 @@ returns-clause-stands g c = λ ts r up before after change stands.
     (subst (λ (x : Layered g.row.K.Denot). AreTuned (protocols x.slots) r) (sym seen) before) after
     (subst (λ (x : Layered g.row.K.Denot). IsChange c.args.stamp ts r (protocols x.slots) c.args.now.now) (sym seen) change)
     (subst (StandsFor g.K.PartialEq.eq r) (sym seen) stands))
+
+pub returns-clause-slots : goal.returns-clause-slots
+returns-clause-slots g c =
+    let long : length c.self.inside.slots ≡ 32 = c.self.ranges.1.0.1.0.1 in
+    let many : length c.args.now.now ≡ 32 = c.told-now in
+    rw c.retune_all.ensures (protocols-after c.args.stamp c.self.inside.slots c.args.now.now (long ∙ sym many))

@@ -1,0 +1,12 @@
+use Rattle.std.proofs.Common.{◌≡◌, length, replicate, None, refl, sym, ◌∙◌}
+use Rattle.rm_evicting.proofs.Keys.{exact_key}
+use Rattle.rm_upper.proofs.StandingLemmas.{protocols-after, stands-first}
+use Rattle.rm_upper.proofs.network_rows.NetworkRows.begin.Goals as goal
+
+pub returns-clause-slots : goal.returns-clause-slots
+returns-clause-slots g c = rw c.retune_all.ensures (protocols-after 0 (replicate 32 None) c.args.now.now (sym c.told-now))
+
+pub returns-clause-stands : goal.returns-clause-stands
+returns-clause-stands g c = λ r.
+    let exact = exact_key g.K.PartialEq.eq g.K.Ord.cmp g.met.K.Eq.laws g.met.K.Ord.matches_eq g.met.K.Key.exact in
+    rw (c.reset.ensures, c.retune_all.ensures) (stands-first g.K.PartialEq.eq exact c.self.inside.rows.room c.args.capacity r c.args.now.now)
