@@ -1,4 +1,6 @@
-use crate::{Counted, LayerTable, NetworkCounts, NetworkRows, Traffic};
+ghost use Rattle.std.specs.Prelude.{◌≡◌, ℕ, ◌+◌, ◌<◌, ◌≤◌, ◌^◌};
+
+use crate::{Counted, LayerTable, NetworkCounts, Traffic};
 use std::test::*;
 
 const UDP: u32 = 6;
@@ -31,17 +33,17 @@ fn host(last: u8) -> [u8; 4] {
     [10, 0, 0, last]
 }
 
-// The n-th frame, of 64 octets.
-fn frame(
-    rows: &mut NetworkRows<[u8; 4]>,
-    n: u64,
-    tick: u32,
-    source: u8,
-    destination: u8,
-    path: &[u32],
-) {
-    rows.refer(host(source), path, n + n, tick, &out(64));
-    rows.refer(host(destination), path, n + n + 1, tick, &back(64));
+// The n-th frame, of 64 octets, out of its source and back into its destination.
+fn frame(table: &mut LayerTable<[u8; 4]>, n: u64, tick: u32, ends: (u8, u8), path: &[u32])
+    requires next { table.old.next ≤ n + n }
+    requires latest { table.old.latest ≤ tick }
+    requires fits { n < 2 ^ 32 }
+    ensures next { table.new.next ≡ n + n + 2 }
+    ensures latest { table.new.latest ≡ tick }
+    ensures room { table.new.layered.table.room ≡ table.old.layered.table.room }
+{
+    table.name(host(ends.0), path, n + n, tick, &out(64));
+    table.name(host(ends.1), path, n + n + 1, tick, &back(64));
 }
 
 // Udp and domain in slots.
@@ -54,12 +56,11 @@ fn both() -> [Option<u32>; 32] {
 
 #[test]
 fn walks_go_by_mark(rt: HostRuntime) -> Result<(), Fail> {
-    let mut rows: NetworkRows<[u8; 4]> = NetworkRows::new(rt.alloc(), 1024)?;
-    let mut slots = both();
-    rows.begin(1024, &slots);
-    frame(&mut rows, 0, 100, 1, 2, &[UDP]);
-    frame(&mut rows, 1, 150, 3, 4, &[UDP, DOMAIN]);
-    assert_eq!(rt; rows.network_after(100, None), Some((100, host(1))));
+    let mut table: LayerTable<[u8; 4]> = LayerTable::new(rt.alloc(), 1024)?;
+    table.begin(1024, &both(), true);
+    frame(&mut table, 0, 100, (1, 2), &[UDP]);
+    frame(&mut table, 1, 150, (3, 4), &[UDP, DOMAIN]);
+    let rows = table.rows();
     assert_eq!(rt;
         rows.network_after(100, Some(host(1))),
         Some((100, host(2)))
@@ -69,11 +70,6 @@ fn walks_go_by_mark(rt: HostRuntime) -> Result<(), Fail> {
         Some((101, host(3)))
     );
     assert_eq!(rt; rows.network_after(150, Some(host(4))), None);
-    assert_eq!(rt; rows.application_after(0, None), Some((0, (host(1), UDP))));
-    assert_eq!(rt;
-        rows.application_after(0, Some((host(3), None))),
-        Some((0, (host(3), UDP)))
-    );
     assert_eq!(rt;
         rows.application_after(0, Some((host(3), Some(UDP)))),
         Some((0, (host(3), DOMAIN)))
@@ -86,63 +82,39 @@ fn walks_go_by_mark(rt: HostRuntime) -> Result<(), Fail> {
         rows.application_after(150, Some((host(4), Some(DOMAIN)))),
         None
     );
-    // udp is turned off and on: its rows are gone until a frame comes
-    slots[5] = None;
-    rows.retune(&slots, 4);
-    slots[5] = Some(UDP);
-    rows.retune(&slots, 4);
-    assert_eq!(rt;
-        rows.application_after(0, None),
-        Some((0, (host(3), DOMAIN)))
-    );
-    assert_eq!(rt; rows.application_deletes(), 4);
-    frame(&mut rows, 2, 200, 1, 2, &[UDP]);
-    assert_eq!(rt; rows.application_after(0, None), Some((0, (host(1), UDP))));
-    assert_eq!(rt;
-        rows.application_after(151, None),
-        Some((151, (host(1), UDP)))
-    );
+    Ok(())
+}
+
+#[test]
+fn a_protocol_goes_off_and_on(rt: HostRuntime) -> Result<(), Fail> {
+    let mut table: LayerTable<[u8; 4]> = LayerTable::new(rt.alloc(), 1024)?;
+    table.begin(1024, &both(), true);
+    frame(&mut table, 0, 100, (1, 2), &[UDP]);
+    table.retune(&[None; 32], 2);
+    table.retune(&both(), 2);
+    assert_eq!(rt; table.rows().application_after(0, None), None);
+    assert_eq!(rt; table.rows().application_deletes(), 2);
+    frame(&mut table, 1, 200, (1, 2), &[UDP]);
     let shown = Counted {
         created: 200,
         sums: out(64).traffic,
     };
-    assert_eq!(rt; rows.application(&host(1), UDP), Some(shown));
-    assert_eq!(rt; rows.application(&host(1), DOMAIN), None);
-    let mut sums = out(64);
-    sums.add(&out(64));
-    assert_eq!(rt;
-        rows.network(&host(1)),
-        Some(Counted { created: 100, sums })
-    );
-    assert_eq!(rt; rows.network(&host(5)), None);
+    assert_eq!(rt; table.rows().application(&host(1), UDP), Some(shown));
+    assert_eq!(rt; table.rows().application(&host(1), DOMAIN), None);
     Ok(())
 }
 
 #[test]
 fn entries_are_counted(rt: HostRuntime) -> Result<(), Fail> {
-    // room for one, and one frame
-    let mut rows: NetworkRows<[u8; 4]> = NetworkRows::new(rt.alloc(), 1024)?;
-    rows.begin(1, &both());
-    frame(&mut rows, 0, 100, 1, 2, &[]);
-    assert_eq!(rt; rows.network_inserts(), 2);
-    assert_eq!(rt; rows.network_deletes(), 1);
-    assert_eq!(rt; rows.network_after(0, None), Some((0, host(2))));
-    assert_eq!(rt; rows.network_after(100, Some(host(2))), None);
-    // room for two, and three frames
-    rows.begin(2, &both());
-    frame(&mut rows, 0, 100, 1, 2, &[UDP]);
-    frame(&mut rows, 1, 200, 3, 2, &[UDP]);
-    frame(&mut rows, 2, 300, 1, 3, &[UDP]);
-    assert_eq!(rt; rows.network_inserts(), 5);
-    assert_eq!(rt; rows.network_deletes(), 3);
-    assert_eq!(rt; rows.application_inserts(), 5);
-    assert_eq!(rt; rows.application_deletes(), 3);
-    // a frame from an address to itself
-    rows.begin(2, &both());
-    frame(&mut rows, 0, 100, 1, 1, &[UDP, DOMAIN]);
-    assert_eq!(rt; rows.network_inserts(), 1);
-    assert_eq!(rt; rows.application_inserts(), 2);
-    assert_eq!(rt; rows.network_deletes(), 0);
+    let mut table: LayerTable<[u8; 4]> = LayerTable::new(rt.alloc(), 1024)?;
+    table.begin(2, &both(), true);
+    frame(&mut table, 0, 100, (1, 2), &[UDP]);
+    frame(&mut table, 1, 200, (3, 2), &[UDP]);
+    frame(&mut table, 2, 300, (1, 3), &[UDP]);
+    assert_eq!(rt; table.rows().network_inserts(), 5);
+    assert_eq!(rt; table.rows().network_deletes(), 3);
+    assert_eq!(rt; table.rows().application_inserts(), 5);
+    assert_eq!(rt; table.rows().application_deletes(), 3);
     Ok(())
 }
 
@@ -150,20 +122,15 @@ fn entries_are_counted(rt: HostRuntime) -> Result<(), Fail> {
 fn rows_begin_anew_with_ip(rt: HostRuntime) -> Result<(), Fail> {
     let mut table: LayerTable<[u8; 4]> = LayerTable::new(rt.alloc(), 1024)?;
     table.begin(1024, &both(), true);
-    table.name(host(1), &[UDP], 0, 100, &out(64));
-    table.name(host(2), &[UDP], 1, 100, &back(64));
+    frame(&mut table, 0, 100, (1, 2), &[UDP]);
     table.turn_ip(false);
-    assert_eq!(rt; table.rows().network_after(0, None), None);
-    assert_eq!(rt; table.rows().network_deletes(), 2);
-    assert_eq!(rt; table.rows().application_deletes(), 2);
-    table.name(host(1), &[UDP], 2, 350, &out(64));
+    frame(&mut table, 1, 350, (1, 2), &[UDP]);
     assert_eq!(rt; table.rows().network_inserts(), 2);
-    table.turn_ip(true);
-    table.name(host(1), &[UDP], 4, 500, &out(64));
-    table.name(host(2), &[UDP], 5, 500, &back(64));
-    assert_eq!(rt; table.rows().network_inserts(), 4);
     assert_eq!(rt; table.rows().network_deletes(), 2);
-    assert_eq!(rt; table.rows().application_inserts(), 4);
+    table.turn_ip(true);
+    frame(&mut table, 2, 500, (1, 2), &[UDP]);
+    assert_eq!(rt; table.rows().network_inserts(), 4);
+    assert_eq!(rt; table.rows().application_deletes(), 2);
     let shown = Counted {
         created: 500,
         sums: out(64),

@@ -1,0 +1,4 @@
+pub mod OnLemmas
+pub mod SteadyLemmas
+pub mod LocalLemmas
+pub mod StayLemmas

@@ -1,0 +1,9 @@
+//! Which protocols above ip the tables of hosts, or of pairs of hosts, count (RFC 2021, protocolDirHostConfig and
+//! protocolDirMatrixConfig), by the directory of protocols, and their slots.
+#![tactic(auto)]
+
+mod laws;
+mod slots;
+
+pub use laws::{moved, steady, tuned};
+pub use slots::{TableKind, slots_on};
