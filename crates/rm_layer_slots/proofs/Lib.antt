@@ -2,3 +2,4 @@ pub mod OnLemmas
 pub mod SteadyLemmas
 pub mod LocalLemmas
 pub mod StayLemmas
+pub mod FillLemmas

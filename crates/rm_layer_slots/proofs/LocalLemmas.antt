@@ -1,5 +1,5 @@
 -- No two protocols that are active have one local index, also where one was active before an act and the other is after it.
-use Rattle.std.proofs.Common.{◌≡◌, ℕ, ◌+◌, ◌<◌, ◌≤◌, ◌^◌, Bool, true, false, cond, not, ◌&&◌, List, [], ◌∷◌, length, nat_eq, nat_lt, Option, Some, None, refl, sym, ap, ◌∙◌, arith, subst, inl, inr}
+use Rattle.std.proofs.Common.{◌≡◌, ℕ, zero, suc, ◌+◌, ◌<◌, ◌≤◌, ◌^◌, Bool, true, false, cond, not, ◌&&◌, List, [], ◌∷◌, length, nat_eq, nat_lt, Option, Some, None, refl, sym, ap, ◌∙◌, arith, subst, inl, inr}
 use Rattle.std.specs.Prelude.{find, unwrap_or, if◌then◌else◌}
 use Rattle.std.specs.List.{position_from}
 use Rattle.std.specs.Option.{option_map_or, is_some}
@@ -19,7 +19,6 @@ use Rattle.rm_dir.specs.BuiltIn.{BuiltIn, built_in_rows, is_built_in, built_in_l
 use Rattle.rm_dir.specs.DirectoryIndex.{index_with, may_have_row, identified, is_directory_row, row_protocol, protocol_of, directory_index, of_number, row_of, is_numbered, number_within, protocol_is}
 use Rattle.rm_dir.specs.ProtocolDir.{directory_state}
 use Rattle.rm_dir.specs.LocalIndexes.{makes, count_made_below, greatest_given, local_index}
-use Rattle.rm_dir.proofs.Counts.{count_next, count_within}
 
 module _ {X : Type 0} where
   between : (test : X → Bool) (k m : ℕ) (xs : List X) → position_from test k xs ≡ Some m → (k ≤ m) × (m < k + length xs)
@@ -49,6 +48,25 @@ module _ {X : Type 0} where
     | inl y ↦ (k, rw y refl)
     | inr y ↦ let more = has_place test (k + 1) xs (rw y at i) in (more.0, rw y more.1)
   ]
+
+-- a number below the greater of two bounds that is counted makes a difference
+count_within : (f : ℕ → Bool) (low high : ℕ) → low ≤ high → count_below f low ≤ count_below f high
+unfolding count_below
+count_within f low zero le = let none : low ≡ 0 = omega arith in rw none (omega arith)
+count_within f low (suc high) le = elim (cases_Bool (nat_eq low (suc high))) [
+  | inl e ↦ let same : low ≡ suc high = grind (arith, nat_tests, e) in rw same (omega arith)
+  | inr e ↦
+      let less : low ≤ high = grind (arith, nat_tests, e) in
+      let within : count_below f low ≤ count_below f high = count_within f low high less in
+      omega arith
+]
+
+counted : (f : ℕ → Bool) (n : ℕ) → f n ≡ true → count_below f (suc n) ≡ count_below f n + 1
+unfolding count_below
+counted f n e = let more : ◌≡◌ {A = ℕ} (cond (f n) 1 0) 1 = ap (λ b. cond b 1 0) e in omega (arith, more)
+
+count_next : (f : ℕ → Bool) (n : ℕ) → f n ≡ true → count_below f (n + 1) ≡ count_below f n + 1
+count_next f n e = ap (count_below f) (let one : n + 1 ≡ suc n = omega arith in one) ∙ counted f n e
 
 abbrev is_there : Journal → ℕ → Bool
 is_there journal n = not (is_absent (directory_state journal (directory_index n)))
@@ -92,7 +110,7 @@ module _ (act : Act) (earlier : Journal) where
 
   more_new : (n m : ℕ) → n < m → is_new n ≡ true → count_below is_new n < count_below is_new m
   more_new n m lt new =
-      let next : count_below is_new (n + 1) ≡ count_below is_new n + 1 = count_next is_new n ∙ ap (λ b. count_below is_new n + cond b 1 0) new in
+      let next : count_below is_new (n + 1) ≡ count_below is_new n + 1 = count_next is_new n new in
       let within : count_below is_new (n + 1) ≤ count_below is_new m = count_within is_new (n + 1) m (omega arith) in
       omega arith
 
@@ -126,16 +144,16 @@ given_once act earlier before i j lt below row other there was same = elim (case
 ]
 
 pub locals_apart : (journal : Journal) (i j : ℕ) → i < 2 ^ 32 → j < 2 ^ 32 → is_directory_row i ≡ true → is_directory_row j ≡ true → is_there journal i ≡ true → is_there journal j ≡ true → local journal i ≡ local journal j → i ≡ j
-locals_apart [] i j lt below row other there then same =
+locals_apart [] i j lt below row other there after same =
     let one = first_place i row there in
-    let two = first_place j other then in
+    let two = first_place j other after in
     let both = passes_both (λ (row : BuiltIn). is_same row.protocol (identified i)) (λ (row : BuiltIn). is_same row.protocol (identified j)) 1 one.0 built_in_rows one.1
-        (two.1 ∙ ap (λ m. Some m) (sym two.2 ∙ sym same ∙ one.2)) in
+    (two.1 ∙ ap (λ m. Some m) (sym two.2 ∙ sym same ∙ one.2)) in
     sym (is_numbered i row).0 ∙ ap number_of (sym (same_is both.0.protocol (identified i) both.1) ∙ same_is both.0.protocol (identified j) both.2) ∙ (is_numbered j other).0
-locals_apart (act ∷ earlier) i j lt below row other there then same = elim (cases_Bool (is_new act earlier j)) [
-  | inr f ↦ given_once act earlier (locals_apart earlier) i j lt below row other there (old_there act earlier j f then) (same ∙ old_local act earlier j f)
+locals_apart (act ∷ earlier) i j lt below row other there after same = elim (cases_Bool (is_new act earlier j)) [
+  | inr f ↦ given_once act earlier (locals_apart earlier) i j lt below row other there (old_there act earlier j f after) (same ∙ old_local act earlier j f)
   | inl f ↦ elim (cases_Bool (is_new act earlier i)) [
-    | inr e ↦ sym (given_once act earlier (locals_apart earlier) j i below lt other row then (old_there act earlier i e there) (sym same ∙ old_local act earlier i e))
+    | inr e ↦ sym (given_once act earlier (locals_apart earlier) j i below lt other row after (old_there act earlier i e there) (sym same ∙ old_local act earlier i e))
     | inl e ↦
         let first : local (act ∷ earlier) i ≡ greatest_given earlier + 1 + count_below (is_new act earlier) i = new_local act earlier i row e in
         let second : local (act ∷ earlier) j ≡ greatest_given earlier + 1 + count_below (is_new act earlier) j = new_local act earlier j other f in
@@ -201,7 +219,7 @@ active_apart journal one other p q is also same =
     let first = has_row journal one p is in
     let second = has_row journal other q also in
     one_number one other first.row (can_have journal one p is) (can_have journal other q also)
-        (locals_apart journal (number_of one) (number_of other) first.below second.below first.row second.row first.there second.there (sym first.local_is ∙ same ∙ second.local_is))
+    (locals_apart journal (number_of one) (number_of other) first.below second.below first.row second.row first.there second.there (sym first.local_is ∙ same ∙ second.local_is))
 
 -- after an act, and before it
 pub active_since : (act : Act) (earlier : Journal) (one other : ProtocolIdentifier) (p q : Protocol) → active_protocol (act ∷ earlier) one ≡ Some p → active_protocol earlier other ≡ Some q → p.local ≡ q.local → one ≡ other
@@ -209,4 +227,4 @@ active_since act earlier one other p q is also same =
     let first = has_row (act ∷ earlier) one p is in
     let second = has_row earlier other q also in
     one_number one other first.row (can_have (act ∷ earlier) one p is) (can_have earlier other q also)
-        (given_once act earlier (locals_apart earlier) (number_of one) (number_of other) first.below second.below first.row second.row first.there second.there (sym first.local_is ∙ same ∙ second.local_is))
+    (given_once act earlier (locals_apart earlier) (number_of one) (number_of other) first.below second.below first.row second.row first.there second.there (sym first.local_is ∙ same ∙ second.local_is))

@@ -59,7 +59,7 @@ module _ (journal : Journal) where
       | inl e ↦
           let same : number_of identifier ≡ n = grind (arith, nat_tests, e) in
           let here : option_and_then (active_protocol journal) (row_protocol n) ≡ Some protocol =
-              ap (λ m. option_and_then (active_protocol journal) (row_protocol m)) (sym same) ∙ ap (option_and_then (active_protocol journal)) (by_number identifier (active_row identifier protocol is)) ∙ is in
+          ap (λ m. option_and_then (active_protocol journal) (row_protocol m)) (sym same) ∙ ap (option_and_then (active_protocol journal)) (by_number identifier (active_row identifier protocol is)) ∙ is in
           rw (here, on, itself protocol.local) refl
       | inr e ↦
           let less : number_of identifier < n = grind (arith, nat_tests, e) in

@@ -47,22 +47,20 @@ module _ (kind : TableKind) (journal : Journal) where
   pub apart_on : (slots : List (Option Protocol)) → AreKnown slots → AreLater slots → AreApart (slots_on kind slots)
   apart_on [] known later = tt
   apart_on (first ∷ slots) known later = by_first first refl
+      (apart_on slots (λ slot protocol here. known (suc slot) protocol here) (λ slot other one another here there same. let places : suc slot ≡ suc other = later (suc slot) (suc other) one another here there same in omega (arith, places)))
     where
-      rest : AreApart (slots_on kind slots)
-      rest = apart_on slots (λ slot protocol here. known (suc slot) protocol here) (λ slot other one another here there same. let places : suc slot ≡ suc other = later (suc slot) (suc other) one another here there same in omega (arith, places))
-
-      by_first : (o : Option Protocol) → first ≡ o → AreApart (local_on kind o ∷ slots_on kind slots)
-      by_first None e = rest
-      by_first (Some protocol) e = elim (cases_Bool (is_counted kind protocol)) [
+      by_first : (o : Option Protocol) → first ≡ o → AreApart (slots_on kind slots) → AreApart (local_on kind o ∷ slots_on kind slots)
+      by_first None e rest = rest
+      by_first (Some protocol) e rest = elim (cases_Bool (is_counted kind protocol)) [
         | inr off ↦ rw off rest
-        | inl on ↦ rw on (off_later, rest)
-      ]
-        where
-          off_later : has_slot protocol.local (slots_on kind slots) ≡ false
-          off_later = elim (cases_Bool (has_slot protocol.local (slots_on kind slots))) [
+        | inl on ↦ rw on (
+          elim (cases_Bool (has_slot protocol.local (slots_on kind slots))) [
             | inl i ↦ absurd (not_again protocol slots (subst (λ o. AreKnown (o ∷ slots)) e known) (subst (λ o. AreLater (o ∷ slots)) e later) i)
             | inr o ↦ o
-          ]
+          ],
+          rest,
+        )
+      ]
 
 itself : (n : ℕ) → nat_eq n n ≡ true
 itself n = grind (arith, nat_tests)
@@ -76,14 +74,11 @@ from_each : {K G : Type 0} (kind : TableKind) (turnings : List (Event K G)) (old
 from_each kind turnings [] [] long each = tt
 from_each kind turnings [] (o ∷ new) long each = absurd (omega (arith, long))
 from_each kind turnings (o ∷ old) [] long each = absurd (omega (arith, long))
-from_each kind turnings (o ∷ old) (n ∷ new) long each = by_first (local_on kind n) (each 0)
+from_each kind turnings (o ∷ old) (n ∷ new) long each = by_first (local_on kind n) (each 0) (from_each kind turnings old new (omega (arith, long)) (λ slot. each (suc slot)))
   where
-    rest : AreNew turnings (slots_on kind old) (slots_on kind new)
-    rest = from_each kind turnings old new (omega (arith, long)) (λ slot. each (suc slot))
-
-    by_first : (first : Option ℕ) → IsNew turnings (local_on kind o) first → AreNew turnings (local_on kind o ∷ slots_on kind old) (first ∷ slots_on kind new)
-    by_first None is = rest
-    by_first (Some p) is = (is, rest)
+    by_first : (first : Option ℕ) → IsNew turnings (local_on kind o) first → AreNew turnings (slots_on kind old) (slots_on kind new) → AreNew turnings (local_on kind o ∷ slots_on kind old) (first ∷ slots_on kind new)
+    by_first None is rest = rest
+    by_first (Some p) is rest = (is, rest)
 
 unlike : (p : ℕ) (ps : List ℕ) {K G : Type 0} (side : Side K G) (act : Act) (earlier : Journal) → list_any (nat_eq p) ps ≡ true → is_alike (side.is_on p earlier) (side.is_on p (act ∷ earlier)) ≡ false
     → is_turned p (turned_of side ps act earlier) ≡ true
@@ -120,8 +115,8 @@ module _ {K G : Type 0} (kind : TableKind) (side : Side K G) (act : Act) (earlie
         let same : protocol.identifier ≡ from.identifier = active_since act earlier protocol.identifier from.identifier protocol from.protocol known from.active from.local_is in
         let place = some_slot old from.identifier (was.each from.identifier ∙ ap is_some from.active) in
         let still : is_active_after (act ∷ earlier) from.identifier ≡ true = ap (is_active_after (act ∷ earlier)) (sym same) ∙ ap is_some known in
-        let then : identifier_in new place.0 ≡ Some from.identifier = stay place.0 from.identifier place.1 still in
-        let places : place.0 ≡ slot = apart place.0 slot from.identifier protocol.identifier then (named new slot protocol here) (ap number_of (sym same)) in
+        let after : identifier_in new place.0 ≡ Some from.identifier = stay place.0 from.identifier place.1 still in
+        let places : place.0 ≡ slot = apart place.0 slot from.identifier protocol.identifier after (named new slot protocol here) (ap number_of (sym same)) in
         let there = in_its_slot kind old place.0 from.identifier place.1 in
         let both : Some there.0 ≡ Some from.protocol = sym (was.known place.0 there.0 there.1) ∙ ap (active_protocol earlier) there.2 ∙ from.active in
         let it : protocol_in old slot ≡ Some from.protocol = ap (protocol_in old) (sym places) ∙ there.1 ∙ both in

@@ -4,9 +4,7 @@ ghost use Rattle.std.specs.Prelude.{◌≡◌, ℕ, List, [], ◌∷◌, length,
 ghost use Rattle.rm_model.specs.Journal.{Act, Journal};
 ghost use Rattle.rm_path.specs.declared.protocol.Protocol.{Protocol};
 ghost use Rattle.rm_path.specs.Slots.{HaveSlots};
-ghost use Rattle.rm_dir.specs.declared.directory.Directory.{Directory};
-ghost use Rattle.rm_dir.specs.Group.{Stands};
-ghost use Rattle.rm_dir.specs.Paths.{AreActiveAfter, DoStay};
+ghost use Rattle.rm_dir.specs.Paths.{AreActiveAfter};
 ghost use Rattle.rm_layers.specs.Applications.{has_slot, AreApart};
 ghost use Rattle.rm_layers.specs.Turning.{AreNew};
 ghost use Rattle.rm_layer_events.specs.Side.{Side, IsSteady, turned};
@@ -26,11 +24,9 @@ pub fn steady()
     ensures above { (kind : TableKind) (local : ℕ) (act : Act) (earlier : Journal) → IsSteady act → is_on kind local (act ∷ earlier) ≡ is_on kind local earlier }
 {}
 
-/// The directory keeps protocols that stay active in their slots; so a slot that has another protocol that is on than before has one that
-/// was turned on.
+/// Where protocols that stay active keep their slots, a slot that has another protocol that is on than before has one that was turned.
 pub fn moved<K, G>()
-    ensures kept { (directory : Directory) (journal : Journal) (before after : List (Option Protocol)) → Stands directory journal → DoStay directory.rows before after → KeepSlots journal before after }
-    ensures new { (kind : TableKind) (side : Side K G) (act : Act) (earlier : Journal) (before after : List (Option Protocol)) → CountsBy kind side
+    ensures { (kind : TableKind) (side : Side K G) (act : Act) (earlier : Journal) (before after : List (Option Protocol)) → CountsBy kind side
         → AreActiveAfter earlier before → AreActiveAfter (act ∷ earlier) after → HaveSlots before → HaveSlots after → KeepSlots (act ∷ earlier) before after
         → AreNew (turned side act earlier) (slots_on kind before) (slots_on kind after) }
 {}

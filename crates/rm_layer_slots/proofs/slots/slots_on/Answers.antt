@@ -1,0 +1,15 @@
+use Rattle.std.proofs.Common.{◌≡◌, ◌<◌, ℕ, length, sym, ◌∙◌, arith}
+use Rattle.rm_layer_slots.proofs.FillLemmas.{next_on, all_on}
+use Rattle.rm_layer_slots.proofs.slots.slots_on.Goals as goal
+
+pub loop-slot-preserved : goal.loop-slot-preserved
+loop-slot-preserved c = record {
+  on = rw (c.local_on.ensures, c.get.ensures.value) (next_on c.args.kind c.loop-slot.slot c.args.protocols.now c.loop-slot.on c.loop-slot-test.true c.get.ensures.count c.loop-slot.invariant.on);
+  count = λ some. c.get.ensures.count;
+}
+
+pub returns : goal.returns
+returns c =
+    let end : c.loop-slot.slot ≡ 32 = omega (arith, c.loop-slot-test.false, c.loop-slot.auto.slot-end) in
+    let some : 0 < c.loop-slot.slot = omega (arith, end) in
+    c.loop-slot.invariant.on ∙ all_on c.args.kind c.loop-slot.slot c.args.protocols.now end (c.loop-slot.invariant.count some)
