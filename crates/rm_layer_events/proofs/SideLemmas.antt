@@ -12,7 +12,7 @@ use Rattle.rm_layers.specs.Applications.{Slots}
 use Rattle.rm_layers.specs.Upper.{AreTurnings}
 use Rattle.rm_layers.specs.Turning.{is_turned, AreNew, IsChange}
 use Rattle.rm_layers.proofs.Made.{nat_exact}
-use Rattle.rm_layer_events.specs.Side.{Reference, Side, next_stamp, is_alike, named, turned_of, turned, turned_ip, begun, first_turned, events, IsSide}
+use Rattle.rm_layer_events.specs.Side.{Reference, Side, next_stamp, is_alike, named, turned_of, turned, turned_ip, begun, first_turned, events, besides, IsSide}
 
 alike : (a b : Bool) → is_alike a b ≡ true → b ≡ a
 alike true b e = e
@@ -151,11 +151,7 @@ module _ {K G : Type 0} (side : Side K G) (is : IsSide side) where
   on_since-ip : (p : ℕ) (act : Act) (earlier : Journal) (r : List (Event K G)) → on_since p (turned_ip side act earlier ++ r) ≡ on_since p r
   on_since-ip p act earlier r = elim (cases_Bool (is_alike (side.is_ip_on earlier) (side.is_ip_on (act ∷ earlier)))) [ inl e ↦ rw e refl | inr e ↦ rw e refl ]
 
-  -- the events after a Set has begun the row and turned ip
-  abbrev after_others : Act → Journal → List (Event K G)
-  after_others act earlier = turned_ip side act earlier ++ (begun side act earlier ++ events side earlier)
-
-  others_on : (p : ℕ) (act : Act) (earlier : Journal) → is_some (on_since p (events side earlier)) ≡ side.is_on p earlier → is_some (on_since p (after_others act earlier)) ≡ side.is_on p earlier
+  others_on : (p : ℕ) (act : Act) (earlier : Journal) → is_some (on_since p (events side earlier)) ≡ side.is_on p earlier → is_some (on_since p (besides side act earlier)) ≡ side.is_on p earlier
   others_on p act earlier before = ap is_some (on_since-ip p act earlier (begun side act earlier ++ events side earlier) ∙ on_since-begun p act earlier (events side earlier)) ∙ before
 
   -- the protocols that are on by the events are those that are on
@@ -163,7 +159,7 @@ module _ {K G : Type 0} (side : Side K G) (is : IsSide side) where
   on_after p [] = first-on p (distinct nat_eq (side.protocols [])) ∙ any_on (distinct nat_eq (side.protocols [])) p (λ e. any-distinct nat_eq nat_exact p (side.protocols []) ∙ is.listed p [] e)
   on_after p (passes frame ∷ earlier) = ap is_some (on_since-named p (next_stamp earlier) (side.references frame earlier) (events side earlier)) ∙ on_after p earlier ∙ sym (is.steady p (passes frame) earlier tt)
   on_after p (assigns moment values ∷ earlier) =
-      set_is_on p (assigns moment values) earlier (after_others (assigns moment values) earlier) (others_on p (assigns moment values) earlier (on_after p earlier))
+      set_is_on p (assigns moment values) earlier (besides side (assigns moment values) earlier) (others_on p (assigns moment values) earlier (on_after p earlier))
   on_after p (samples moment alarm reading ∷ earlier) = on_after p earlier ∙ sym (is.steady p (samples moment alarm reading) earlier tt)
 
   ip-first : (ps : List ℕ) → is_ip_on (first_turned side ps) ≡ true
@@ -187,7 +183,7 @@ module _ {K G : Type 0} (side : Side K G) (is : IsSide side) where
   ip_after [] = ip-first (distinct nat_eq (side.protocols [])) ∙ sym is.ip_first
   ip_after (passes frame ∷ earlier) = is_ip_on-named (next_stamp earlier) (side.references frame earlier) (events side earlier) ∙ ip_after earlier ∙ sym (is.ip_steady (passes frame) earlier tt)
   ip_after (assigns moment values ∷ earlier) =
-      ip-turned (distinct nat_eq (side.protocols (assigns moment values ∷ earlier) ++ side.protocols earlier)) (assigns moment values) earlier (after_others (assigns moment values) earlier)
+      ip-turned (distinct nat_eq (side.protocols (assigns moment values ∷ earlier) ++ side.protocols earlier)) (assigns moment values) earlier (besides side (assigns moment values) earlier)
       ∙ ip-ip (assigns moment values) earlier (begun side (assigns moment values) earlier ++ events side earlier) (ip-begun (assigns moment values) earlier (events side earlier) ∙ ip_after earlier)
   ip_after (samples moment alarm reading ∷ earlier) = ip_after earlier ∙ sym (is.ip_steady (samples moment alarm reading) earlier tt)
 
@@ -215,14 +211,20 @@ module _ {K G : Type 0} (side : Side K G) (is : IsSide side) where
   rise_after (assigns moment values ∷ earlier) =
       let before = rise_after earlier in
       let others = rise-ip (next_stamp earlier) (assigns moment values) earlier (begun side (assigns moment values) earlier ++ events side earlier) (rise-begun (next_stamp earlier) (assigns moment values) earlier (events side earlier) before) in
-      turned-up_to side (assigns moment values) earlier (after_others (assigns moment values) earlier) (distinct nat_eq (side.protocols (assigns moment values ∷ earlier) ++ side.protocols earlier)) others.0 others.1
+      turned-up_to side (assigns moment values) earlier (besides side (assigns moment values) earlier) (distinct nat_eq (side.protocols (assigns moment values ∷ earlier) ++ side.protocols earlier)) others.0 others.1
   rise_after (samples moment alarm reading ∷ earlier) = rise_after earlier
 
+  -- so they are before an act turns protocols, and the protocols that are on are still those before it
+  pub besides_after : (act : Act) (earlier : Journal) → AreUpTo (next_stamp earlier) (besides side act earlier) × ((p : ℕ) → is_some (on_since p (besides side act earlier)) ≡ side.is_on p earlier)
+  besides_after act earlier =
+      let others = rise-ip (next_stamp earlier) act earlier (begun side act earlier ++ events side earlier) (rise-begun (next_stamp earlier) act earlier (events side earlier) (rise_after earlier)) in
+      (others.0, λ p. others_on p act earlier (on_after p earlier))
+
   -- what a Set turns is one change, after what else it does
-  pub one_change : (act : Act) (earlier : Journal) (old slots : Slots) → AreNew (turned side act earlier) old slots → IsChange (next_stamp earlier) (turned side act earlier) (after_others act earlier) old slots
+  pub one_change : (act : Act) (earlier : Journal) (old slots : Slots) → AreNew (turned side act earlier) old slots → IsChange (next_stamp earlier) (turned side act earlier) (besides side act earlier) old slots
   one_change act earlier old slots new = record {
-    alone = turnings side act earlier (after_others act earlier) (distinct nat_eq (side.protocols (act ∷ earlier) ++ side.protocols earlier));
-    changes = λ p i. set_is_on p act earlier (after_others act earlier) (others_on p act earlier (on_after p earlier)) ∙ turned-changes side act earlier (after_others act earlier) p (distinct nat_eq (side.protocols (act ∷ earlier) ++ side.protocols earlier)) i ∙ ap not (sym (others_on p act earlier (on_after p earlier)));
+    alone = turnings side act earlier (besides side act earlier) (distinct nat_eq (side.protocols (act ∷ earlier) ++ side.protocols earlier));
+    changes = λ p i. set_is_on p act earlier (besides side act earlier) (others_on p act earlier (on_after p earlier)) ∙ turned-changes side act earlier (besides side act earlier) p (distinct nat_eq (side.protocols (act ∷ earlier) ++ side.protocols earlier)) i ∙ ap not (sym (others_on p act earlier (on_after p earlier)));
     moved = new;
   }
 

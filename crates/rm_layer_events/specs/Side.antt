@@ -73,6 +73,10 @@ module _ {K G : Type 0} (side : Side K G) where
       turned (assigns moment values) earlier ++ (turned_ip (assigns moment values) earlier ++ (begun (assigns moment values) earlier ++ events earlier))
   events (samples moment alarm reading ∷ earlier) = events earlier
 
+  -- the events when an act has begun the row and turned ip, and is yet to turn protocols
+  abbrev pub besides : Act → Journal → List (Event K G)
+  besides act earlier = turned_ip act earlier ++ (begun act earlier ++ events earlier)
+
   -- what is so of each side: only a Set changes what is on, and a frame has two references at most
   pub record IsSide : Type 0 where
     pub few : (frame : Frame) (earlier : Journal) → length (side.references frame earlier) ≤ 2

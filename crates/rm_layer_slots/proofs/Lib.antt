@@ -3,3 +3,4 @@ pub mod SteadyLemmas
 pub mod LocalLemmas
 pub mod StayLemmas
 pub mod FillLemmas
+pub mod SideOn

@@ -1,8 +1,8 @@
 -- Which protocols above ip tables of a kind count, by the directory of protocols (RFC 2021, section 6).
-use Rattle.std.specs.Prelude.{◌≡◌, true, ℕ, zero, suc, ◌^◌, Bool, false, ◌&&◌, List, [], ◌∷◌, map, nat_eq, if◌then◌else◌, option_and_then, Option, Some, None}
+use Rattle.std.specs.Prelude.{◌≡◌, ◌≤◌, length, true, ℕ, zero, suc, ◌^◌, Bool, false, ◌&&◌, List, [], ◌∷◌, map, nat_eq, if◌then◌else◌, option_and_then, Option, Some, None}
 use Rattle.std.specs.List.{list_any}
 use Rattle.std.specs.Option.{option_map_or}
-use Rattle.rm_model.specs.Journal.{Journal}
+use Rattle.rm_model.specs.Journal.{Frame, Journal}
 use Rattle.rm_path.specs.declared.identifier.ProtocolIdentifier.{ProtocolIdentifier}
 use Rattle.rm_path.specs.declared.identifier.ProtocolIdentifier.TheVariants.{Ether}
 use Rattle.rm_path.specs.declared.protocol.Protocol.{Protocol}
@@ -59,7 +59,9 @@ abbrev pub KeepSlots : Journal → (before after : List (Option Protocol)) → T
 KeepSlots journal before after =
     (slot : ℕ) (identifier : ProtocolIdentifier) → identifier_in before slot ≡ Some identifier → is_active_after journal identifier ≡ true → identifier_in after slot ≡ Some identifier
 
--- a side has those of the protocols that are on that tables of a kind count
+-- A side has those of the protocols that are on that tables of a kind count, and ip as they do. A frame has two references at most.
 pub record CountsBy {K G : Type 0} (kind : TableKind) (side : Side K G) : Type 0 where
+  pub few : (frame : Frame) (earlier : Journal) → length (side.references frame earlier) ≤ 2
+  pub ip : (journal : Journal) → side.is_ip_on journal ≡ is_ip_on kind journal
   pub on : (local : ℕ) (journal : Journal) → side.is_on local journal ≡ is_on kind local journal
   pub locals : (journal : Journal) → side.protocols journal ≡ locals_on kind journal

@@ -4,6 +4,8 @@
 
 mod laws;
 mod slots;
+#[cfg(test)]
+mod tests;
 
-pub use laws::{moved, steady, tuned};
+pub use laws::{moved, sides, tuned};
 pub use slots::{TableKind, slots_on};

@@ -8,7 +8,6 @@ use Rattle.rm_evicting.proofs.RowLemmas.{each-push, each-weaker}
 use Rattle.rm_layers.specs.Event.{Contribution, Event, names, is_ip_on}
 use Rattle.rm_layers.proofs.EventSteps.{is_of-unnamed}
 use Rattle.rm_evicting.specs.Held.{IsExact}
-use Rattle.rm_upper.specs.declared.counts.Traffic.{Traffic}
 use Rattle.rm_upper.specs.declared.counts.NetworkCounts.{NetworkCounts}
 use Rattle.rm_upper.specs.Counts.{no_traffic, no_counts, plus, with_gain}
 use Rattle.rm_upper.specs.Shown.{protocols}

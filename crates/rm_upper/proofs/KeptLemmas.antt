@@ -1,6 +1,5 @@
 -- Slot by slot.
 use Rattle.std.proofs.Common.{◌≡◌, ℕ, ◌+◌, ◌<◌, zero, suc, Bool, cond, List, [], ◌∷◌, ◌++◌, take, drop, length, get_or, slice_set, Option, None, refl, sym, ap, ◌∙◌, arith}
-use Rattle.rm_upper.specs.declared.counts.Traffic.{Traffic}
 use Rattle.rm_upper.specs.declared.counts.NetworkCounts.{NetworkCounts}
 use Rattle.rm_upper.specs.declared.slots.Slot.{Slot}
 use Rattle.rm_upper.specs.declared.slots.KeptApplication.{KeptApplication}

@@ -13,7 +13,6 @@ use Rattle.rm_rows.specs.Table.{row_of, IsAbove, IsPairAbove, IsNextMark}
 use Rattle.rm_layers.specs.Event.{Event, span}
 use Rattle.rm_layers.specs.Marks.{IsInstance, IsAboveAt, IsNextInstance, IsAboveName, NetworkLasts, ApplicationLasts, pair_cmp}
 use Rattle.rm_layers.specs.Upper.{AreTuned}
-use Rattle.rm_upper.specs.declared.counts.Traffic.{Traffic}
 use Rattle.rm_upper.specs.declared.counts.NetworkCounts.{NetworkCounts}
 use Rattle.rm_upper.specs.declared.host_row.HostRow.{HostRow}
 use Rattle.rm_upper.specs.Shown.{protocols}

@@ -9,7 +9,7 @@ use Rattle.rm_evicting.specs.declared.Row.{Row}
 use Rattle.rm_evicting.specs.Row.{at_first, without_first, holds, is_oldest, room_made, renewed, touched, credited}
 use Rattle.rm_layers.specs.Event.{Contribution}
 use Rattle.rm_layers.specs.Network.{is_on_path}
-use Rattle.rm_layers.specs.Applications.{Application, Value, Slots, is_in, has_slot, created_with, application_with, applications_with, made_by, no_applications, blank_value, gained}
+use Rattle.rm_layers.specs.Applications.{Application, Value, is_in, has_slot, created_with, application_with, applications_with, made_by, no_applications, blank_value, gained}
 use Rattle.rm_layers.specs.Upper.{applications_before, named}
 use Rattle.rm_upper.specs.declared.counts.Traffic.{Traffic}
 use Rattle.rm_upper.specs.declared.counts.NetworkCounts.{NetworkCounts}

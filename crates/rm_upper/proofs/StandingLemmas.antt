@@ -13,7 +13,6 @@ use Rattle.rm_layers.specs.Upper.{AreTuned, IsOf, with_value, AreTurnings}
 use Rattle.rm_layers.specs.Turning.{is_turned, AreNew, IsChange}
 use Rattle.rm_layers.proofs.EventSteps.{is_of-named, is_of-retuned, is_of-turned_ip, is_of-begins}
 use Rattle.rm_layers.proofs.TurningLemmas.{change-retunes}
-use Rattle.rm_upper.specs.declared.counts.Traffic.{Traffic}
 use Rattle.rm_upper.specs.declared.counts.NetworkCounts.{NetworkCounts}
 use Rattle.rm_upper.specs.declared.slots.Slot.{Slot}
 use Rattle.rm_upper.specs.declared.slots.KeptApplication.{KeptApplication}

@@ -1,9 +1,8 @@
-use Rattle.rm_layer_slots.proofs.OnLemmas.{tuned_after}
-use Rattle.rm_layer_slots.proofs.StayLemmas.{apart_on}
+use Rattle.rm_layer_slots.proofs.SideOn.{tuned_events, tuned_besides}
 use Rattle.rm_layer_slots.proofs.laws.tuned.Goals as goal
 
 pub returns : goal.returns
-returns c = record {
-  on = λ kind journal slots active local. tuned_after kind journal slots active local;
-  apart = λ kind journal slots active have. apart_on kind journal slots active.known have.apart;
+returns g c = record {
+  after = λ kind side journal slots counts active have. tuned_events kind side counts journal slots active have;
+  besides = λ kind side act earlier slots counts active have. tuned_besides kind side counts act earlier slots active have;
 }

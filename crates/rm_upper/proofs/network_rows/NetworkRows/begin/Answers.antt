@@ -1,4 +1,4 @@
-use Rattle.std.proofs.Common.{◌≡◌, length, replicate, None, refl, sym, ◌∙◌}
+use Rattle.std.proofs.Common.{replicate, None, sym}
 use Rattle.rm_evicting.proofs.Keys.{exact_key}
 use Rattle.rm_upper.proofs.StandingLemmas.{protocols-after, stands-first}
 use Rattle.rm_upper.proofs.network_rows.NetworkRows.begin.Goals as goal

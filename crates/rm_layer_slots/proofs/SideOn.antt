@@ -1,0 +1,49 @@
+-- A side by the directory of protocols is one, and its events turn what the slots have.
+use Rattle.std.proofs.Common.{◌≡◌, ℕ, Bool, true, List, [], ◌∷◌, nat_eq, Option, refl, sym, ap, ◌∙◌}
+use Rattle.std.specs.List.{list_any}
+use Rattle.rm_model.specs.Journal.{Act, Journal}
+use Rattle.rm_path.specs.declared.protocol.Protocol.{Protocol}
+use Rattle.rm_path.specs.Slots.{HaveSlots}
+use Rattle.rm_dir.specs.Paths.{AreActiveAfter}
+use Rattle.rm_layers.specs.Upper.{AreTuned}
+use Rattle.rm_layers.specs.Turning.{IsChange}
+use Rattle.rm_layer_events.specs.Side.{Side, IsSide, events, next_stamp, turned, besides}
+use Rattle.rm_layer_events.proofs.SideLemmas.{on_after, one_change, besides_after}
+use Rattle.rm_layer_slots.specs.declared.slots.TableKind.{TableKind}
+use Rattle.rm_layer_slots.specs.declared.slots.TableKind.TheVariants.{Hosts, Matrices}
+use Rattle.rm_layer_slots.specs.On.{slots_on, is_ip_on, KeepSlots, CountsBy}
+use Rattle.rm_layer_slots.proofs.SteadyLemmas.{on_steady, ip_steady}
+use Rattle.rm_layer_slots.proofs.OnLemmas.{tuned_after}
+use Rattle.rm_layer_slots.proofs.StayLemmas.{apart_on, new_on}
+
+pub ip_first : (kind : TableKind) → is_ip_on kind [] ≡ true
+ip_first Hosts = refl
+ip_first Matrices = refl
+
+module _ {K G : Type 0} (kind : TableKind) (side : Side K G) (counts : CountsBy kind side) where
+  pub is_side : IsSide side
+  is_side = record {
+    few = counts.few;
+    listed = λ p journal i. ap (list_any (nat_eq p)) (counts.locals journal) ∙ sym (counts.on p journal) ∙ i;
+    ip_first = counts.ip [] ∙ ip_first kind;
+    ip_steady = λ act earlier is. counts.ip (act ∷ earlier) ∙ ip_steady kind act earlier is ∙ sym (counts.ip earlier);
+    steady = λ p act earlier is. counts.on p (act ∷ earlier) ∙ on_steady kind p act earlier is ∙ sym (counts.on p earlier);
+  }
+
+  pub tuned_events : (journal : Journal) (slots : List (Option Protocol)) → AreActiveAfter journal slots → HaveSlots slots → AreTuned (slots_on kind slots) (events side journal)
+  tuned_events journal slots active have = record {
+    tuned = λ p. tuned_after kind journal slots active p ∙ sym (counts.on p journal) ∙ sym (on_after side is_side p journal);
+    apart = apart_on kind journal slots active.known have.apart;
+  }
+
+  pub tuned_besides : (act : Act) (earlier : Journal) (slots : List (Option Protocol)) → AreActiveAfter earlier slots → HaveSlots slots → AreTuned (slots_on kind slots) (besides side act earlier)
+  tuned_besides act earlier slots active have = record {
+    tuned = λ p. tuned_after kind earlier slots active p ∙ sym (counts.on p earlier) ∙ sym ((besides_after side is_side act earlier).1 p);
+    apart = apart_on kind earlier slots active.known have.apart;
+  }
+
+  pub change_on : (act : Act) (earlier : Journal) (before after : List (Option Protocol)) → AreActiveAfter earlier before → AreActiveAfter (act ∷ earlier) after → HaveSlots before → HaveSlots after
+      → KeepSlots (act ∷ earlier) before after → IsChange (next_stamp earlier) (turned side act earlier) (besides side act earlier) (slots_on kind before) (slots_on kind after)
+  change_on act earlier before after was now had have keep =
+      one_change side is_side act earlier (slots_on kind before) (slots_on kind after)
+      (new_on kind side act earlier counts.on counts.locals before after was now have.apart keep (had.count ∙ sym have.count))
