@@ -1,8 +1,8 @@
 //! What a frame does to the hosts that a control row holds in the network and application layer (RFC 2021, section 6).
 #![tactic(auto)]
 
+mod frames;
 mod gains;
-mod pass;
 
+pub use frames::{Named, pass};
 pub use gains::{received, sent};
-pub use pass::pass;

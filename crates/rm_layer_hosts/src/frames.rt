@@ -10,15 +10,22 @@ ghost use Rattle.rm_layer_events.specs.Side.{Side, IsSide, events, next_stamp};
 use rm_evicting::Key;
 use rm_upper::{LayerTable, NetworkCounts};
 
-/// A good frame with addresses refers to its source, and then to its destination, each with what it adds there. `path` has the protocols on
-/// its path that are on. The table then stands for the journal with that frame.
+/// A host that a frame names, and what the frame adds to its counts.
+#[derive(Clone, Copy)]
+pub struct Named<K> {
+    pub key: K,
+    pub gain: NetworkCounts,
+}
+
+/// Takes a good frame with addresses, which refers to its source, and then to its destination. `path` has the protocols on its path that
+/// are on. The table then stands for the journal with that frame.
 pub fn pass<K: Key>(
     table: &mut LayerTable<K>,
-    ends: (K, K),
+    source: &Named<K>,
+    destination: &Named<K>,
     path: &[u32],
     stamp: u64,
     tick: u32,
-    gains: (&NetworkCounts, &NetworkCounts),
 )
     requires next { table.old.next ≤ stamp }
     requires latest { table.old.latest ≤ tick }
@@ -30,13 +37,12 @@ pub fn pass<K: Key>(
     ensures next { table.new.next ≡ stamp + 2 }
     ensures latest { table.new.latest ≡ tick }
     ensures stands { (side : Side K NetworkCounts) (journal : Journal) (frame : Frame) (whole : List ℕ) → IsSide side
-        → side.references frame journal ≡ record { key = ends.0; tick = tick; path = whole; gain = gains.0.now } ∷ record { key = ends.1; tick = tick; path = whole; gain = gains.1.now } ∷ []
+        → side.references frame journal
+        ≡ record { key = source.now.key; tick = tick; path = whole; gain = source.now.gain } ∷ record { key = destination.now.key; tick = tick; path = whole; gain = destination.now.gain } ∷ []
         → stamp ≡ next_stamp journal → table.old.on ≡ side.is_ip_on journal → AreTuned (protocols table.old.layered.slots) (events side journal)
-        → Agrees table.old.layered.slots path.now (record { stamp = stamp; tick = tick; path = whole; gain = gains.0.now })
+        → Agrees table.old.layered.slots path.now (record { stamp = stamp; tick = tick; path = whole; gain = source.now.gain })
         → StandsFor K.eq (events side journal) table.old.layered → StandsFor K.eq (events side (passes frame ∷ journal)) table.new.layered }
 {
-    let (source, destination) = ends;
-    let (sent, received) = gains;
-    table.name(source, path, stamp, tick, sent);
-    table.name(destination, path, stamp + 1, tick, received);
+    table.name(source.key, path, stamp, tick, &source.gain);
+    table.name(destination.key, path, stamp + 1, tick, &destination.gain);
 }
