@@ -1,5 +1,5 @@
 -- What a good frame adds to the counts of its ends (RFC 2021, nlHostEntry).
-use Rattle.std.specs.Prelude.{ℕ, Bool, true, false, cond}
+use Rattle.std.specs.Prelude.{Bool, true, false, cond}
 use Rattle.rm_proto.specs.declared.known.Facts.{Facts}
 use Rattle.rm_proto.specs.declared.ethernet.Cast.{Cast}
 use Rattle.rm_proto.specs.declared.ethernet.Cast.TheVariants.{Uni, Multi, Broad}

@@ -1,6 +1,6 @@
 -- No two protocols that are active have one local index, also where one was active before an act and the other is after it.
-use Rattle.std.proofs.Common.{◌≡◌, ℕ, zero, suc, ◌+◌, ◌<◌, ◌≤◌, ◌^◌, Bool, true, false, cond, not, ◌&&◌, List, [], ◌∷◌, length, nat_eq, nat_lt, Option, Some, None, refl, sym, ap, ◌∙◌, arith, subst, inl, inr}
-use Rattle.std.specs.Prelude.{find, unwrap_or, if◌then◌else◌}
+use Rattle.std.proofs.Common.{◌≡◌, ℕ, zero, suc, ◌+◌, ◌<◌, ◌≤◌, ◌^◌, Bool, true, false, cond, not, ◌&&◌, List, [], ◌∷◌, length, nat_eq, nat_lt, Option, Some, None, refl, sym, ap, ◌∙◌, arith, inl, inr}
+use Rattle.std.specs.Prelude.{find, unwrap_or}
 use Rattle.std.specs.List.{position_from}
 use Rattle.std.specs.Option.{option_map_or, is_some}
 use Rattle.std.proofs.lemmas.Bool.{cases_Bool, true≢false}
@@ -16,7 +16,7 @@ use Rattle.rm_path.specs.Identifier.{number_of, is_same}
 use Rattle.rm_path.proofs.Identifiers.{same_is}
 use Rattle.rm_dir.specs.Active.{active_protocol}
 use Rattle.rm_dir.specs.BuiltIn.{BuiltIn, built_in_rows, is_built_in, built_in_local}
-use Rattle.rm_dir.specs.DirectoryIndex.{index_with, may_have_row, identified, is_directory_row, row_protocol, protocol_of, directory_index, of_number, row_of, is_numbered, number_within, protocol_is}
+use Rattle.rm_dir.specs.DirectoryIndex.{index_with, may_have_row, identified, is_directory_row, protocol_of, directory_index, of_number, row_of, is_numbered, number_within, protocol_is}
 use Rattle.rm_dir.specs.ProtocolDir.{directory_state}
 use Rattle.rm_dir.specs.LocalIndexes.{makes, count_made_below, greatest_given, local_index}
 

@@ -1,20 +1,20 @@
 -- The protocols that are on, by their slots and by the journal.
-use Rattle.std.proofs.Common.{◌≡◌, ℕ, zero, suc, ◌+◌, ◌<◌, ◌≤◌, ◌^◌, Bool, true, false, cond, not, ◌&&◌, ◌||◌, List, [], ◌∷◌, map, nat_eq, nat_lt, get_or, Option, Some, None, refl, sym, ap, ◌∙◌, arith, subst, inl, inr}
-use Rattle.std.specs.Prelude.{option_and_then, if◌then◌else◌, slice_index_or}
+use Rattle.std.proofs.Common.{◌≡◌, ℕ, zero, suc, ◌<◌, ◌^◌, Bool, true, false, ◌&&◌, ◌||◌, List, [], ◌∷◌, nat_eq, Option, Some, None, refl, sym, ap, ◌∙◌, arith, inl, inr}
+use Rattle.std.specs.Prelude.{option_and_then}
 use Rattle.std.specs.List.{list_any}
-use Rattle.std.specs.Option.{option_map, option_map_or, is_some}
+use Rattle.std.specs.Option.{option_map, is_some}
 use Rattle.std.proofs.lemmas.Bool.{cases_Bool, true≢false}
 use Rattle.std.proofs.lemmas.Bool.Decides.{nat_tests}
-use Rattle.rm_model.specs.Journal.{Act, Journal}
+use Rattle.rm_model.specs.Journal.{Journal}
 use Rattle.rm_path.specs.declared.identifier.ProtocolIdentifier.{ProtocolIdentifier}
 use Rattle.rm_path.specs.declared.protocol.Protocol.{Protocol}
 use Rattle.rm_path.specs.Identifier.{number_of}
 use Rattle.rm_path.specs.Slots.{protocol_in, identifier_in, is_active}
 use Rattle.rm_path.proofs.SlotLemmas.{some_slot}
 use Rattle.rm_dir.specs.Active.{active_protocol}
-use Rattle.rm_dir.specs.DirectoryIndex.{may_have_row, identified, is_directory_row, row_protocol, of_number, row_of, number_within}
-use Rattle.rm_dir.specs.Paths.{is_active_after, AreActiveAfter}
-use Rattle.rm_layers.specs.Applications.{Slots, is_in, has_slot}
+use Rattle.rm_dir.specs.DirectoryIndex.{may_have_row, row_protocol, of_number, row_of, number_within}
+use Rattle.rm_dir.specs.Paths.{AreActiveAfter}
+use Rattle.rm_layers.specs.Applications.{is_in, has_slot}
 use Rattle.rm_layer_slots.specs.declared.slots.TableKind.{TableKind}
 use Rattle.rm_layer_slots.specs.On.{is_counted, local_on, slots_on, with_local, locals_below, is_on}
 

@@ -1,5 +1,5 @@
 -- A side by the directory of protocols is one, and its events turn what the slots have.
-use Rattle.std.proofs.Common.{◌≡◌, ℕ, Bool, true, List, [], ◌∷◌, nat_eq, Option, refl, sym, ap, ◌∙◌}
+use Rattle.std.proofs.Common.{◌≡◌, true, List, [], ◌∷◌, nat_eq, Option, refl, sym, ap, ◌∙◌}
 use Rattle.std.specs.List.{list_any}
 use Rattle.rm_model.specs.Journal.{Act, Journal}
 use Rattle.rm_path.specs.declared.protocol.Protocol.{Protocol}

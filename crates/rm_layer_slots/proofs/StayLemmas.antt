@@ -1,6 +1,5 @@
 -- Protocols that are on have slots of their own, and those that stay on keep them.
-use Rattle.std.proofs.Common.{◌≡◌, ℕ, zero, suc, ◌+◌, ◌<◌, ◌^◌, Bool, true, false, cond, not, ◌&&◌, ◌||◌, List, [], ◌∷◌, ◌++◌, map, length, nat_eq, Option, Some, None, refl, sym, ap, ◌∙◌, arith, subst, inl, inr}
-use Rattle.std.specs.Prelude.{slice_index_or, if◌then◌else◌}
+use Rattle.std.proofs.Common.{◌≡◌, ℕ, suc, ◌^◌, true, false, cond, ◌||◌, List, [], ◌∷◌, ◌++◌, length, nat_eq, Option, Some, None, refl, sym, ap, ◌∙◌, arith, subst, inl, inr}
 use Rattle.std.specs.List.{list_any}
 use Rattle.std.specs.Option.{option_map, is_some}
 use Rattle.std.proofs.lemmas.Bool.{cases_Bool, true≢false}
@@ -12,11 +11,11 @@ use Rattle.rm_model.specs.Journal.{Act, Journal}
 use Rattle.rm_path.specs.declared.identifier.ProtocolIdentifier.{ProtocolIdentifier}
 use Rattle.rm_path.specs.declared.protocol.Protocol.{Protocol}
 use Rattle.rm_path.specs.Identifier.{number_of}
-use Rattle.rm_path.specs.Slots.{protocol_in, identifier_in, is_active, HaveSlots, AreApart as AreSlotsApart}
+use Rattle.rm_path.specs.Slots.{protocol_in, identifier_in, AreApart as AreSlotsApart}
 use Rattle.rm_path.proofs.SlotLemmas.{some_slot}
 use Rattle.rm_dir.specs.Active.{active_protocol}
 use Rattle.rm_dir.specs.Paths.{is_active_after, AreActiveAfter}
-use Rattle.rm_layers.specs.Applications.{Slots, is_in, has_slot, is_same, AreApart}
+use Rattle.rm_layers.specs.Applications.{has_slot, is_same, AreApart}
 use Rattle.rm_layers.specs.Event.{Event}
 use Rattle.rm_layers.specs.Turning.{is_turned, AreNew}
 use Rattle.rm_layers.proofs.Made.{nat_exact}
@@ -24,7 +23,7 @@ use Rattle.rm_layer_events.specs.Side.{Side, is_alike, turned_of, turned}
 use Rattle.rm_layer_slots.specs.declared.slots.TableKind.{TableKind}
 use Rattle.rm_layer_slots.specs.On.{is_counted, local_on, slots_on, locals_on, is_on, KeepSlots}
 use Rattle.rm_layer_slots.proofs.LocalLemmas.{active_apart, active_since}
-use Rattle.rm_layer_slots.proofs.OnLemmas.{on_known, HasInSlot, from_slots, IsListed, from_list, in_its_slot}
+use Rattle.rm_layer_slots.proofs.OnLemmas.{on_known, from_slots, from_list, in_its_slot}
 
 named : (slots : List (Option Protocol)) (slot : ℕ) (protocol : Protocol) → protocol_in slots slot ≡ Some protocol → identifier_in slots slot ≡ Some protocol.identifier
 named slots slot protocol here = ap (option_map (λ (p : Protocol). p.identifier)) here

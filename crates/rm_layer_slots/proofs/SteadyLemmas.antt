@@ -1,9 +1,9 @@
 -- Frames and samples turn no protocol.
-use Rattle.std.proofs.Common.{◌≡◌, ℕ, zero, suc, ◌+◌, ◌^◌, Bool, true, false, cond, not, ◌&&◌, List, [], ◌∷◌, nat_eq, Option, Some, None, refl, sym, ap, ◌∙◌}
-use Rattle.std.specs.Prelude.{ℤ, option_and_then, if◌then◌else◌}
+use Rattle.std.proofs.Common.{◌≡◌, ℕ, zero, suc, ◌+◌, ◌^◌, Bool, true, false, cond, not, ◌&&◌, List, ◌∷◌, nat_eq, Option, Some, None, refl, ap, ◌∙◌}
+use Rattle.std.specs.Prelude.{option_and_then, if◌then◌else◌}
 use Rattle.std.specs.List.{list_any}
 use Rattle.std.specs.Option.{option_map_or}
-use Rattle.rm_model.specs.Journal.{Act, Frame, Journal, passes, assigns, samples}
+use Rattle.rm_model.specs.Journal.{Act, Journal, passes, assigns, samples}
 use Rattle.rm_model.specs.ControlRows.{is_absent, is_valid}
 use Rattle.rm_columns.specs.Values.{natural_in}
 use Rattle.rm_status.proofs.RowsAfterLemmas.{state_sampled}
@@ -17,7 +17,7 @@ use Rattle.rm_dir.specs.ProtocolDir.{protocol_dir, directory_beginning, director
 use Rattle.rm_dir.specs.LocalIndexes.{makes, count_made_below, greatest_given, local_index}
 use Rattle.rm_layer_events.specs.Side.{IsSteady}
 use Rattle.rm_layer_slots.specs.declared.slots.TableKind.{TableKind}
-use Rattle.rm_layer_slots.specs.On.{counts, local_on, with_local, locals_below, locals_on, is_on, is_ip_on}
+use Rattle.rm_layer_slots.specs.On.{counts, local_on, with_local, locals_below, is_on, is_ip_on}
 
 module _ (act : Act) (journal : Journal)
     (states : (index : List ℕ) → directory_state (act ∷ journal) index ≡ directory_state journal index)

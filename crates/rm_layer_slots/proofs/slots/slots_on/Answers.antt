@@ -1,4 +1,4 @@
-use Rattle.std.proofs.Common.{◌≡◌, ◌<◌, ℕ, length, sym, ◌∙◌, arith}
+use Rattle.std.proofs.Common.{◌≡◌, ◌<◌, ◌∙◌, arith}
 use Rattle.rm_layer_slots.proofs.FillLemmas.{next_on, all_on}
 use Rattle.rm_layer_slots.proofs.slots.slots_on.Goals as goal
 

@@ -1,4 +1,4 @@
-use Rattle.std.proofs.Common.{◌≡◌, ℕ, ◌<◌, ◌++◌, take, drop, length, replicate, None}
+use Rattle.std.proofs.Common.{◌≡◌, ◌<◌, ◌++◌, take, drop, length, replicate, None}
 use Rattle.rm_layer_slots.specs.On.{slots_on}
 use Rattle.rm_layer_slots.proofs.slots.slots_on.Given as goal
 
