@@ -13,7 +13,9 @@ use rm_upper::{LayerTable, NetworkCounts};
 /// A host that a frame names, and what the frame adds to its counts.
 #[derive(Clone, Copy)]
 pub struct Named<K> {
+    /// The host, by the key of its address.
     pub key: K,
+    /// What the frame adds.
     pub gain: NetworkCounts,
 }
 

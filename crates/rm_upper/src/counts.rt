@@ -6,9 +6,13 @@ ghost use Rattle.rm_upper.specs.Counts.{no_traffic, no_counts, more_traffic, plu
 /// Packets and octets, in and out.
 #[derive(Clone, Copy, PartialEq, Eq, Debug)]
 pub struct Traffic {
+    /// Frames to the host.
     pub in_pkts: u64,
+    /// Frames from the host.
     pub out_pkts: u64,
+    /// Octets of frames to the host.
     pub in_octets: u64,
+    /// Octets of frames from the host.
     pub out_octets: u64,
 }
 
@@ -40,7 +44,9 @@ impl Traffic {
 /// medium (RFC 2021, nlHostOutMacNonUnicastPkts).
 #[derive(Clone, Copy, PartialEq, Eq, Debug)]
 pub struct NetworkCounts {
+    /// Its frames and octets.
     pub traffic: Traffic,
+    /// Frames from the host to a group address or the broadcast address of Ethernet.
     pub out_non_unicast_pkts: u64,
 }
 
@@ -69,6 +75,8 @@ impl NetworkCounts {
 /// What a row shows: the tick of its first contribution, in hundredths of a second, and what its contributions add up to.
 #[derive(Clone, Copy, PartialEq, Eq, Debug)]
 pub struct Counted<S> {
+    /// The tick at which it was made.
     pub created: u32,
+    /// What it counts.
     pub sums: S,
 }

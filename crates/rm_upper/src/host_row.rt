@@ -14,8 +14,11 @@ use rm_rows::{Blank, Rows};
 /// and in each slot the application row of the protocol there, if it has one.
 #[derive(Clone, Copy)]
 pub struct HostRow {
+    /// The tick of its entry. None before its first contribution.
     pub created: Option<u32>,
+    /// What it counts.
     pub sums: NetworkCounts,
+    /// The application row of each slot, where it has one.
     pub applications: [Option<KeptApplication>; 32],
 }
 

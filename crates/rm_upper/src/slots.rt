@@ -9,7 +9,9 @@ use crate::counts::{NetworkCounts, Traffic};
 /// A protocol above ip that is on, by its local index in the directory, since a stamp: what comes from it on counts.
 #[derive(Clone, Copy, PartialEq, Eq, Debug)]
 pub struct Slot {
+    /// The local index.
     pub protocol: u32,
+    /// The stamp.
     pub since: u64,
 }
 
@@ -17,9 +19,13 @@ pub struct Slot {
 /// of its slot only if its first contribution came when the protocol there was on already.
 #[derive(Clone, Copy, PartialEq, Eq, Debug)]
 pub struct KeptApplication {
+    /// The stamp of its first contribution.
     pub stamp: u64,
+    /// The tick of its first contribution.
     pub created: u32,
+    /// The tick of its last contribution.
     pub tick: u32,
+    /// What its contributions add up to.
     pub sums: Traffic,
 }
 
