@@ -114,32 +114,20 @@ module _ {K N A G : Type 0} (eq : K → K → Bool) (exact : IsExact eq) (blank 
   -- protocols are turned on and off, all at one stamp
   pub is_of-retuned : (cap s : ℕ) (ts r : List (Event K G)) (old slots : Slots) (u : Upper K N A) → AreTurnings s ts → AreUpTo s r → AreRetuned s (λ p. on_since p r) (λ p. on_since p (ts ++ r)) old slots → IsOf eq blank add none more cap old r u → IsOf eq blank add none more cap slots (ts ++ r) (retuned old slots u)
   is_of-retuned cap s ts r old slots u turn up re is = record {
-    stands = rw (span-turned ts turn) (stands-values eq exact cap (span r) (means old (λ p. on_since p r)) (means slots (λ p. on_since p (ts ++ r))) (retuned_value old slots)
+    stands = rw (left-turned span (λ p m on earlier. refl) ts turn) (stands-values eq exact cap (span r) (means old (λ p. on_since p r)) (means slots (λ p. on_since p (ts ++ r))) (retuned_value old slots)
         (λ h v e. ap (retuned_value old slots) e ∙ retuned-is blank add none more s (λ p. on_since p r) (λ p. on_since p (ts ++ r)) old slots (shares eq cap h (span r)) (each-shares eq cap (λ c. c.stamp < s) h (span r) (contributions_below s r up)) re) u.rows is.stands);
-    network_inserts = is.network_inserts ∙ sym (network_inserts-turned ts turn);
-    application_inserts = is.application_inserts ∙ sym (application_inserts-turned ts turn);
+    network_inserts = is.network_inserts ∙ sym (left-turned (network_inserts eq cap) (λ p m on earlier. refl) ts turn);
+    application_inserts = is.application_inserts ∙ sym (left-turned (application_inserts eq cap) (λ p m on earlier. refl) ts turn);
   }
     where
-      span-turned : (some : List (Event K G)) → AreTurnings s some → span (some ++ r) ≡ span r
-      span-turned [] t = refl
-      span-turned (names k c ∷ some) t = absurd t
-      span-turned (turns p m on ∷ some) t = span-turned some t.1
-      span-turned (turns_ip on ∷ some) t = absurd t
-      span-turned (begins ∷ some) t = absurd t
-
-      network_inserts-turned : (some : List (Event K G)) → AreTurnings s some → network_inserts eq cap (some ++ r) ≡ network_inserts eq cap r
-      network_inserts-turned [] t = refl
-      network_inserts-turned (names k c ∷ some) t = absurd t
-      network_inserts-turned (turns p m on ∷ some) t = network_inserts-turned some t.1
-      network_inserts-turned (turns_ip on ∷ some) t = absurd t
-      network_inserts-turned (begins ∷ some) t = absurd t
-
-      application_inserts-turned : (some : List (Event K G)) → AreTurnings s some → application_inserts eq cap (some ++ r) ≡ application_inserts eq cap r
-      application_inserts-turned [] t = refl
-      application_inserts-turned (names k c ∷ some) t = absurd t
-      application_inserts-turned (turns p m on ∷ some) t = application_inserts-turned some t.1
-      application_inserts-turned (turns_ip on ∷ some) t = absurd t
-      application_inserts-turned (begins ∷ some) t = absurd t
+      -- what no turning changes, all of them leave
+      left-turned : {B : Type 0} (f : List (Event K G) → B) → ((p m : ℕ) (on : Bool) (earlier : List (Event K G)) → f (turns p m on ∷ earlier) ≡ f earlier)
+          → (some : List (Event K G)) → AreTurnings s some → f (some ++ r) ≡ f r
+      left-turned f leaves [] t = refl
+      left-turned f leaves (names k c ∷ some) t = absurd t
+      left-turned f leaves (turns p m on ∷ some) t = leaves p m on (some ++ r) ∙ left-turned f leaves some t.1
+      left-turned f leaves (turns_ip on ∷ some) t = absurd t
+      left-turned f leaves (begins ∷ some) t = absurd t
 
   -- ip is
   pub is_of-turned_ip : (cap : ℕ) (on : Bool) (r : List (Event K G)) (slots : Slots) (u : Upper K N A) → IsOf eq blank add none more cap slots r u → IsOf eq blank add none more cap slots (turns_ip on ∷ r) (emptied u)
