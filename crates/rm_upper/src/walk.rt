@@ -16,18 +16,11 @@ fn marked(slot: &Option<Slot>, kept: &Option<KeptApplication>, mark: u64) -> Opt
     ensures marked { result ≡ marked_at mark slot.now kept.now }
     ensures reached { IfSome result (λ p. mark < 2 ^ 32) }
 {
-    match slot {
-        None => None,
-        Some(slot) => match kept {
-            None => None,
-            Some(kept) => {
-                if slot.since <= kept.stamp && mark <= kept.tick as u64 {
-                    Some(slot.protocol)
-                } else {
-                    None
-                }
-            }
-        },
+    match (slot, kept) {
+        (Some(slot), Some(kept)) if slot.since <= kept.stamp && mark <= kept.tick as u64 => {
+            Some(slot.protocol)
+        }
+        _ => None,
     }
 }
 
@@ -80,12 +73,9 @@ pub(crate) fn next_protocol(
 fn has_application(slot: &Option<Slot>, kept: &Option<KeptApplication>) -> bool
     ensures { result ≡ is_some (shown slot.now kept.now) }
 {
-    match slot {
-        None => false,
-        Some(slot) => match kept {
-            None => false,
-            Some(kept) => slot.since <= kept.stamp,
-        },
+    match (slot, kept) {
+        (Some(slot), Some(kept)) => slot.since <= kept.stamp,
+        _ => false,
     }
 }
 
@@ -121,21 +111,12 @@ fn is_in(protocol: u32, slot: &Option<Slot>) -> bool
 fn show(slot: &Option<Slot>, kept: &Option<KeptApplication>) -> Option<Counted<Traffic>>
     ensures { result ≡ counted (shown slot.now kept.now) }
 {
-    match slot {
-        None => None,
-        Some(slot) => match kept {
-            None => None,
-            Some(kept) => {
-                if slot.since <= kept.stamp {
-                    Some(Counted {
-                        created: kept.created,
-                        sums: kept.sums,
-                    })
-                } else {
-                    None
-                }
-            }
-        },
+    match (slot, kept) {
+        (Some(slot), Some(kept)) if slot.since <= kept.stamp => Some(Counted {
+            created: kept.created,
+            sums: kept.sums,
+        }),
+        _ => None,
     }
 }
 
