@@ -6,7 +6,7 @@ use Rattle.rm_proto.specs.declared.known.Facts.{Facts}
 use Rattle.rm_path.specs.Layers.{path_of}
 use Rattle.rm_path.specs.Slots.{protocol_in, is_active}
 use Rattle.rm_path.proofs.SlotLemmas.{some_slot}
-use Rattle.rm_dir.specs.Paths.{AreActiveAfter, AreOfRows, is_active_after, path_after}
+use Rattle.rm_dir.specs.Paths.{AreActiveAfter, AreOfRows, DoStay, KeepSlots, is_active_after, path_after}
 use Rattle.rm_model.specs.Journal.{Journal}
 use Rattle.rm_model.specs.ControlRows.{is_absent, is_valid}
 use Rattle.rm_model.specs.declared.row.State.{State}
@@ -84,7 +84,11 @@ module _ (rows : List (Row DirectoryRow)) (journal : Journal) (is : AreRowsAfter
           by_row None none = none_active rows journal is locals identifier e none
           by_row (Some row) here = row_active rows journal is locals identifier e row here
 
-  -- so the slots are those of the protocols that are active
+  -- so protocols that stay active keep their slots
+  pub slots_kept : (before after : List (Option Protocol)) → DoStay rows before after → KeepSlots journal before after
+  slots_kept before after stay slot identifier here active = stay slot identifier here (ap is_some (held_is_active identifier) ∙ active)
+
+  -- and the slots are those of the protocols that are active
   module _ (slots : List (Option Protocol)) (of_rows : AreOfRows rows slots) where
     each_active : (identifier : ProtocolIdentifier) → is_active slots identifier ≡ is_active_after journal identifier
     each_active identifier = by_held (held_protocol rows identifier) refl ∙ ap is_some (held_is_active identifier)

@@ -7,6 +7,7 @@ mod Examples
 mod Found
 mod InSlots
 mod Judged
+pub mod LocalLaws
 mod Numbers
 mod Rooms
 mod Settled

@@ -1,5 +1,5 @@
 -- Which protocols are active: those whose rows are (RFC 2021, protocolDirStatus).
-use Rattle.std.specs.Prelude.{ℕ, List, Bool, ◌&&◌, nat_eq, if◌then◌else◌, option_and_then, Option, Some, None}
+use Rattle.std.specs.Prelude.{◌≡◌, ℕ, List, Bool, ◌&&◌, nat_eq, if◌then◌else◌, option_and_then, Option, Some, None}
 use Rattle.rm_model.specs.Journal.{Journal}
 use Rattle.rm_model.specs.ControlRows.{is_valid}
 use Rattle.rm_model.specs.declared.row.State.{State}
@@ -47,3 +47,9 @@ protocol_kept identifier state columns =
 abbrev pub held_protocol : List (Row DirectoryRow) → ProtocolIdentifier → Option Protocol
 held_protocol rows identifier =
     if may_have_row identifier then option_and_then (λ row. protocol_kept identifier row.state row.columns) (row_in rows (number_of identifier)) else None
+
+-- no two protocols that are active have the same local index
+abbrev pub HaveOwnLocals : Journal → Type 0
+HaveOwnLocals journal =
+    (one other : ProtocolIdentifier) (known also : Protocol) → active_protocol journal one ≡ Some known → active_protocol journal other ≡ Some also
+    → known.local ≡ also.local → one ≡ other

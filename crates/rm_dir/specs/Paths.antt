@@ -31,7 +31,12 @@ pub record AreOfRows (rows : List (Row DirectoryRow)) (slots : List (Option Prot
   pub known : AreKnown rows slots
   pub each : (identifier : ProtocolIdentifier) (protocol : Protocol) → held_protocol rows identifier ≡ Some protocol → is_active slots identifier ≡ true
 
--- a protocol that is active by the rows that are held then has the slot that it had
+-- a protocol that is active after a journal then has the slot that it had
+abbrev pub KeepSlots : Journal → (before after : List (Option Protocol)) → Type 0
+KeepSlots journal before after =
+    (slot : ℕ) (identifier : ProtocolIdentifier) → identifier_in before slot ≡ Some identifier → is_active_after journal identifier ≡ true → identifier_in after slot ≡ Some identifier
+
+-- the same by the rows that are held
 abbrev pub DoStay : List (Row DirectoryRow) → (before after : List (Option Protocol)) → Type 0
 DoStay rows before after =
     (slot : ℕ) (identifier : ProtocolIdentifier) → identifier_in before slot ≡ Some identifier → is_some (held_protocol rows identifier) ≡ true

@@ -5,6 +5,7 @@ ghost use Rattle.std.specs.Str.{bytes_eq};
 ghost use Rattle.rm_val.specs.Val.{val_of, ticks};
 ghost use Rattle.rm_val.specs.Spellable.{IsSpellable, HasSpelling};
 ghost use Rattle.rm_model.specs.Cells.{cells_of, IsNext};
+ghost use Rattle.rm_path.specs.Slots.{HaveSlots};
 ghost use Rattle.rm_dir.specs.ProtocolDir.{change_entry};
 ghost use Rattle.rm_dir.specs.Shown.{kept_change};
 ghost use Rattle.rm_dir.specs.Kept.{AreNumbered, AreNoted};
@@ -49,6 +50,7 @@ pub struct Directory {
     ghost noted: { AreNoted rows },
     ghost few: { given ≤ 2147483647 },
     ghost active: { AreOfRows rows protocols },
+    ghost apart: { HaveSlots protocols },
 }
 
 impl Directory {

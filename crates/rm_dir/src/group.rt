@@ -2,8 +2,8 @@
 use crate::directory::{CHANGE_OBJECTS, Directory};
 use crate::row::DIRECTORY_OBJECTS;
 use rm_group::{
-    Assigns, Commits, Denied, Group, Look, NeverDue, Passing, TableObjects, Tables, Unfired,
-    Unsampled,
+    Assigns, Commits, Denied, Group, Look, NeverDue, Passing, Readable, TableObjects, Tables,
+    Unfired, Unsampled,
 };
 use rm_model::Verdict;
 use rm_val::{Oid, Value};
@@ -82,7 +82,7 @@ impl Commits for Directory {
     ghost use Rattle.rm_model.specs.Counting.{Counting};
     ghost use Rattle.rm_model.specs.Journal.{Assignments, Journal, assigns, last_moment, value_given};
     ghost use Rattle.rm_dir.specs.Group.{AreFine, Stands};
-    ghost use Rattle.rm_dir.specs.Paths.{DoStay};
+    ghost use Rattle.rm_dir.specs.Paths.{DoStay, KeepSlots};
 
     /// Does a Set (`Commits::commit`). Protocols that stay active stay in their slots.
     fn commit<A: Assigns>(&mut self, set: &A, now: u32)
@@ -91,6 +91,7 @@ impl Commits for Directory {
             → Unit {0} → ((name : List ℕ) → value_given values name ≡ value_given (A.bindings set.now) name)
             → Stands self.new (assigns now values ∷ journal) }
         ensures stay { DoStay self.new.rows self.old.protocols self.new.protocols }
+        ensures keeps { (journal : Journal) → Stands self.new journal → KeepSlots journal self.old.protocols self.new.protocols }
     {
         self.assign(set, now);
     }
@@ -115,6 +116,23 @@ impl Tables for Directory {
         with_table (directory_table journal) (change_listed ∷ []) (cells_of (change_table journal)) (of_table (change_table journal)) };
 
     ghost refuses_listed = { beside_listed protocol_dir directory_columns change_listed };
+}
+
+// No alarm may sample the cells of the directory.
+impl Readable for Directory {
+    ghost use Rattle.std.specs.Prelude.{None, refl};
+
+    ghost sampleable = { λ settings journal now name. None };
+
+    ghost shown = { λ s now name. None };
+
+    fn value(&self, _name: &Oid, _now: u32) -> Option<Value<'_>> {
+        None
+    }
+
+    fn shows(&self, _now: u32) {}
+
+    ghost recurring = { λ settings one other journal alike now name. refl };
 }
 
 // A frame makes no difference to the directory itself.

@@ -1,7 +1,7 @@
 // The slots of the protocols that are active, as the rows change.
 ghost use Rattle.std.specs.Prelude.{◌≡◌, ◌<◌, ℕ, true, length, option_and_then, option_map, Some, slice_set};
 ghost use Rattle.rm_path.specs.Identifier.{number_of};
-ghost use Rattle.rm_path.specs.Slots.{protocol_in, is_active};
+ghost use Rattle.rm_path.specs.Slots.{protocol_in, is_active, HaveSlots};
 ghost use Rattle.rm_path.specs.declared.identifier.ProtocolIdentifier.{ProtocolIdentifier as Identifier};
 ghost use Rattle.rm_path.specs.declared.protocol.Protocol.{Protocol as Known};
 ghost use Rattle.rm_dir.specs.Active.{held_protocol};
@@ -18,9 +18,11 @@ use rm_status::{Controls, MAX_ROWS};
 pub(crate) fn follow(protocols: &mut Protocols, rows: &Controls<DirectoryRow>)
     ensures active { AreOfRows rows.now protocols.new }
     ensures stay { DoStay rows.now protocols.old protocols.new }
+    ensures apart { HaveSlots protocols.new }
 {
     renew_all(protocols, rows);
     put_in_all(protocols, rows);
+    protocols.are_apart();
 }
 
 // Keeps what is known now of the protocols that are still active, and takes the others away.

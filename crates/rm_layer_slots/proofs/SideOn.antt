@@ -4,14 +4,14 @@ use Rattle.std.specs.List.{list_any}
 use Rattle.rm_model.specs.Journal.{Act, Journal}
 use Rattle.rm_path.specs.declared.protocol.Protocol.{Protocol}
 use Rattle.rm_path.specs.Slots.{HaveSlots}
-use Rattle.rm_dir.specs.Paths.{AreActiveAfter}
+use Rattle.rm_dir.specs.Paths.{AreActiveAfter, KeepSlots}
 use Rattle.rm_layers.specs.Upper.{AreTuned}
 use Rattle.rm_layers.specs.Turning.{IsChange}
 use Rattle.rm_layer_events.specs.Side.{Side, IsSide, events, next_stamp, turned, besides}
 use Rattle.rm_layer_events.proofs.SideLemmas.{on_after, one_change, besides_after}
 use Rattle.rm_layer_slots.specs.declared.slots.TableKind.{TableKind}
 use Rattle.rm_layer_slots.specs.declared.slots.TableKind.TheVariants.{Hosts, Matrices}
-use Rattle.rm_layer_slots.specs.On.{slots_on, is_ip_on, KeepSlots, CountsBy}
+use Rattle.rm_layer_slots.specs.On.{slots_on, is_ip_on, CountsBy}
 use Rattle.rm_layer_slots.proofs.SteadyLemmas.{on_steady, ip_steady}
 use Rattle.rm_layer_slots.proofs.OnLemmas.{tuned_after}
 use Rattle.rm_layer_slots.proofs.StayLemmas.{apart_on, new_on}

@@ -14,14 +14,14 @@ use Rattle.rm_path.specs.Identifier.{number_of}
 use Rattle.rm_path.specs.Slots.{protocol_in, identifier_in, AreApart as AreSlotsApart}
 use Rattle.rm_path.proofs.SlotLemmas.{some_slot}
 use Rattle.rm_dir.specs.Active.{active_protocol}
-use Rattle.rm_dir.specs.Paths.{is_active_after, AreActiveAfter}
+use Rattle.rm_dir.specs.Paths.{is_active_after, AreActiveAfter, KeepSlots}
 use Rattle.rm_layers.specs.Applications.{has_slot, is_same, AreApart}
 use Rattle.rm_layers.specs.Event.{Event}
 use Rattle.rm_layers.specs.Turning.{is_turned, AreNew}
 use Rattle.rm_layers.proofs.Made.{nat_exact}
 use Rattle.rm_layer_events.specs.Side.{Side, is_alike, turned_of, turned}
 use Rattle.rm_layer_slots.specs.declared.slots.TableKind.{TableKind}
-use Rattle.rm_layer_slots.specs.On.{is_counted, local_on, slots_on, locals_on, is_on, KeepSlots}
+use Rattle.rm_layer_slots.specs.On.{is_counted, local_on, slots_on, locals_on, is_on}
 use Rattle.rm_layer_slots.proofs.LocalLemmas.{active_apart, active_since}
 use Rattle.rm_layer_slots.proofs.OnLemmas.{on_known, from_slots, from_list, in_its_slot}
 

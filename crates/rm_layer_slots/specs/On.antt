@@ -1,16 +1,13 @@
 -- Which protocols above ip tables of a kind count, by the directory of protocols (RFC 2021, section 6).
-use Rattle.std.specs.Prelude.{◌≡◌, ◌≤◌, length, true, ℕ, zero, suc, ◌^◌, Bool, false, ◌&&◌, List, [], ◌∷◌, map, nat_eq, if◌then◌else◌, option_and_then, Option, Some, None}
+use Rattle.std.specs.Prelude.{◌≡◌, ◌≤◌, length, ℕ, zero, suc, ◌^◌, Bool, false, ◌&&◌, List, [], ◌∷◌, map, nat_eq, if◌then◌else◌, option_and_then, Option, Some, None}
 use Rattle.std.specs.List.{list_any}
 use Rattle.std.specs.Option.{option_map_or}
 use Rattle.rm_model.specs.Journal.{Frame, Journal}
-use Rattle.rm_path.specs.declared.identifier.ProtocolIdentifier.{ProtocolIdentifier}
 use Rattle.rm_path.specs.declared.identifier.ProtocolIdentifier.TheVariants.{Ether}
 use Rattle.rm_path.specs.declared.protocol.Protocol.{Protocol}
 use Rattle.rm_path.specs.Identifier.{is_above_ip}
 use Rattle.rm_dir.specs.Active.{active_protocol}
-use Rattle.rm_path.specs.Slots.{identifier_in}
 use Rattle.rm_dir.specs.DirectoryIndex.{row_protocol}
-use Rattle.rm_dir.specs.Paths.{is_active_after}
 use Rattle.rm_layers.specs.Applications.{Slots}
 use Rattle.rm_layer_events.specs.Side.{Side}
 use Rattle.rm_layer_slots.specs.declared.slots.TableKind.{TableKind}
@@ -53,11 +50,6 @@ is_on kind local journal = list_any (nat_eq local) (locals_on kind journal)
 -- whether ip is, by its type (RFC 894)
 abbrev pub is_ip_on : TableKind → Journal → Bool
 is_ip_on kind journal = option_map_or (counts kind) (active_protocol journal (Ether 0x0800)) false
-
--- protocols that are active after a journal then have the slots that they had
-abbrev pub KeepSlots : Journal → (before after : List (Option Protocol)) → Type 0
-KeepSlots journal before after =
-    (slot : ℕ) (identifier : ProtocolIdentifier) → identifier_in before slot ≡ Some identifier → is_active_after journal identifier ≡ true → identifier_in after slot ≡ Some identifier
 
 -- A side has those of the protocols that are on that tables of a kind count, and ip as they do. A frame has two references at most.
 pub record CountsBy {K G : Type 0} (kind : TableKind) (side : Side K G) : Type 0 where

@@ -7,5 +7,5 @@ mod slots;
 #[cfg(test)]
 mod tests;
 
-pub use laws::{moved, sides, tuned};
+pub use laws::{by_directory, moved, sides, tuned};
 pub use slots::{TableKind, slots_on};

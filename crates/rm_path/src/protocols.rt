@@ -91,6 +91,13 @@ impl Protocols {
         Some(place as u8)
     }
 
+    /// A law: there are 32 slots, and no protocol is in two of them. It does nothing.
+    pub fn are_apart(&self)
+        ensures { HaveSlots self.now }
+    {
+        let _ = &self.slots;
+    }
+
     /// The protocol in a slot. None where the slot is empty.
     pub fn get(&self, slot: u8) -> Option<Protocol>
         requires { slot < 32 }

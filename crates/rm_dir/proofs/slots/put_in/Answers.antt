@@ -1,8 +1,4 @@
-use Rattle.std.proofs.Common.{◌≡◌, ◌<◌, ◌≤◌, length, Some, true, ap, sym, subst, ◌∙◌, arith}
-use Rattle.std.specs.Prelude.{option_and_then}
-use Rattle.rm_path.specs.Slots.{is_active}
-use Rattle.rm_dir.specs.Active.{held_protocol}
-use Rattle.rm_dir.specs.DirectoryIndex.{row_protocol}
+use Rattle.std.proofs.Common.{◌<◌, ◌≤◌, length, sym, ◌∙◌, arith}
 use Rattle.rm_dir.proofs.InSlots.{found_held, found_named, known_then, active_then, not_active, some_free}
 use Rattle.rm_dir.proofs.slots.put_in.Goals as goal
 

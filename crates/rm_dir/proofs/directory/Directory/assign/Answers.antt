@@ -24,6 +24,7 @@ invariant_of-self g c =
       noted = noted_then bs c.args.self.now.rows c.commit.new.self c.settle-settled.new.rows c.args.self.now.given c.len-before.ensures.rows c.len.ensures.rows c.commit.ensures c.settle-settled.ensures.rows c.args.self.now.numbered;
       few = omega (arith, asked, enough, given);
       active = c.follow.ensures.active;
+      apart = c.follow.ensures.apart;
     }
 
 pub returns-clause-stands : goal.returns-clause-stands
