@@ -1,0 +1,13 @@
+mod BeginLemmas
+mod Changed
+mod CountLemmas
+mod Examples
+mod FrameLemmas
+mod MarkFacts
+mod MarkLemmas
+mod SlotLocals
+mod SetLemmas
+mod SameCells
+mod SampleLemmas
+mod Walk
+mod SearchLemmas

@@ -1,0 +1,48 @@
+-- The local indexes of protocols in slots, after a journal.
+use Rattle.std.proofs.Common.{◌≡◌, ℕ, ◌<◌, List, [], ◌∷◌, length, map, take, Bool, true, false, cond, ◌&&◌, Option, Some, None, option_map, refl, sym, ap, ◌∙◌}
+use Rattle.std.specs.Option.{option_map_or}
+use Rattle.std.proofs.lemmas.Option.{none-some, same_Some}
+use Rattle.rm_model.specs.Journal.{Journal}
+use Rattle.rm_model.specs.ControlRows.{is_valid}
+use Rattle.rm_path.specs.declared.identifier.ProtocolIdentifier.{ProtocolIdentifier}
+use Rattle.rm_path.specs.declared.protocol.Protocol.{Protocol}
+use Rattle.rm_path.specs.Slots.{protocol_in, identifier_in}
+use Rattle.rm_dir.specs.Active.{active_protocol, is_on}
+use Rattle.rm_dir.specs.DirectoryIndex.{index_with, may_have_row}
+use Rattle.rm_dir.specs.LocalIndexes.{local_index}
+use Rattle.rm_dir.specs.Paths.{AreActiveAfter}
+use Rattle.rm_dir.specs.ProtocolDir.{directory_state}
+use Rattle.rm_dist.specs.Slots.{local_in}
+
+-- the local indexes of so many slots, of which there are 32 where some were looked at
+pub record IsSoFar (slots : List (Option Protocol)) (path : List ℕ) (at : ℕ) (locals : List ℕ) : Type 0 where
+  pub are : locals ≡ map (local_in slots) (take at path)
+  pub count : 0 < length locals → length slots ≡ 32
+
+-- what is known of a protocol that is active has its local index
+pub active_local : (journal : Journal) (identifier : ProtocolIdentifier) (known : Protocol) → active_protocol journal identifier ≡ Some known → known.local ≡ local_index journal (index_with identifier)
+active_local journal identifier known is = by_test (may_have_row identifier && is_valid (directory_state journal (index_with identifier))) is
+  where
+    by_test : (t : Bool)
+        → cond t (Some (record { identifier = identifier; local = local_index journal (index_with identifier); host = is_on journal (index_with identifier) 7; matrix = is_on journal (index_with identifier) 8 })) None ≡ Some known
+        → known.local ≡ local_index journal (index_with identifier)
+    by_test true some = sym (ap (λ one. one.local) (same_Some _ _ some))
+    by_test false none = absurd (none-some known none)
+
+module _ (journal : Journal) (slots : List (Option Protocol)) (are : AreActiveAfter journal slots) where
+  local_is : (slot : ℕ) (identifier : ProtocolIdentifier) → identifier_in slots slot ≡ Some identifier → local_in slots slot ≡ local_index journal (index_with identifier)
+  local_is slot identifier here = by_held (protocol_in slots slot) refl here
+    where
+      by_held : (held : Option Protocol) → protocol_in slots slot ≡ held → option_map (λ one. one.identifier) held ≡ Some identifier → option_map_or (λ protocol. protocol.local) held 0 ≡ local_index journal (index_with identifier)
+      by_held None e none = absurd (none-some identifier none)
+      by_held (Some protocol) e named =
+          active_local journal protocol.identifier protocol (are.known slot protocol e) ∙ ap (λ one. local_index journal (index_with one)) (same_Some _ _ named)
+
+  pub locals_are : (path : List ℕ) (protocols : List ProtocolIdentifier) → map (identifier_in slots) path ≡ map Some protocols → map (local_in slots) path ≡ map (λ protocol. local_index journal (index_with protocol)) protocols
+  locals_are [] [] same = refl
+  locals_are [] (identifier ∷ protocols) same = absurd (cc)
+  locals_are (slot ∷ path) [] same = absurd (cc)
+  locals_are (slot ∷ path) (identifier ∷ protocols) same =
+      let first : identifier_in slots slot ≡ Some identifier = cc in
+      let others : map (identifier_in slots) path ≡ map Some protocols = cc in
+      ap (λ n. n ∷ map (local_in slots) path) (local_is slot identifier first) ∙ ap (λ more. local_index journal (index_with identifier) ∷ more) (locals_are path protocols others)

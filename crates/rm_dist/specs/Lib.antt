@@ -1,0 +1,16 @@
+pub mod Columns
+pub mod Control
+pub mod Marks
+pub mod DistStats
+pub mod ControlColumns
+pub mod Counts
+pub mod Standing
+pub mod Counting
+pub mod Group
+pub mod Slots
+pub mod Resting
+pub mod Shown
+pub mod ShownLaws
+pub mod Finite
+pub mod Both
+pub mod BothLaws

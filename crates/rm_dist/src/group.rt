@@ -1,0 +1,176 @@
+// The distribution, as a group of objects.
+use crate::cell::Others;
+use crate::distribution::Distribution;
+use crate::row::{CONTROL_OBJECTS, DistributionRow};
+use crate::stats::{Counted, STATS_OBJECTS};
+use rm_dir::Directory;
+use rm_group::{Assigns, Beside, Denied, Group, Look, NeverDue, Readable, TableObjects, Tables};
+use rm_model::Verdict;
+use rm_nested::{cell_of_both, judge_both, next_of_both};
+use rm_val::{Oid, Value};
+use std::alloc::Global;
+
+/// The tables of the group.
+const OBJECTS: &[TableObjects] = &[CONTROL_OBJECTS, STATS_OBJECTS];
+
+impl Group for Distribution {
+    ghost use Rattle.rm_model.specs.ControlRows.{no_rows};
+    ghost use Rattle.rm_model.specs.Judgement.{second_pass, rows_after};
+    ghost use Rattle.rm_dist.specs.Control.{dist_control};
+    ghost use Rattle.rm_dist.specs.DistStats.{dist_cells};
+    ghost use Rattle.rm_dist.specs.Finite.{dist_finite};
+    ghost use Rattle.rm_dist.specs.Group.{dist_alone, AreFine, Stands};
+
+    ghost stands = { Stands };
+
+    ghost clock = { λ s. s.last };
+
+    ghost askable = { λ s moment. Unit {0} };
+
+    ghost frames = { λ s. s.frames };
+
+    ghost stocked = { λ s. Unit {0} };
+
+    ghost cells = { λ settings journal now. dist_cells settings journal };
+
+    ghost alone = { dist_alone };
+
+    ghost together = { λ settings journal now readings bindings place. second_pass dist_control (rows_after dist_control no_rows journal) bindings place };
+
+    ghost reserves = { λ settings journal bindings index. ⊥ };
+
+    ghost accepts = { λ s now readings bindings. AreFine s bindings };
+
+    ghost prepared = { λ s now bindings. AreFine s bindings };
+
+    ghost released = { λ s. Unit {0} };
+
+    ghost finite = { λ settings journal now. dist_finite settings journal };
+
+    fn least() -> &'static [u32] {
+        CONTROL_OBJECTS.entry
+    }
+
+    fn cell(&self, name: &Oid, now: u32) -> Option<Value<'_>> {
+        prove!(self.rows.len() <= 32);
+        self.shown_at(name, now)
+    }
+
+    fn after(&self, name: &Oid, now: u32, out: &mut Oid) -> Option<Value<'_>> {
+        prove!(self.rows.len() <= 32);
+        let rows = &self.rows;
+        next_of_both(rows, &Others, Counted { rows }, name, now, out)
+    }
+
+    fn judge_alone<A: Assigns>(&self, set: &A) -> Verdict {
+        judge_both::<DistributionRow, Counted<'_>, A>(&self.rows, set)
+    }
+
+    fn judge_rows<A: Assigns, L: Look>(&self, set: &A, _now: u32, _look: &L) -> Verdict {
+        self.rows.judge_rows(set)
+    }
+
+    fn prepare<A: Assigns, L: Look>(
+        &mut self,
+        _alloc: Global,
+        _set: &A,
+        _now: u32,
+        _look: &L,
+    ) -> Result<(), Denied> {
+        Ok(())
+    }
+
+    fn discard(&mut self) {}
+}
+
+// What isn't active any more by a Set isn't counted any more once the directory has done the Set.
+impl Beside<Directory> for Distribution {
+    ghost use Rattle.rm_model.specs.ControlRows.{no_rows};
+    ghost use Rattle.rm_model.specs.Judgement.{second_pass, rows_after};
+    ghost use Rattle.rm_dist.specs.Control.{dist_control};
+    ghost use Rattle.rm_dist.specs.Group.{AreFine, HasBegun};
+
+    ghost tied = { λ settings. Unit {0} };
+
+    ghost together_beside = { λ settings journal now readings bindings place. second_pass dist_control (rows_after dist_control no_rows journal) bindings place };
+
+    ghost ready = { λ s first now bindings. AreFine s bindings };
+
+    ghost begun = { HasBegun };
+
+    fn judge_beside<A: Assigns, L: Look>(
+        &self,
+        _directory: &Directory,
+        set: &A,
+        now: u32,
+        look: &L,
+    ) -> Verdict {
+        self.judge_rows(set, now, look)
+    }
+
+    fn prepare_beside<A: Assigns, L: Look>(
+        &mut self,
+        _directory: &Directory,
+        _alloc: Global,
+        _set: &A,
+        _now: u32,
+        _look: &L,
+    ) -> Result<(), Denied> {
+        Ok(())
+    }
+
+    fn begin<A: Assigns>(&mut self, _directory: &Directory, set: &A, now: u32) {
+        self.assign(set, now);
+    }
+
+    fn complete(&mut self, directory: &Directory, _now: u32) {
+        self.sift(directory);
+    }
+}
+
+impl Tables for Distribution {
+    ghost use Rattle.rm_model.specs.Cells.{cells_of};
+    ghost use Rattle.rm_group.specs.Listed.{is_settable, of_table, with_table, beside_listed};
+    ghost use Rattle.std.specs.Prelude.{[], ◌∷◌};
+    ghost use Rattle.rm_dist.specs.Columns.{control_columns};
+    ghost use Rattle.rm_dist.specs.Control.{dist_control};
+    ghost use Rattle.rm_dist.specs.DistStats.{control_table, stats_table};
+    ghost use Rattle.rm_dist.specs.Group.{dist_tables, stats_listed};
+
+    ghost tables = { dist_tables };
+
+    ghost can_be_set = { is_settable dist_control };
+
+    fn tables() -> &'static [TableObjects] {
+        OBJECTS
+    }
+
+    ghost shows_listed = { λ settings journal now.
+        with_table (control_table journal) (stats_listed ∷ []) (cells_of (stats_table settings journal)) (of_table (stats_table settings journal)) };
+
+    ghost refuses_listed = { beside_listed dist_control control_columns stats_listed };
+}
+
+impl Readable for Distribution {
+    ghost use Rattle.std.specs.Prelude.{refl};
+    ghost use Rattle.rm_dist.specs.DistStats.{dist_cells};
+    ghost use Rattle.rm_dist.specs.Shown.{cells_kept};
+
+    ghost sampleable = { λ settings journal now. dist_cells settings journal };
+
+    ghost shown = { λ s now. cells_kept s.rows };
+
+    fn value(&self, name: &Oid, now: u32) -> Option<Value<'_>> {
+        self.shown_at(name, now)
+    }
+
+    fn shows(&self, _now: u32) {
+        prove!(self.rows.len() <= 32);
+    }
+
+    ghost recurring = { λ settings one other journal alike now name. refl };
+}
+
+impl NeverDue for Distribution {
+    ghost always_asked = { λ s moment. tt };
+}
