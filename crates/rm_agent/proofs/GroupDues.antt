@@ -12,6 +12,7 @@ use Rattle.rm_group.specs.declared.due.Due.{Due}
 use Rattle.rm_group.specs.declared.due.TheConstants.{SAMPLES}
 use Rattle.rm_model.specs.Counting.{Counting}
 use Rattle.rm_model.specs.Journal.{Journal, last_moment}
+use Rattle.rm_sources.specs.Group.{Stands as SourcesStand}
 use Rattle.rm_topn.proofs.Dues.{first_alike}
 use Rattle.rm_topn.specs.Due.{end_after, end_in}
 use Rattle.rm_topn.specs.declared.due.TheConstants.{REPORTS}
@@ -26,6 +27,7 @@ module _ (groups : Groups) (settings : Counting) (journal : Journal) (stands : G
   ended_of = ended_by (collectors_of groups) journal
 
   end_is : (row : ℕ) → end_in (reports_of (collectors_of groups)).courses row ≡ end_after ended_of journal row
+  unfolding SourcesStand
   end_is = ends_are (collectors_of groups) settings journal stands.second.second.first.first.second
 
   sample_is : (alarm : ℕ) → due_in (alarms_of groups) alarm ≡ due_of journal alarm

@@ -19,7 +19,7 @@ use Rattle.rm_event.specs.EventTable.{event_table}
 use Rattle.rm_event.specs.Group.{event_alone}
 use Rattle.rm_alarm.specs.Group.{alarm_alone, alarm_together, variable_fault}
 use Rattle.rm_agent.specs.Known.{counting_by}
-use Rattle.rm_agent.specs.Members.{sources, unfired}
+use Rattle.rm_agent.specs.Members.{sources, system}
 use Rattle.rm_agent.specs.Orderly.{NoneIsDue, IsOrderly}
 use Rattle.rm_agent.proofs.Leaving.{leaves}
 use Rattle.rm_agent.proofs.OrderlyLemmas.{orderly_assigns}
@@ -38,7 +38,7 @@ module _ (settings : Settings) (journal : Journal) (now : ℕ) (orderly : IsOrde
   alone_fine numbers value fine =
       let here : alone numbers value ≡ None = no_second (unless (objects numbers) NotWritable) (alone numbers value) fine in
       let others : option_or (event_alone numbers value) (option_or (sources.alone numbers value) (alarm_alone numbers value)) ≡ None =
-      no_second (unfired.alone numbers value) _ here in
+      no_second (system.alone numbers value) _ here in
       no_second (sources.alone numbers value) (alarm_alone numbers value) (no_second (event_alone numbers value) _ others)
 
   together_fine : (bindings : Bindings) (k : ℕ) → together settings journal now bindings k ≡ None → second_pass alarm_table (rows_after alarm_table no_rows journal) bindings k ≡ None
@@ -46,7 +46,7 @@ module _ (settings : Settings) (journal : Journal) (now : ℕ) (orderly : IsOrde
       let before : Beginning = rows_after alarm_table no_rows journal in
       let sampling : option_or (sources.together (counting_by settings) journal now bindings k) (alarm_together ((counting_by settings).readings journal now) before bindings k) ≡ None =
       no_second (second_pass event_table (rows_after event_table no_rows journal) bindings k) _
-      (no_second (unfired.together (counting_by settings) journal now bindings k) _ fine) in
+      (no_second (system.together (counting_by settings) journal now bindings k) _ fine) in
       no_first (second_pass alarm_table before bindings k) (variable_fault ((counting_by settings).readings journal now) before bindings k)
       (no_second (sources.together (counting_by settings) journal now bindings k) _ sampling)
 

@@ -14,10 +14,10 @@ use Rattle.rm_alarm.specs.Standing.{AreWhole}
 use Rattle.rm_alarm.specs.Watched.{ReadsFrom}
 use Rattle.rm_acts.specs.Fired.{is_set}
 use Rattle.rm_collectors.specs.Group.{FallsDue as ReportsFallDue}
+use Rattle.rm_sources.specs.Group.{IsUnderWay as SourcesUnderWay, sampled_cells}
 use Rattle.rm_event.specs.Standing.{IsUnderWay as EventsUnderWay}
-use Rattle.rm_channels.specs.Group.{IsUnderWay as ChannelsUnderWay}
 use Rattle.rm_settings.specs.declared.settings.Settings.{Settings}
-use Rattle.rm_agent.specs.Members.{Groups, Sources, Watched, alarms_of, collectors_of, events_of, watched_of, ether, collectors, both, unfired, sampled_cells, all_groups}
+use Rattle.rm_agent.specs.Members.{Groups, Watched, alarms_of, collectors_of, events_of, watched_of, all_groups}
 use Rattle.rm_agent.specs.Known.{counting_by}
 
 -- the variables of all groups that have a value after a journal, at a moment in milliseconds
@@ -45,22 +45,16 @@ Reserves = all_groups.reserves
 abbrev pub GroupsStand : Groups → Counting → Journal → Type 0
 GroupsStand = all_groups.stands
 
--- The groups whose variables alarms may sample are in an act after a journal, of which they have taken these firings. Those that collect what
--- frames bring stand for the journal with the act in front already: no firing makes a difference to them.
-abbrev pub AreSourcesUnderWay : Sources → Counting → Act → Journal → List Firing → Type 0
-AreSourcesUnderWay keeps settings act earlier some =
-    StandAsOne ((both ether collectors).stands keeps.first settings (act ∷ earlier)) (ChannelsUnderWay keeps.second settings act earlier some) (Unit {0})
-
--- so are the alarms beside them, to which no firing makes a difference either
+-- The groups whose variables alarms may sample are in an act after a journal, of which they have taken these firings, and so are the alarms beside
+-- them, to which no firing makes a difference.
 abbrev pub AreWatchedUnderWay : Watched → Counting → Act → Journal → List Firing → Type 0
 AreWatchedUnderWay keeps settings act earlier some =
-    StandAsOne (AreSourcesUnderWay keeps.first settings act earlier some) (AreWhole keeps.second settings (act ∷ earlier)) (ReadsFrom sampled_cells settings)
+    StandAsOne (SourcesUnderWay keeps.first settings act earlier some) (AreWhole keeps.second settings (act ∷ earlier)) (ReadsFrom sampled_cells settings)
 
 -- All groups are in an act after a journal, of which they have taken these firings.
 abbrev pub AreUnderWay : Groups → Counting → Act → Journal → List Firing → Type 0
 AreUnderWay groups settings act earlier some =
-    unfired.stands groups.first settings (act ∷ earlier)
-    × ((is_set act ≡ false) × EventsUnderWay (events_of groups) settings act earlier some)
+    ((is_set act ≡ false) × EventsUnderWay (events_of groups) settings act earlier some)
     × AreWatchedUnderWay (watched_of groups) settings act earlier some
 
 -- they have the storage of one row of each table whose rows take storage

@@ -16,6 +16,6 @@ known_to_groups settings = record {
   readings = λ journal now. nothing_read;
 }
 
--- what the groups depend on: alarms read the variables of etherStats, of the history, of the hosts, of their reports, of the matrix, of channelTable and of bufferControlTable
+-- what the groups depend on: alarms read the variables of etherStats, of the distribution of protocols, of the history, of the hosts, of their reports, of the matrix, of channelTable and of bufferControlTable
 abbrev pub counting_by : Settings → Counting
 counting_by settings = sampling watched_cells (known_to_groups settings)

@@ -1,6 +1,5 @@
--- The groups of objects that the agent answers for: the system group, the directory of protocols, the events, etherStats, the history, the
--- hosts with their reports, the matrix, the filters, channels and buffers, and the alarms that sample variables of these from etherStats on. What
--- holds of a group is a record; two groups are one, and their record is made of both.
+-- The groups of objects that the agent answers for: the system group, the events, those whose variables alarms may sample, and the alarms that
+-- sample them. What holds of a group is a record; two groups are one, and their record is made of both.
 use Rattle.std.specs.Prelude.{◌||◌, ◌⊎◌, ℕ, ◌+◌, List, Bool, max, Option, None}
 use Rattle.std.specs.Option.{option_or}
 use Rattle.rm_val.specs.Val.{Val}
@@ -19,17 +18,9 @@ use Rattle.rm_acts.specs.Recurring.{Sampleable}
 use Rattle.rm_group.specs.Both.{StandAsOne}
 use Rattle.rm_group.specs.declared.both.Both.{Both}
 use Rattle.rm_group.specs.declared.system.System.{System}
-use Rattle.rm_ether.specs.EtherStats.{ether_stats, ether_beginning, ether_table}
-use Rattle.rm_ether.specs.Group.{Stands as EtherStands, frames_given as ether_frames, last_given as ether_last, ether_tables, ether_alone}
-use Rattle.rm_ether.specs.declared.ether.Ether.{Ether}
-use Rattle.rm_collectors.specs.Group.{left_of as reports_left, Stands as CollectorsStand, IsAskable as AreCollectorsAskable, IsStocked as AreCollectorsStocked, frames_given as collectors_frames, last_given as collectors_last, collected_cells, collected_objects, collected_alone, collected_together, CollectedReserves}
 use Rattle.rm_collectors.specs.declared.collectors.Collectors.{Collectors}
-use Rattle.rm_channels.specs.Group.{Stands as ChannelsStand, IsStocked as AreChannelsStocked, frames_given as channels_frames, last_given as channels_last, channel_cells, channel_sampleable, channel_objects, channel_alone, channel_together, ChannelReserves}
-use Rattle.rm_channels.specs.declared.channels.Channels.{Channels}
-use Rattle.rm_dir.specs.Group.{Stands as DirectoryStands}
-use Rattle.rm_dir.specs.Judging.{directory_alone, directory_together}
-use Rattle.rm_dir.specs.Tables.{directory_cells, directory_tables}
-use Rattle.rm_dir.specs.declared.directory.Directory.{Directory}
+use Rattle.rm_sources.specs.Group.{collectors_of as collectors_in, Stands as SourcesStand, IsAskable as AreSourcesAskable, IsStocked as AreSourcesStocked, frames_given as sources_frames, last_given as sources_last, left_of as sources_left, source_cells, sampled_cells, source_objects, source_alone, source_together, SourceReserves}
+use Rattle.rm_sources.specs.declared.sources.Sources.{Sources}
 use Rattle.rm_alarm.specs.AlarmTable.{alarms_table}
 use Rattle.rm_alarm.specs.Group.{alarm_tables, alarm_alone, alarm_together}
 use Rattle.rm_alarm.specs.Left.{samples_left}
@@ -42,17 +33,11 @@ use Rattle.rm_event.specs.Standing.{Stands as EventsStand}
 use Rattle.rm_event.specs.declared.events.Events.{Events}
 
 -- The groups as they stand in one another: a pair is a group, and the alarms stand beside the groups whose variables they sample.
-abbrev pub Unfired : Type 0
-Unfired = Both System Directory
-
-abbrev pub Sources : Type 0
-Sources = Both (Both Ether Collectors) Channels
-
 abbrev pub Watched : Type 0
 Watched = Both Sources Alarms
 
 abbrev pub Groups : Type 0
-Groups = Both Unfired (Both Events Watched)
+Groups = Both System (Both Events Watched)
 
 -- each group by its name, and the alarms with the groups whose variables they sample
 abbrev pub events_of : Groups → Events
@@ -61,11 +46,11 @@ events_of groups = groups.second.first
 abbrev pub watched_of : Groups → Watched
 watched_of groups = groups.second.second
 
-abbrev pub collectors_of : Groups → Collectors
-collectors_of groups = (watched_of groups).first.first.second
+abbrev pub sources_of : Groups → Sources
+sources_of groups = (watched_of groups).first
 
-abbrev pub channels_of : Groups → Channels
-channels_of groups = (watched_of groups).first.second
+abbrev pub collectors_of : Groups → Collectors
+collectors_of groups = collectors_in (sources_of groups)
 
 abbrev pub alarms_of : Groups → Alarms
 alarms_of groups = (watched_of groups).second
@@ -130,22 +115,6 @@ system = record {
   reserves = λ journal bindings index. ⊥;
 }
 
-abbrev pub directory : OfObjects Directory
-directory = record {
-  stands = λ keeps settings journal. DirectoryStands keeps journal;
-  tied = λ settings. Unit {0};
-  clock = λ keeps. 0;
-  askable = λ keeps moment. Unit {0};
-  frames = λ keeps. 0;
-  stocked = λ keeps. Unit {0};
-  left = λ keeps latest. 0;
-  cells = λ settings journal now. directory_cells journal;
-  objects = is_listed directory_tables;
-  alone = directory_alone;
-  together = λ settings journal now. directory_together journal;
-  reserves = λ journal bindings index. ⊥;
-}
-
 abbrev pub events : OfObjects Events
 events = record {
   stands = EventsStand;
@@ -162,54 +131,22 @@ events = record {
   reserves = λ journal. ReservesRow event_table (rows_after event_table no_rows journal);
 }
 
-abbrev pub ether : OfObjects Ether
-ether = record {
-  stands = EtherStands;
+-- Those with variables that alarms may sample: etherStats, the history, the hosts with their reports, the matrix, the directory of protocols with
+-- their distribution, and the filters, channels and buffers.
+abbrev pub sources : OfObjects Sources
+sources = record {
+  stands = SourcesStand;
   tied = λ settings. Unit {0};
-  clock = ether_last;
-  askable = λ keeps moment. Unit {0};
-  frames = ether_frames;
-  stocked = λ keeps. Unit {0};
-  left = λ keeps latest. 0;
-  cells = λ settings journal now. cells_of (ether_table settings journal);
-  objects = is_listed ether_tables;
-  alone = ether_alone;
-  together = λ settings journal now. second_pass ether_stats (rows_after ether_stats (ether_beginning settings) journal);
-  reserves = λ journal bindings index. ⊥;
-}
-
--- the history, the hosts with their reports, and the matrix, whose control rows collect what frames bring
-abbrev pub collectors : OfObjects Collectors
-collectors = record {
-  stands = CollectorsStand;
-  tied = λ settings. Unit {0};
-  clock = collectors_last;
-  askable = AreCollectorsAskable;
-  frames = collectors_frames;
-  stocked = AreCollectorsStocked;
-  left = reports_left;
-  cells = collected_cells;
-  objects = collected_objects;
-  alone = collected_alone;
-  together = λ settings journal now. collected_together journal;
-  reserves = CollectedReserves;
-}
-
--- the filters, the channels and the capture buffers
-abbrev pub channels : OfObjects Channels
-channels = record {
-  stands = ChannelsStand;
-  tied = λ settings. Unit {0};
-  clock = channels_last;
-  askable = λ keeps moment. Unit {0} × Unit {0};
-  frames = channels_frames;
-  stocked = AreChannelsStocked;
-  left = λ keeps latest. 0;
-  cells = channel_cells;
-  objects = channel_objects;
-  alone = channel_alone;
-  together = λ settings journal now. channel_together journal;
-  reserves = ChannelReserves;
+  clock = sources_last;
+  askable = AreSourcesAskable;
+  frames = sources_frames;
+  stocked = AreSourcesStocked;
+  left = sources_left;
+  cells = source_cells;
+  objects = source_objects;
+  alone = source_alone;
+  together = λ settings journal now. source_together settings journal;
+  reserves = SourceReserves;
 }
 
 -- Alarms that sample variables among these cells. An alarm that becomes valid is judged by what its variable reads then.
@@ -229,24 +166,10 @@ alarms sampleable = record {
   reserves = λ journal bindings index. ⊥;
 }
 
--- those to which neither firings nor samples make a difference
-abbrev pub unfired : OfObjects Unfired
-unfired = both system directory
-
--- those with variables that alarms may sample
-abbrev pub sources : OfObjects Sources
-sources = both (both ether collectors) channels
-
--- the variables that alarms may sample: those of etherStats and of the tables that collect, and of filters, channels and buffers those of
--- channelTable and bufferControlTable
-abbrev pub sampled_cells : Sampleable
-sampled_cells settings journal now name =
-    option_or ((both ether collectors).cells settings journal now name) (channel_sampleable settings journal now name)
-
--- these, and the alarms beside them
+-- the sources, and the alarms beside them
 abbrev pub watched : OfObjects Watched
 watched = both sources (alarms sampled_cells)
 
 -- all groups as one
 abbrev pub all_groups : OfObjects Groups
-all_groups = both unfired (both events watched)
+all_groups = both system (both events watched)

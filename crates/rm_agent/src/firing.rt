@@ -7,7 +7,7 @@ ghost use Rattle.rm_agent.specs.Members.{alarms_of, collectors_of};
 ghost use Rattle.rm_agent.specs.Groups.{GroupsStand, AreUnderWay, AreStocked, clock_of, frames_of};
 ghost use Rattle.rm_agent.specs.Firings.{firings_by, firings_asked};
 
-use crate::groups::{Groups, channels, events, fire};
+use crate::groups::{Groups, events, fire, sources};
 use arrayvec::ArrayVec;
 use rm_acts::Firing;
 use rm_event::Fired;
@@ -23,7 +23,7 @@ pub(crate) fn fire_accepting(groups: &mut Groups, moment: u32)
     ensures frames { frames_of groups.new ≡ frames_of groups.old }
     ensures stocked { AreStocked groups.old → AreStocked groups.new }
 {
-    if !channels(groups).accepting().is_empty() {
+    if !sources(groups).accepting().is_empty() {
         fire_all(groups, moment);
     }
 }
@@ -39,7 +39,7 @@ fn fire_all(groups: &mut Groups, moment: u32)
 {
     let mut accepting = ArrayVec::<Accepted, MAX_ROWS>::new();
     accepting
-        .try_extend_from_slice(channels(groups).accepting())
+        .try_extend_from_slice(sources(groups).accepting())
         .unwrap();
     fire_each(groups, accepting.as_slice(), moment);
 }

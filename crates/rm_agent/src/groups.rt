@@ -11,7 +11,7 @@ ghost use Rattle.rm_acts.specs.Alarms.{sampled};
 ghost use Rattle.rm_acts.specs.declared.firing.Firing.{Firing as Fires};
 ghost use Rattle.rm_alarm.specs.Group.{due_in};
 ghost use Rattle.rm_alarm.specs.Watched.{number_read};
-ghost use Rattle.rm_agent.specs.Members.{alarms_of, collectors_of, events_of, channels_of, sources, watched, unfired};
+ghost use Rattle.rm_agent.specs.Members.{alarms_of, collectors_of, events_of, sources_of, watched};
 ghost use Rattle.rm_capture.specs.declared.buffer_row.TheConstants.{MOST_SLICE};
 ghost use Rattle.rm_agent.specs.Known.{counting_by};
 ghost use Rattle.rm_agent.specs.Groups.{GroupsStand, AreAskable, AreUnderWay, AreStocked, FallDue, clock_of, frames_of, left_of};
@@ -19,24 +19,15 @@ ghost use Rattle.rm_agent.specs.Groups.{GroupsStand, AreAskable, AreUnderWay, Ar
 use crate::firing::fire_accepting;
 use rm_acts::Firing;
 use rm_alarm::{Alarms, Sampled, Watched, reads_cells, take_sample};
-use rm_channels::Channels;
-use rm_collectors::Collectors;
-use rm_dir::Directory;
-use rm_ether::Ether;
 use rm_event::Events;
 use rm_group::{Both, Due, FallsDue, Passing, Steps, System, sample_begins};
 use rm_settings::Settings;
+use rm_sources::Sources;
 use rm_val::NoMemory;
 use std::alloc::Global;
 
 /// All groups of objects that the agent answers for.
-pub(crate) type Groups = Both<Unfired, Both<Events, Watched<Sources>>>;
-
-/// The groups to which neither firings nor samples make a difference.
-type Unfired = Both<System, Directory>;
-
-/// The groups with variables that alarms may sample.
-type Sources = Both<Both<Ether, Collectors>, Channels>;
+pub(crate) type Groups = Both<System, Both<Events, Watched<Sources>>>;
 
 /// The groups of a probe that is set so, before the first act, which stand in memory of their own. They take the storage of one row of
 /// each table whose rows take storage while they are valid. NoMemory where there is none.
@@ -61,22 +52,11 @@ fn first_groups(settings: &Settings) -> Groups
     ensures frames { frames_of result ≡ 0 }
 {
     Both {
-        first: first_unfired(),
+        first: System,
         second: Both {
             first: Events::new(),
             second: first_watched(settings),
         },
-    }
-}
-
-// The groups to which neither firings nor samples make a difference.
-#[inline(never)]
-fn first_unfired() -> Unfired
-    ensures { (settings : Counting) → unfired.stands result settings [] }
-{
-    Both {
-        first: System,
-        second: Directory::new(),
     }
 }
 
@@ -89,24 +69,8 @@ fn first_watched(settings: &Settings) -> Watched<Sources>
 {
     reads_cells::<Sources>();
     Both {
-        first: first_sources(settings),
+        first: Sources::new(settings),
         second: Alarms::new(),
-    }
-}
-
-// The groups with variables that alarms sample.
-#[inline(never)]
-fn first_sources(settings: &Settings) -> Sources
-    ensures stands { sources.stands result (counting_by settings.now) [] }
-    ensures clock { sources.clock result ≡ 0 }
-    ensures frames { sources.frames result ≡ 0 }
-{
-    Both {
-        first: Both {
-            first: Ether::new(),
-            second: Collectors::new(settings),
-        },
-        second: Channels::new(),
     }
 }
 
@@ -118,8 +82,7 @@ fn reserve(alloc: Global, groups: &mut Groups) -> Result<(), NoMemory>
     ensures stocked { OnOk result (AreStocked groups.new) }
 {
     groups.second.first.reserve(alloc)?;
-    groups.second.second.first.first.second.reserve(alloc)?;
-    groups.second.second.first.second.reserve(alloc)
+    groups.second.second.first.reserve(alloc)
 }
 
 /// The events.
@@ -129,11 +92,11 @@ pub(crate) fn events(groups: &Groups) -> &Events
     &groups.second.first
 }
 
-/// The filters, channels and buffers.
-pub(crate) fn channels(groups: &Groups) -> &Channels
-    ensures { result.now ≡ channels_of groups.now }
+/// The groups whose variables alarms may sample.
+pub(crate) fn sources(groups: &Groups) -> &Sources
+    ensures { result.now ≡ sources_of groups.now }
 {
-    &groups.second.second.first.second
+    &groups.second.second.first
 }
 
 /// The alarms.
@@ -163,7 +126,7 @@ pub(crate) fn end_by(groups: &mut Groups, moment: u32)
     ensures fewer { (due : Falling) (latest : ℕ) → FallDue groups.old due → due.kind < SAMPLES → due.moment ≤ moment → due.moment ≤ latest
         → left_of groups.new latest < left_of groups.old latest }
 {
-    groups.second.second.first.first.second.end_by(moment);
+    groups.second.second.first.end_by(moment);
 }
 
 /// A frame passes, once the reports of hosts have ended that are due by its moment. All channels judge it, and buffers keep it, before the
@@ -181,10 +144,8 @@ pub(crate) fn pass(groups: &mut Groups, passing: &Passing<'_>)
     ensures stocked { AreStocked groups.old → AreStocked groups.new }
 {
     end_by(groups, passing.moment);
-    groups.first.pass(passing);
     groups.second.first.pass(passing);
-    groups.second.second.first.first.pass(passing);
-    groups.second.second.first.second.pass(passing);
+    groups.second.second.first.pass(passing);
     groups.second.second.second.pass(passing);
     fire_accepting(groups, passing.moment);
 }
@@ -204,10 +165,8 @@ pub(crate) fn sample(groups: &mut Groups, index: u32, moment: u32) -> Sampled
     ensures stocked { AreStocked groups.old → AreStocked groups.new }
     ensures fewer { (latest : ℕ) → moment ≤ latest → left_of groups.new latest < left_of groups.old latest }
 {
-    sample_begins(&groups.first, moment);
     sample_begins(&groups.second.first, moment);
-    sample_begins(&groups.second.second.first.first, moment);
-    groups.second.second.first.second.sample_begins(moment);
+    groups.second.second.first.sample_begins(moment);
     take_sample(&mut groups.second.second, index, moment)
 }
 
@@ -222,5 +181,5 @@ pub(crate) fn fire(groups: &mut Groups, firing: &Firing, moment: u32)
     ensures collectors { collectors_of groups.new ≡ collectors_of groups.old }
 {
     groups.second.first.take(firing, moment);
-    groups.second.second.first.second.take(firing, moment);
+    groups.second.second.first.take(firing, moment);
 }

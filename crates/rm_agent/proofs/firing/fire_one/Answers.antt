@@ -11,7 +11,7 @@ use Rattle.rm_agent.proofs.firing.fire_one.Goals as goal
 pub returns-in-Some-clause-under_way : goal.returns-in-Some-clause-under_way
 returns-in-Some-clause-under_way c settings act earlier some at under =
     let firing : Firing = record { event = c.in-Some.event; channel = Some c.args.accepted.now.channel } in
-    let rows : HasRows c.events.result.now earlier = subst (λ (e : Events). HasRows e earlier) (sym c.events.ensures) under.1.1.rows in
+    let rows : HasRows c.events.result.now earlier = subst (λ (e : Events). HasRows e earlier) (sym c.events.ensures) under.0.1.rows in
     let becomes = c.becomes-fired.ensures earlier rows in
     let fires : firings_by firing c.becomes-fired.result ≡ firings_asked earlier (c.args.accepted.now ∷ []) =
     ap (firings_by firing) becomes ∙ fires_so (event_state earlier (c.in-Some.event ∷ [])) (type_of earlier c.in-Some.event) firing ∙ sym (asked_one earlier c.args.accepted.now c.in-Some.event c.in-Some.is) in

@@ -2,12 +2,7 @@ use Rattle.rm_agent.proofs.groups.fire.Goals as goal
 
 pub returns-clause-under_way : goal.returns-clause-under_way
 returns-clause-under_way c settings act earlier some at under =
-    let watched = under.2 in (
-      under.0,
-      c.take.ensures.under_way settings act earlier some at under.1,
-      record {
-        first = record { first = watched.first.first; second = c.take-2.ensures.under_way settings act earlier some at watched.first.second; tied = tt };
-        second = watched.second;
-        tied = watched.tied;
-      },
+    let watched = under.1 in (
+      c.take.ensures.under_way settings act earlier some at under.0,
+      record { first = c.take-2.ensures.under_way settings act earlier some at watched.first; second = watched.second; tied = watched.tied },
     )

@@ -1,10 +1,11 @@
+use Rattle.std.proofs.Common.{refl}
 use Rattle.rm_agent.specs.Known.{counting_by, known_to_groups}
 use Rattle.rm_agent.proofs.groups.first_watched.Goals as goal
 
 pub returns-clause-stands : goal.returns-clause-stands
 returns-clause-stands c =
     let settings = counting_by c.args.settings.now in record {
-      first = c.first_sources.ensures.stands;
-      second = record { stand = c.new.ensures.stands settings; based = c.new.ensures.based settings };
+      first = c.new.ensures.stands settings refl (record { hosts = refl; pairs = refl });
+      second = record { stand = c.new-2.ensures.stands settings; based = c.new-2.ensures.based settings };
       tied = c.reads_cells.ensures (known_to_groups c.args.settings.now);
     }

@@ -7,15 +7,10 @@ returns-clause-stands c settings earlier frame is stands later =
     let asked = c.end_by.ensures.askable in
     let watched = ended.second.second in
     c.fire_accepting.ensures.stands settings earlier frame (sym is.at) (
-      c.pass.ensures.begins settings earlier frame is ended.first later asked.0,
-      c.pass-2.ensures.begins settings earlier frame is ended.second.first later asked.1.0,
+      c.pass.ensures.begins settings earlier frame is ended.second.first later asked.1.0,
       record {
-        first = record {
-          first = c.pass-3.ensures.begins settings earlier frame is watched.first.first later asked.1.1.0.0;
-          second = c.pass-4.ensures.begins settings earlier frame is watched.first.second later;
-          tied = tt;
-        };
-        second = c.pass-5.ensures.begins settings earlier frame is watched.second later asked.1.1.1;
+        first = c.pass-2.ensures.begins settings earlier frame is watched.first later asked.1.1.0;
+        second = c.pass-3.ensures.begins settings earlier frame is watched.second later asked.1.1.1;
         tied = watched.tied;
       },
     )
@@ -23,4 +18,4 @@ returns-clause-stands c settings earlier frame is stands later =
 pub returns-clause-stocked : goal.returns-clause-stocked
 returns-clause-stocked c stocked =
     let kept = c.end_by.ensures.stocked stocked in
-    c.fire_accepting.ensures.stocked (c.pass.ensures.stocked kept.0, (c.pass-2.ensures.stocked kept.1.0, ((c.pass-3.ensures.stocked kept.1.1.0.0, c.pass-4.ensures.stocked kept.1.1.0.1), c.pass-5.ensures.stocked kept.1.1.1)))
+    c.fire_accepting.ensures.stocked (tt, (c.pass.ensures.stocked kept.1.0, (c.pass-2.ensures.stocked kept.1.1.0, c.pass-3.ensures.stocked kept.1.1.1)))

@@ -33,7 +33,7 @@ returns-clause-taken c settings journal stands later due =
     let ended = c.end_by.ensures.stands settings journal stands in
     let comes = c.sample-comes.ensures.result settings journal ended later c.end_by.ensures.askable in
     let under = c.sample-comes.ensures.under_way settings journal ended later c.end_by.ensures.askable in
-    let stand : AlarmsStand c.alarms.result.now settings (act ∷ journal) = subst (λ (a : Alarms). AlarmsStand a settings (act ∷ journal)) (sym c.alarms.ensures) under.2.second.stand in
+    let stand : AlarmsStand c.alarms.result.now settings (act ∷ journal) = subst (λ (a : Alarms). AlarmsStand a settings (act ∷ journal)) (sym c.alarms.ensures) under.1.second.stand in
     let rows : HasRows c.events.result.now journal = subst (λ (e : Events). HasRows e journal) (sym (c.events.ensures ∙ c.sample-comes.ensures.events ∙ c.end_by.ensures.events)) stands.second.first.rows in
     let event : c.event_asked-event.result ≡ event_asked journal index c.sample-comes.result =
     c.event_asked-event.ensures settings (act ∷ journal) stand
