@@ -41,16 +41,19 @@ def small_frames():
         yield frame(1, 10, LEAST)
 
 
+def packed_record(milliseconds, octets):
+    """The record of a frame that is captured whole, so many milliseconds after the first moment."""
+    seconds, left = divmod(milliseconds, 1000)
+    return struct.pack("<IIII", FIRST_SECOND + seconds, left * 1000, len(octets), len(octets)) + octets
+
+
 def main():
     records, apart = map(int, sys.argv[1:3])
     frames = mixed_frames() if sys.argv[3:] == ["mixed"] else small_frames()
     out = sys.stdout.buffer
     out.write(FILE_HEADER)
     for number in range(records):
-        seconds, milliseconds = divmod(number * apart, 1000)
-        octets = next(frames)
-        out.write(struct.pack("<IIII", FIRST_SECOND + seconds, milliseconds * 1000, len(octets), len(octets)))
-        out.write(octets)
+        out.write(packed_record(number * apart, next(frames)))
 
 
 if __name__ == "__main__":

@@ -48,10 +48,10 @@ def name(numbers):
     return element(NAME, content)
 
 
-def datagram(kind, bindings, first=0, second=0, community=b"public"):
+def datagram(kind, bindings, first=0, second=0, community=b"public", request_id=1):
     """A request with these bindings, each a name and the element of its value."""
     listed = b"".join(element(SEQUENCE, name(numbers) + value) for numbers, value in bindings)
-    pdu = integer(1) + integer(first) + integer(second) + element(SEQUENCE, listed)
+    pdu = integer(request_id) + integer(first) + integer(second) + element(SEQUENCE, listed)
     return element(SEQUENCE, integer(1) + element(OCTETS, community) + element(kind, pdu))
 
 
