@@ -3,7 +3,7 @@ use Rattle.std.specs.Prelude.{Bool, true, false, cond}
 use Rattle.rm_proto.specs.declared.known.Facts.{Facts}
 use Rattle.rm_proto.specs.declared.ethernet.Cast.{Cast}
 use Rattle.rm_proto.specs.declared.ethernet.Cast.TheVariants.{Uni, Multi, Broad}
-use Rattle.rm_upper.specs.declared.counts.NetworkCounts.{NetworkCounts}
+use Rattle.rm_layer_hosts.specs.declared.counts.NetworkCounts.{NetworkCounts}
 
 -- whether it was sent to the broadcast address of the medium, or to that of a group
 abbrev pub is_to_many : Cast → Bool

@@ -5,10 +5,12 @@ ghost use Rattle.rm_model.specs.Journal.{Frame, passes, Journal};
 ghost use Rattle.rm_layers.specs.Upper.{AreTuned};
 ghost use Rattle.rm_upper.specs.Shown.{protocols, Agrees};
 ghost use Rattle.rm_upper.specs.Standing.{StandsFor};
+ghost use Rattle.rm_layer_hosts.specs.Counts.{host_tally};
 ghost use Rattle.rm_layer_events.specs.Side.{Side, IsSide, events, next_stamp};
 
+use crate::counts::NetworkCounts;
 use rm_evicting::Key;
-use rm_upper::{LayerTable, NetworkCounts};
+use rm_upper::LayerTable;
 
 /// A host that a frame names, and what the frame adds to its counts.
 #[derive(Clone, Copy)]
@@ -22,7 +24,7 @@ pub struct Named<K> {
 /// Takes a good frame with addresses, which refers to its source, and then to its destination. `path` has the protocols on its path that
 /// are on. The table then stands for the journal with that frame.
 pub fn pass<K: Key>(
-    table: &mut LayerTable<K>,
+    table: &mut LayerTable<K, NetworkCounts>,
     source: &Named<K>,
     destination: &Named<K>,
     path: &[u32],
@@ -43,7 +45,7 @@ pub fn pass<K: Key>(
         ≡ record { key = source.now.key; tick = tick; path = whole; gain = source.now.gain } ∷ record { key = destination.now.key; tick = tick; path = whole; gain = destination.now.gain } ∷ []
         → stamp ≡ next_stamp journal → table.old.on ≡ side.is_ip_on journal → AreTuned (protocols table.old.layered.slots) (events side journal)
         → Agrees table.old.layered.slots path.now (record { stamp = stamp; tick = tick; path = whole; gain = source.now.gain })
-        → StandsFor K.eq (events side journal) table.old.layered → StandsFor K.eq (events side (passes frame ∷ journal)) table.new.layered }
+        → StandsFor host_tally K.eq (events side journal) table.old.layered → StandsFor host_tally K.eq (events side (passes frame ∷ journal)) table.new.layered }
 {
     table.name(source.key, path, stamp, tick, &source.gain);
     table.name(destination.key, path, stamp + 1, tick, &destination.gain);

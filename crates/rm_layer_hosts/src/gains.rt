@@ -3,8 +3,8 @@
 ghost use Rattle.std.specs.Prelude.{◌≡◌, ℕ};
 ghost use Rattle.rm_layer_hosts.specs.Gains.{sent, received, is_to_many};
 
+use crate::counts::{NetworkCounts, Traffic};
 use rm_proto::{Cast, Facts};
-use rm_upper::{NetworkCounts, Traffic};
 
 // Whether a frame was sent to the broadcast address of the medium, or to that of a group.
 fn is_to_many(cast: Cast) -> bool

@@ -8,8 +8,7 @@ use Rattle.rm_evicting.proofs.RowLemmas.{each-push, each-weaker}
 use Rattle.rm_layers.specs.Event.{Contribution, Event, names, is_ip_on}
 use Rattle.rm_layers.proofs.EventSteps.{is_of-unnamed}
 use Rattle.rm_evicting.specs.Held.{IsExact}
-use Rattle.rm_upper.specs.declared.counts.NetworkCounts.{NetworkCounts}
-use Rattle.rm_upper.specs.Counts.{no_traffic, no_counts, plus, with_gain}
+use Rattle.rm_upper.specs.Tally.{Tally}
 use Rattle.rm_upper.specs.Shown.{protocols}
 use Rattle.rm_upper.specs.Standing.{Layered, seen, StandsFor}
 use Rattle.rm_upper.specs.LayerTable.{IsBefore, AreBefore}
@@ -44,9 +43,9 @@ module _ {K V : Type 0} where
   still_before next latest stamp tick above after rows b = each-weaker (IsBefore next latest) (IsBefore (stamp + 1) tick) (λ row d. let l : row.last < next = d.0 in let t : row.tick ≤ latest = d.1 in (omega arith, omega arith)) rows b
 
 -- a frame while ip is off
-pub stands-unnamed : {K : Type 0} (eq : K → K → Bool) (exact : IsExact eq) (r : List (Event K NetworkCounts)) (layered : Layered K) (k : K) (c : Contribution NetworkCounts) → is_ip_on r ≡ false → StandsFor eq r layered → StandsFor eq (names k c ∷ r) layered
-stands-unnamed eq exact r layered k c off stands = record {
-  is = is_of-unnamed eq exact no_counts plus no_traffic with_gain 0 r layered.table.capacity (protocols layered.slots) k c (seen layered) off stands.is;
+pub stands-unnamed : {K N A : Type 0} (tally : Tally N A) (eq : K → K → Bool) (exact : IsExact eq) (r : List (Event K N)) (layered : Layered K N A) (k : K) (c : Contribution N) → is_ip_on r ≡ false → StandsFor tally eq r layered → StandsFor tally eq (names k c ∷ r) layered
+stands-unnamed tally eq exact r layered k c off stands = record {
+  is = is_of-unnamed eq exact tally.blank tally.add tally.none tally.more 0 r layered.table.capacity (protocols layered.slots) k c (seen layered) off stands.is;
   kept = λ s above. stands.kept s above.1;
   since = λ s above. stands.since s above.1;
 }

@@ -6,7 +6,7 @@ use Rattle.rm_evicting.specs.declared.Row.{Row}
 use Rattle.rm_evicting.specs.Row.{credited}
 use Rattle.rm_rows.specs.Table.{row_of, value_of, with_value}
 use Rattle.rm_upper.specs.declared.slots.Slot.{Slot}
-use Rattle.rm_upper.specs.declared.host_row.HostRow.{HostRow}
+use Rattle.rm_upper.specs.Kept.{NetworkRow}
 use Rattle.rm_upper.specs.Kept.{is_among, all_made}
 use Rattle.rm_upper.specs.Shown.{made_in}
 
@@ -29,18 +29,18 @@ module _ {K V C : Type 0} (eq : K → K → Bool) (add : V → C → V) where
     | inr f ↦ rw f (ap (λ l. row ∷ l) (credited-absent h c rows (rw f at n)))
   ]
 
-module _ {K : Type 0} (eq : K → K → Bool) (slots : List (Option Slot)) (path : List ℕ) where
-  pub made-here : (h : K) (v : HostRow) (rows : List (Row K HostRow)) → option_map value_of (row_of eq h rows) ≡ Some v → made_in eq slots path h rows ≡ all_made (is_among path) slots v.applications
+module _ {K N A : Type 0} (eq : K → K → Bool) (slots : List (Option Slot)) (path : List ℕ) where
+  pub made-here : (h : K) (v : NetworkRow N A) (rows : List (Row K (NetworkRow N A))) → option_map value_of (row_of eq h rows) ≡ Some v → made_in eq slots path h rows ≡ all_made (is_among path) slots v.applications
   made-here h v [] is = cc
   made-here h v (row ∷ rows) is = elim (cases_Bool (eq h row.key)) [
     | inl t ↦
         let seen : Some row.value ≡ Some v = rw t at is in
         let same : row.value ≡ v = cc in
-        rw t (ap (λ (x : HostRow). all_made (is_among path) slots x.applications) same)
+        rw t (ap (λ (x : NetworkRow N A). all_made (is_among path) slots x.applications) same)
     | inr f ↦ rw f (made-here h v rows (rw f at is))
   ]
 
-  pub made-absent : (h : K) (rows : List (Row K HostRow)) → row_of eq h rows ≡ None → made_in eq slots path h rows ≡ 0
+  pub made-absent : (h : K) (rows : List (Row K (NetworkRow N A))) → row_of eq h rows ≡ None → made_in eq slots path h rows ≡ 0
   made-absent h [] n = refl
   made-absent h (row ∷ rows) n = elim (cases_Bool (eq h row.key)) [
     | inl t ↦ let f : Some row ≡ None = rw t at n in cc

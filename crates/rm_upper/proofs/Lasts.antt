@@ -14,17 +14,15 @@ use Rattle.rm_layers.specs.Applications.{Application, AreApart, has_slot, applic
 use Rattle.rm_layers.specs.Upper.{IsValue, AreTuned}
 use Rattle.rm_layers.specs.Marks.{ApplicationLasts}
 use Rattle.rm_layers.proofs.Cells.{shows-lasts, lasts-shows}
-use Rattle.rm_upper.specs.declared.counts.Traffic.{Traffic}
-use Rattle.rm_upper.specs.declared.counts.NetworkCounts.{NetworkCounts}
 use Rattle.rm_upper.specs.declared.slots.Slot.{Slot}
 use Rattle.rm_upper.specs.declared.slots.KeptApplication.{KeptApplication}
-use Rattle.rm_upper.specs.declared.host_row.HostRow.{HostRow}
-use Rattle.rm_upper.specs.Counts.{no_traffic, no_counts, plus, with_gain}
+use Rattle.rm_upper.specs.Kept.{NetworkRow}
+use Rattle.rm_upper.specs.Tally.{Tally}
 use Rattle.rm_upper.specs.Shown.{shown_all, protocols, seen_value, row_as}
 use Rattle.rm_upper.specs.Standing.{Layered, StandsFor}
 use Rattle.rm_upper.specs.Walk.{IsShown, ShowsApplication}
 
-has_its_slot : (slots : List (Option Slot)) (applications : List (Option KeptApplication)) (p u : ℕ) → IsShown slots applications p u → has_slot p (protocols slots) ≡ true
+has_its_slot : {A : Type 0} (slots : List (Option Slot)) (applications : List (Option (KeptApplication A))) (p u : ℕ) → IsShown slots applications p u → has_slot p (protocols slots) ≡ true
 has_its_slot [] applications p u s = absurd s
 has_its_slot (slot ∷ slots) [] p u s = absurd s
 has_its_slot (None ∷ slots) (application ∷ applications) p u s = has_its_slot slots applications p u s
@@ -39,7 +37,7 @@ another slot slots p off on = elim (cases_Bool (nat_eq p slot.protocol)) [
   | inr e ↦ e
 ]
 
-pub shown_application : (slots : List (Option Slot)) (applications : List (Option KeptApplication)) (p u : ℕ) → AreApart (protocols slots) → IsShown slots applications p u → (application : Application Traffic) × (application_at p (protocols slots) (shown_all slots applications) ≡ Some application) × (u ≡ application.tick)
+pub shown_application : {A : Type 0} (slots : List (Option Slot)) (applications : List (Option (KeptApplication A))) (p u : ℕ) → AreApart (protocols slots) → IsShown slots applications p u → (application : Application A) × (application_at p (protocols slots) (shown_all slots applications) ≡ Some application) × (u ≡ application.tick)
 shown_application [] applications p u apart s = absurd s
 shown_application (slot ∷ slots) [] p u apart s = absurd s
 shown_application (None ∷ slots) (application ∷ applications) p u apart s = shown_application slots applications p u apart s
@@ -50,7 +48,11 @@ shown_application (Some slot ∷ slots) (Some kept ∷ applications) p u apart (
     (record { created = kept.created; tick = kept.tick; sums = kept.sums }, rw (e, le-leb slot.since kept.stamp h.1) refl, h.2)
 shown_application (Some slot ∷ slots) (Some kept ∷ applications) p u apart (inr s) = let more = shown_application slots applications p u apart.1 s in let off = another slot slots p apart.0 (has_its_slot slots applications p u s) in rw off more
 
-pub application_shown : (slots : List (Option Slot)) (applications : List (Option KeptApplication)) (p : ℕ) (application : Application Traffic) → application_at p (protocols slots) (shown_all slots applications) ≡ Some application → IsShown slots applications p application.tick
+abbrev tick_of : {A : Type 0} → Option (Application A) → ℕ
+tick_of None = 0
+tick_of (Some a) = a.tick
+
+pub application_shown : {A : Type 0} (slots : List (Option Slot)) (applications : List (Option (KeptApplication A))) (p : ℕ) (application : Application A) → application_at p (protocols slots) (shown_all slots applications) ≡ Some application → IsShown slots applications p application.tick
 application_shown [] applications p application e = cc
 application_shown (None ∷ slots) [] p application e = cc
 application_shown (Some slot ∷ slots) [] p application e = cc
@@ -69,10 +71,6 @@ application_shown (Some slot ∷ slots) (Some kept ∷ applications) p applicati
   ]
   | inr y ↦ inr (application_shown slots applications p application (rw y at e))
 ]
-  where
-    tick_of : Option (Application Traffic) → ℕ
-    tick_of None = 0
-    tick_of (Some a) = a.tick
 
 module _ {K U : Type 0} (eq : K → K → Bool) (exact : IsExact eq) where
   pub found : (P : Row K U → Type 0) (k : K) (rows : List (Row K U)) (row : Row K U) → AllByRecursion P rows → row_of eq k rows ≡ Some row → P row × (row.key ≡ k) × (holds eq k rows ≡ true)
@@ -102,12 +100,12 @@ module _ {K : Type 0} (eq : K → K → Bool) (exact : IsExact eq) where
   left true b e = refl
   left false b e = absurd (true≢false (sym e))
 
-  module _ (layered : Layered K) (r : List (Event K NetworkCounts)) (tuned : AreTuned (protocols layered.slots) r) (stands : StandsFor eq r layered) where
-    abbrev pub Is : Row K HostRow → Type 0
-    Is row = IsRow eq (IsValue no_counts plus no_traffic with_gain (protocols layered.slots) (λ p. on_since p r)) layered.table.capacity (span r) (row_as (seen_value layered.slots) row)
+  module _ {N A : Type 0} (tally : Tally N A) (layered : Layered K N A) (r : List (Event K N)) (tuned : AreTuned (protocols layered.slots) r) (stands : StandsFor tally eq r layered) where
+    abbrev pub Is : Row K (NetworkRow N A) → Type 0
+    Is row = IsRow eq (IsValue tally.blank tally.add tally.none tally.more (protocols layered.slots) (λ p. on_since p r)) layered.table.capacity (span r) (row_as (seen_value layered.slots) row)
 
     pub each : AllByRecursion Is layered.table.rows
-    each = each-through (seen_value layered.slots) (IsRow eq (IsValue no_counts plus no_traffic with_gain (protocols layered.slots) (λ p. on_since p r)) layered.table.capacity (span r)) layered.table.rows stands.is.stands.each
+    each = each-through (seen_value layered.slots) (IsRow eq (IsValue tally.blank tally.add tally.none tally.more (protocols layered.slots) (λ p. on_since p r)) layered.table.capacity (span r)) layered.table.rows stands.is.stands.each
 
     pub is_held_here : (k : K) → holds eq k layered.table.rows ≡ is_held eq layered.table.capacity k r
     is_held_here k = sym (holds_seen (seen_value layered.slots) k layered.table.rows) ∙ stands.is.stands.held k
@@ -117,12 +115,12 @@ module _ {K : Type 0} (eq : K → K → Bool) (exact : IsExact eq) where
         let f = found eq exact Is x.0 layered.table.rows s.0 each s.1 in
         let a = shown_application layered.slots s.0.value.applications x.1 u tuned.apart s.2 in
         let h : is_held eq layered.table.capacity s.0.key r ≡ true = ap (λ k. is_held eq layered.table.capacity k r) f.1 ∙ sym (is_held_here x.0) ∙ f.2 in
-        subst (λ t. ApplicationLasts eq layered.table.capacity r x t) (sym a.2) (subst (λ k. ApplicationLasts eq layered.table.capacity r (k, x.1) a.0.tick) f.1 (shows-lasts eq exact no_counts plus no_traffic with_gain layered.table.capacity (protocols layered.slots) r tuned (row_as (seen_value layered.slots) s.0) f.0 h x.1 a.0 a.1))
+        subst (λ t. ApplicationLasts eq layered.table.capacity r x t) (sym a.2) (subst (λ k. ApplicationLasts eq layered.table.capacity r (k, x.1) a.0.tick) f.1 (shows-lasts eq exact tally.blank tally.add tally.none tally.more layered.table.capacity (protocols layered.slots) r tuned (row_as (seen_value layered.slots) s.0) f.0 h x.1 a.0 a.1))
 
     pub lasts-application : (x : K × ℕ) (u : ℕ) → ApplicationLasts eq layered.table.capacity r x u → ShowsApplication eq layered x u
     lasts-application x u l =
         let h : holds eq x.0 layered.table.rows ≡ true = is_held_here x.0 ∙ left (is_held eq layered.table.capacity x.0 r) _ l.0 in
         let t = there x.0 layered.table.rows h in
         let f = found eq exact Is x.0 layered.table.rows t.0 each t.1 in
-        let a = lasts-shows eq exact no_counts plus no_traffic with_gain layered.table.capacity (protocols layered.slots) r tuned (row_as (seen_value layered.slots) t.0) f.0 x.1 u (subst (λ k. ApplicationLasts eq layered.table.capacity r (k, x.1) u) (sym f.1) l) in
+        let a = lasts-shows eq exact tally.blank tally.add tally.none tally.more layered.table.capacity (protocols layered.slots) r tuned (row_as (seen_value layered.slots) t.0) f.0 x.1 u (subst (λ k. ApplicationLasts eq layered.table.capacity r (k, x.1) u) (sym f.1) l) in
         (t.0, t.1, subst (λ v. IsShown layered.slots t.0.value.applications x.1 v) (sym a.2) (application_shown layered.slots t.0.value.applications x.1 a.0 a.1))

@@ -1,6 +1,7 @@
 pub mod KeptLemmas
 pub mod CreditLemmas
 pub mod SeenLemmas
+pub mod SeenTables
 pub mod StandingLemmas
 pub mod WalkLemmas
 pub mod RowWalk

@@ -13,8 +13,8 @@ use Rattle.rm_rows.specs.Table.{row_of, IsAbove, IsPairAbove, IsNextMark}
 use Rattle.rm_layers.specs.Event.{Event, span}
 use Rattle.rm_layers.specs.Marks.{IsInstance, IsAboveAt, IsNextInstance, IsAboveName, NetworkLasts, ApplicationLasts, pair_cmp}
 use Rattle.rm_layers.specs.Upper.{AreTuned}
-use Rattle.rm_upper.specs.declared.counts.NetworkCounts.{NetworkCounts}
-use Rattle.rm_upper.specs.declared.host_row.HostRow.{HostRow}
+use Rattle.rm_upper.specs.Kept.{NetworkRow}
+use Rattle.rm_upper.specs.Tally.{Tally}
 use Rattle.rm_upper.specs.Shown.{protocols}
 use Rattle.rm_upper.specs.Standing.{Layered, StandsFor}
 use Rattle.rm_upper.specs.Walk.{ShowsApplication}
@@ -26,8 +26,8 @@ module _ {X : Type 0} (cmp : X → X → Ordering) (lasts other : X → ℕ → 
   pub instance-same : (mark : ℕ) (above : X → Type 0) (res : Option (ℕ × X)) → IsNextInstance cmp lasts mark above res → IsNextInstance cmp other mark above res
   instance-same mark above res l = least-shown (pair_cmp nat_cmp cmp) (IsInstance lasts) (IsInstance other) (IsAboveAt mark above) (λ i s. (s.0, to i.1 s.0 s.1, s.2)) (λ i s. (s.0, back i.1 s.0 s.1, s.2)) res l
 
-pub application_instance : {K : Type 0} (eq : K → K → Bool) (exact : IsExact eq) (cmp : K → K → Ordering) (layered : Layered K) (r : List (Event K NetworkCounts)) → AreTuned (protocols layered.slots) r → StandsFor eq r layered → (mark : ℕ) (above : K × ℕ → Type 0) (res : Option (ℕ × (K × ℕ))) → IsNextInstance (pair_cmp cmp nat_cmp) (ShowsApplication eq layered) mark above res → IsNextInstance (pair_cmp cmp nat_cmp) (ApplicationLasts eq layered.table.capacity r) mark above res
-application_instance eq exact cmp layered r tuned stands mark above res l = instance-same (pair_cmp cmp nat_cmp) (ShowsApplication eq layered) (ApplicationLasts eq layered.table.capacity r) (λ x u s. application-lasts eq exact layered r tuned stands x u s) (λ x u s. lasts-application eq exact layered r tuned stands x u s) mark above res l
+pub application_instance : {K N A : Type 0} (tally : Tally N A) (eq : K → K → Bool) (exact : IsExact eq) (cmp : K → K → Ordering) (layered : Layered K N A) (r : List (Event K N)) → AreTuned (protocols layered.slots) r → StandsFor tally eq r layered → (mark : ℕ) (above : K × ℕ → Type 0) (res : Option (ℕ × (K × ℕ))) → IsNextInstance (pair_cmp cmp nat_cmp) (ShowsApplication eq layered) mark above res → IsNextInstance (pair_cmp cmp nat_cmp) (ApplicationLasts eq layered.table.capacity r) mark above res
+application_instance tally eq exact cmp layered r tuned stands mark above res l = instance-same (pair_cmp cmp nat_cmp) (ShowsApplication eq layered) (ApplicationLasts eq layered.table.capacity r) (λ x u s. application-lasts eq exact tally layered r tuned stands x u s) (λ x u s. lasts-application eq exact tally layered r tuned stands x u s) mark above res l
 
 then_less : (a b : Ordering) → ordering_then a b ≡ Less → (a ≡ Less) ⊎ ((a ≡ Equal) × (b ≡ Less))
 then_less Less b e = inl refl
@@ -92,17 +92,17 @@ module _ {K : Type 0} (eq : K → K → Bool) (exact : IsExact eq) where
     | inr y ↦ let more = contained k rows row (rw y at e) in (suc more.0, (let lt : more.0 < length rows = more.1 in omega arith), more.2)
   ]
 
-  module _ (layered : Layered K) (r : List (Event K NetworkCounts)) (tuned : AreTuned (protocols layered.slots) r) (stands : StandsFor eq r layered) where
-    of_key : (row : Row K HostRow) → Contains layered.table.rows row → NetworkLasts eq layered.table.capacity r row.key row.tick
+  module _ {N A : Type 0} (tally : Tally N A) (layered : Layered K N A) (r : List (Event K N)) (tuned : AreTuned (protocols layered.slots) r) (stands : StandsFor tally eq r layered) where
+    of_key : (row : Row K (NetworkRow N A)) → Contains layered.table.rows row → NetworkLasts eq layered.table.capacity r row.key row.tick
     of_key row c =
-        let is = All-contains (Is eq exact layered r tuned stands) layered.table.rows row (All-from_recursion (Is eq exact layered r tuned stands) layered.table.rows (each eq exact layered r tuned stands)) c in
-        (sym (is_held_here eq exact layered r tuned stands row.key) ∙ held_itself layered.table.rows row c, is.tick)
+        let is = All-contains (Is eq exact tally layered r tuned stands) layered.table.rows row (All-from_recursion (Is eq exact tally layered r tuned stands) layered.table.rows (each eq exact tally layered r tuned stands)) c in
+        (sym (is_held_here eq exact tally layered r tuned stands row.key) ∙ held_itself layered.table.rows row c, is.tick)
 
-    key_for : (k : K) (u : ℕ) → NetworkLasts eq layered.table.capacity r k u → (row : Row K HostRow) × Contains layered.table.rows row × (row.key ≡ k) × (u ≡ row.tick)
+    key_for : (k : K) (u : ℕ) → NetworkLasts eq layered.table.capacity r k u → (row : Row K (NetworkRow N A)) × Contains layered.table.rows row × (row.key ≡ k) × (u ≡ row.tick)
     key_for k u l =
-        let h : holds eq k layered.table.rows ≡ true = is_held_here eq exact layered r tuned stands k ∙ l.0 in
+        let h : holds eq k layered.table.rows ≡ true = is_held_here eq exact tally layered r tuned stands k ∙ l.0 in
         let t = there eq exact k layered.table.rows h in
-        let f = found eq exact (Is eq exact layered r tuned stands) k layered.table.rows t.0 (each eq exact layered r tuned stands) t.1 in
+        let f = found eq exact (Is eq exact tally layered r tuned stands) k layered.table.rows t.0 (each eq exact tally layered r tuned stands) t.1 in
         (t.0, contained k layered.table.rows t.0 t.1, f.1, l.1 ∙ ap (λ j. last_tick eq j (span r)) (sym f.1) ∙ sym (f.0).tick)
 
     pub network_instance : (cmp : K → K → Ordering) (mark : ℕ) (from : Option K) (res : Option (ℕ × K)) → IsNextMark cmp layered.table.rows mark from res → IsNextInstance cmp (NetworkLasts eq layered.table.capacity r) mark (IsAboveName cmp from) res

@@ -12,10 +12,12 @@ use Rattle.std.proofs.lemmas.List.Elements.{All-contains}
 use Rattle.std.proofs.lemmas.List.Sums.{sum_by-cons}
 use Rattle.rm_evicting.specs.Held.{IsExact}
 use Rattle.rm_evicting.specs.declared.Row.{Row}
-use Rattle.rm_rows.specs.Table.{row_of, keys_of, value_of, IsNextKey}
+use Rattle.rm_rows.specs.Table.{row_of, keys_of, IsNextKey}
 use Rattle.rm_layers.specs.Marks.{IsLeast, StandsAt, IsAboveName, IsAboveApplication, pair_cmp}
 use Rattle.rm_layers.proofs.MarkLemmas.{in_row, at_next, at_end, at_first_row, at_no_row}
-use Rattle.rm_upper.specs.declared.host_row.HostRow.{HostRow}
+use Rattle.rm_upper.specs.declared.slots.KeptApplication.{KeptApplication}
+use Rattle.rm_upper.specs.Kept.{NetworkRow}
+use Rattle.rm_upper.specs.Shown.{applications_of}
 use Rattle.rm_upper.specs.Standing.{Layered}
 use Rattle.rm_upper.specs.Walk.{IsShown, IsMarked, ShowsApplication}
 use Rattle.rm_upper.proofs.WalkLemmas.{least-shown}
@@ -102,30 +104,27 @@ module _ {K : Type 0} (cmp : K → K → Ordering) where
         any true a0 b rest = omega arith
         any false a0 b rest = omega arith
 
-module _ {K : Type 0} (eq : K → K → Bool) (layered : Layered K) (mark : ℕ) where
-  row_there : (v : HostRow) (o : Option (Row K HostRow)) → option_map value_of o ≡ Some v → (row : Row K HostRow) × (o ≡ Some row) × (row.value ≡ v)
-  row_there v None e = cc
-  row_there v (Some row) e = (row, refl, cc)
+module _ {K N A : Type 0} (eq : K → K → Bool) (layered : Layered K N A) (mark : ℕ) where
+  row_there : (l : List (Option (KeptApplication A))) (o : Option (Row K (NetworkRow N A))) → option_map applications_of o ≡ Some l → (row : Row K (NetworkRow N A)) × (o ≡ Some row) × (row.value.applications ≡ l)
+  row_there l None e = cc
+  row_there l (Some row) e = (row, refl, cc)
 
   -- what a row's slots have is what is shown of its key
-  pub in_is : (k : K) (v : HostRow) → option_map value_of (row_of eq k layered.table.rows) ≡ Some v → (from res : Option ℕ) → IsLeast nat_cmp (IsMarked mark layered.slots v.applications) (IsAboveName nat_cmp from) res → IsLeast nat_cmp (λ p. StandsAt (ShowsApplication eq layered) mark (k, p)) (IsAboveName nat_cmp from) res
-  in_is k v e from res l =
-      let there = row_there v (row_of eq k layered.table.rows) e in
-      least-shown nat_cmp (IsMarked mark layered.slots v.applications) (λ p. StandsAt (ShowsApplication eq layered) mark (k, p)) (IsAboveName nat_cmp from)
-      (λ p m. (m.0, (there.0, there.1, subst (λ (w : HostRow). IsShown layered.slots w.applications p m.0) (sym there.2) m.1), m.2))
-      (λ p s. back p s) res l
+  pub in_is : (k : K) (l : List (Option (KeptApplication A))) → option_map applications_of (row_of eq k layered.table.rows) ≡ Some l → (from res : Option ℕ) → IsLeast nat_cmp (IsMarked mark layered.slots l) (IsAboveName nat_cmp from) res → IsLeast nat_cmp (λ p. StandsAt (ShowsApplication eq layered) mark (k, p)) (IsAboveName nat_cmp from) res
+  in_is k l e from res least =
+      let there = row_there l (row_of eq k layered.table.rows) e in
+      least-shown nat_cmp (IsMarked mark layered.slots l) (λ p. StandsAt (ShowsApplication eq layered) mark (k, p)) (IsAboveName nat_cmp from)
+      (λ p m. (m.0, (there.0, there.1, subst (λ x. IsShown layered.slots x p m.0) (sym there.2) m.1), m.2))
+      (λ p s. back p s) res least
     where
-      same_value : (row : Row K HostRow) → row_of eq k layered.table.rows ≡ Some row → row.value ≡ v
-      same_value row f = let both : Some row.value ≡ Some v = sym (ap (option_map value_of) f) ∙ e in cc
+      same_applications : (row : Row K (NetworkRow N A)) → row_of eq k layered.table.rows ≡ Some row → row.value.applications ≡ l
+      same_applications row f = let both : Some row.value.applications ≡ Some l = sym (ap (option_map applications_of) f) ∙ e in cc
 
-      back : (p : ℕ) → StandsAt (ShowsApplication eq layered) mark (k, p) → IsMarked mark layered.slots v.applications p
-      back p s = (s.0, subst (λ (w : HostRow). IsShown layered.slots w.applications p s.0) (same_value s.1.0 s.1.1) s.1.2, s.2)
-
-  pub in_none : (k : K) → option_map value_of (row_of eq k layered.table.rows) ≡ None → (from : Option ℕ) → IsLeast nat_cmp (λ p. StandsAt (ShowsApplication eq layered) mark (k, p)) (IsAboveName nat_cmp from) None
-  in_none k e from = λ p s a. let both : Some s.1.0.value ≡ None = sym (ap (option_map value_of) s.1.1) ∙ e in cc
+      back : (p : ℕ) → StandsAt (ShowsApplication eq layered) mark (k, p) → IsMarked mark layered.slots l p
+      back p s = (s.0, subst (λ x. IsShown layered.slots x p s.0) (same_applications s.1.0 s.1.1) s.1.2, s.2)
 
   module _ (exact : IsExact eq) where
-    found_in : (k : K) (rows : List (Row K HostRow)) (row : Row K HostRow) → row_of eq k rows ≡ Some row → Contains (keys_of rows) k
+    found_in : (k : K) (rows : List (Row K (NetworkRow N A))) (row : Row K (NetworkRow N A)) → row_of eq k rows ≡ Some row → Contains (keys_of rows) k
     found_in k [] row e = cc
     found_in k (x ∷ rows) row e = elim (cases_Bool (eq k x.key)) [
       | inl y ↦ (0, omega arith, sym (exact.same k x.key y))
@@ -136,7 +135,7 @@ module _ {K : Type 0} (eq : K → K → Bool) (layered : Layered K) (mark : ℕ)
     pub shown_held : (x : K × ℕ) → StandsAt (ShowsApplication eq layered) mark x → Contains (keys_of layered.table.rows) x.0
     shown_held x s = found_in x.0 layered.table.rows s.1.0 s.1.1
 
-module _ {K : Type 0} (eq : K → K → Bool) (same_key : IsExact eq) (cmp : K → K → Ordering) (order : IsTotalOrder cmp) (exact : (a b : K) → cmp a b ≡ Equal → a ≡ b) (layered : Layered K) (mark : ℕ) where
+module _ {K N A : Type 0} (eq : K → K → Bool) (same_key : IsExact eq) (cmp : K → K → Ordering) (order : IsTotalOrder cmp) (exact : (a b : K) → cmp a b ≡ Equal → a ≡ b) (layered : Layered K N A) (mark : ℕ) where
   abbrev pub Shown : K × ℕ → Type 0
   Shown x = StandsAt (ShowsApplication eq layered) mark x
 

@@ -57,8 +57,8 @@ module _ (from : Option ℕ) (P : ℕ → Type 0) where
       least None m j y t a lt = m y t a
       least (Some b) m j y t a lt = let pb : p < b = grind (arith, nat_tests, j) in m.2 y t a (less y b (omega arith))
 
-module _ (mark : ℕ) (from : Option ℕ) where
-  here_to : (slot : Option Slot) (application : Option KeptApplication) (slots : List (Option Slot)) (applications : List (Option KeptApplication)) (p : ℕ) → marked_at mark slot application ≡ Some p → IsMarked mark (slot ∷ slots) (application ∷ applications) p
+module _ {A : Type 0} (mark : ℕ) (from : Option ℕ) where
+  here_to : (slot : Option Slot) (application : Option (KeptApplication A)) (slots : List (Option Slot)) (applications : List (Option (KeptApplication A))) (p : ℕ) → marked_at mark slot application ≡ Some p → IsMarked mark (slot ∷ slots) (application ∷ applications) p
   here_to None application slots applications p e = cc
   here_to (Some slot) None slots applications p e = cc
   here_to (Some slot) (Some kept) slots applications p e = elim (cases_Bool (nat_le slot.since kept.stamp)) [
@@ -69,12 +69,12 @@ module _ (mark : ℕ) (from : Option ℕ) where
     | inr o ↦ let none : None ≡ Some p = rw o at e in cc
   ]
 
-  later_to : (slot : Option Slot) (application : Option KeptApplication) (slots : List (Option Slot)) (applications : List (Option KeptApplication)) (p : ℕ) → IsMarked mark slots applications p → IsMarked mark (slot ∷ slots) (application ∷ applications) p
+  later_to : (slot : Option Slot) (application : Option (KeptApplication A)) (slots : List (Option Slot)) (applications : List (Option (KeptApplication A))) (p : ℕ) → IsMarked mark slots applications p → IsMarked mark (slot ∷ slots) (application ∷ applications) p
   later_to None application slots applications p m = m
   later_to (Some slot) None slots applications p m = m
   later_to (Some slot) (Some kept) slots applications p m = (m.0, inr m.1, m.2)
 
-  from_marked : (slot : Option Slot) (application : Option KeptApplication) (slots : List (Option Slot)) (applications : List (Option KeptApplication)) (p : ℕ) → IsMarked mark (slot ∷ slots) (application ∷ applications) p → (marked_at mark slot application ≡ Some p) ⊎ IsMarked mark slots applications p
+  from_marked : (slot : Option Slot) (application : Option (KeptApplication A)) (slots : List (Option Slot)) (applications : List (Option (KeptApplication A))) (p : ℕ) → IsMarked mark (slot ∷ slots) (application ∷ applications) p → (marked_at mark slot application ≡ Some p) ⊎ IsMarked mark slots applications p
   from_marked None application slots applications p m = inr m
   from_marked (Some slot) None slots applications p m = inr m
   from_marked (Some slot) (Some kept) slots applications p m = elim m.1 [
@@ -86,9 +86,9 @@ module _ (mark : ℕ) (from : Option ℕ) where
     | inr l ↦ inr (m.0, l, m.2)
   ]
 
-  best_least : (slots : List (Option Slot)) (applications : List (Option KeptApplication)) (best : Option ℕ) (P : ℕ → Type 0) → IsLeast nat_cmp P (IsAboveName nat_cmp from) best → IsLeast nat_cmp (λ p. P p ⊎ IsMarked mark slots applications p) (IsAboveName nat_cmp from) (best_of mark from slots applications best)
-  best_least [] applications best P l = least-shown nat_cmp P (λ p. P p ⊎ IsMarked mark [] applications p) (IsAboveName nat_cmp from) (λ x s. inl s) (λ x s. elim s [ inl a ↦ a | inr m ↦ absurd m.1 ]) best l
-  best_least (slot ∷ slots) [] best P l = least-shown nat_cmp P (λ p. P p ⊎ IsMarked mark (slot ∷ slots) [] p) (IsAboveName nat_cmp from) (λ x s. inl s) (λ x s. elim s [ inl a ↦ a | inr m ↦ absurd m.1 ]) best l
+  best_least : (slots : List (Option Slot)) (applications : List (Option (KeptApplication A))) (best : Option ℕ) (P : ℕ → Type 0) → IsLeast nat_cmp P (IsAboveName nat_cmp from) best → IsLeast nat_cmp (λ p. P p ⊎ IsMarked mark slots applications p) (IsAboveName nat_cmp from) (best_of mark from slots applications best)
+  best_least [] applications best P l = least-shown nat_cmp P (λ p. P p ⊎ IsMarked {A = A} mark [] applications p) (IsAboveName nat_cmp from) (λ x s. inl s) (λ x s. elim s [ inl a ↦ a | inr m ↦ absurd m.1 ]) best l
+  best_least (slot ∷ slots) [] best P l = least-shown nat_cmp P (λ p. P p ⊎ IsMarked {A = A} mark (slot ∷ slots) [] p) (IsAboveName nat_cmp from) (λ x s. inl s) (λ x s. elim s [ inl a ↦ a | inr m ↦ absurd m.1 ]) best l
   best_least (slot ∷ slots) (application ∷ applications) best P l =
       least-shown nat_cmp (λ p. (P p ⊎ (marked_at mark slot application ≡ Some p)) ⊎ IsMarked mark slots applications p) (λ p. P p ⊎ IsMarked mark (slot ∷ slots) (application ∷ applications) p) (IsAboveName nat_cmp from)
       (λ x s. elim s [ inl a ↦ elim a [ inl b ↦ inl b | inr e ↦ inr (here_to slot application slots applications x e) ] | inr m ↦ inr (later_to slot application slots applications x m) ])
@@ -97,5 +97,5 @@ module _ (mark : ℕ) (from : Option ℕ) where
       (best_least slots applications (better from (marked_at mark slot application) best) (λ p. P p ⊎ (marked_at mark slot application ≡ Some p)) (next_better from P (marked_at mark slot application) best l))
 
   -- the best of all slots is the least
-  pub best_is : (slots : List (Option Slot)) (applications : List (Option KeptApplication)) → IsLeast nat_cmp (IsMarked mark slots applications) (IsAboveName nat_cmp from) (best_of mark from slots applications None)
+  pub best_is : (slots : List (Option Slot)) (applications : List (Option (KeptApplication A))) → IsLeast nat_cmp (IsMarked mark slots applications) (IsAboveName nat_cmp from) (best_of mark from slots applications None)
   best_is slots applications = least-shown nat_cmp (λ p. ⊥ ⊎ IsMarked mark slots applications p) (IsMarked mark slots applications) (IsAboveName nat_cmp from) (λ x s. elim s [ inl b ↦ absurd b | inr m ↦ m ]) (λ x m. inr m) (best_of mark from slots applications None) (best_least slots applications None (λ p. ⊥) (λ x b a. b))

@@ -5,43 +5,41 @@ use Rattle.rm_evicting.specs.Stands.{total}
 use Rattle.rm_layers.specs.Event.{Event}
 use Rattle.rm_layers.specs.Network.{is_held, entry_tick, contributions, application_contributions}
 use Rattle.rm_layers.specs.Applications.{Application, application_of, application_at}
-use Rattle.rm_upper.specs.declared.counts.Traffic.{Traffic}
-use Rattle.rm_upper.specs.declared.counts.NetworkCounts.{NetworkCounts}
 use Rattle.rm_upper.specs.declared.counts.Counted.{Counted}
 use Rattle.rm_upper.specs.declared.slots.Slot.{Slot}
-use Rattle.rm_upper.specs.declared.host_row.HostRow.{HostRow}
-use Rattle.rm_upper.specs.Counts.{no_traffic, no_counts, plus, with_gain}
+use Rattle.rm_upper.specs.Kept.{NetworkRow}
+use Rattle.rm_upper.specs.Tally.{Tally}
 use Rattle.rm_upper.specs.Shown.{shown_all, protocols}
 
 abbrev pub counted : {A : Type 0} → Option (Application A) → Option (Counted A)
 counted None = None
 counted (Some application) = Some (record { created = application.created; sums = application.sums })
 
-module _ {K : Type 0} (eq : K → K → Bool) (capacity : ℕ) where
+module _ {K N A : Type 0} (tally : Tally N A) (eq : K → K → Bool) (capacity : ℕ) where
   -- the network row of a key, while it exists: the tick of its entry, and its sums since
-  abbrev pub network_row : K → List (Event K NetworkCounts) → Option (Counted NetworkCounts)
+  abbrev pub network_row : K → List (Event K N) → Option (Counted N)
   network_row key events = cond (is_held eq capacity key events)
       (Some (record {
         created = entry_tick eq capacity key events;
-        sums = total no_counts (λ sums brings. plus sums brings.gain) (contributions eq capacity key events);
+        sums = total tally.blank (λ sums brings. tally.add sums brings.gain) (contributions eq capacity key events);
       }))
       None
 
   -- the application row of a key and a protocol, while it exists: the tick of its first contribution, and its sums
-  abbrev pub application_row : K → ℕ → List (Event K NetworkCounts) → Option (Counted Traffic)
+  abbrev pub application_row : K → ℕ → List (Event K N) → Option (Counted A)
   application_row key protocol events = cond (is_held eq capacity key events)
-      (counted (application_of no_traffic with_gain (application_contributions eq capacity key protocol events)))
+      (counted (application_of tally.none tally.more (application_contributions eq capacity key protocol events)))
       None
 
 -- what is kept of a network row, and of the application row of a protocol in it
-abbrev pub counted_by : Option ℕ → NetworkCounts → Option (Counted NetworkCounts)
+abbrev pub counted_by : {N : Type 0} → Option ℕ → N → Option (Counted N)
 counted_by None sums = None
 counted_by (Some created) sums = Some (record { created = created; sums = sums })
 
-abbrev pub network_in : {K : Type 0} → Option (Row K HostRow) → Option (Counted NetworkCounts)
+abbrev pub network_in : {K N A : Type 0} → Option (Row K (NetworkRow N A)) → Option (Counted N)
 network_in None = None
 network_in (Some row) = counted_by row.value.created row.value.sums
 
-abbrev pub application_in_row : {K : Type 0} → List (Option Slot) → ℕ → Option (Row K HostRow) → Option (Counted Traffic)
+abbrev pub application_in_row : {K N A : Type 0} → List (Option Slot) → ℕ → Option (Row K (NetworkRow N A)) → Option (Counted A)
 application_in_row slots protocol None = None
 application_in_row slots protocol (Some row) = counted (application_at protocol (protocols slots) (shown_all slots row.value.applications))

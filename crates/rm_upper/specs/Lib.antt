@@ -1,4 +1,4 @@
-pub mod Counts
+pub mod Tally
 pub mod Kept
 pub mod Shown
 pub mod Standing

@@ -1,75 +1,65 @@
-// What is counted of hosts.
+// What rows count, and what is kept of it.
 
-ghost use Rattle.std.specs.Prelude.{◌≡◌, ℕ};
-ghost use Rattle.rm_upper.specs.Counts.{no_traffic, no_counts, more_traffic, plus, with_gain};
+ghost use Rattle.std.specs.Prelude.{◌≡◌, ℕ, ◌≤◌, length};
+ghost use Rattle.rm_upper.specs.Tally.{Tally};
+ghost use Rattle.rm_upper.specs.Kept.{NetworkRow, is_among, all_made};
+ghost use Rattle.rm_upper.specs.Shown.{blank_row, gained_value};
+ghost use Rattle.rm_upper.specs.Cells.{counted_by};
 
-/// Packets and octets, in and out.
-#[derive(Clone, Copy, PartialEq, Eq, Debug)]
-pub struct Traffic {
-    /// Frames to the host.
-    pub in_pkts: u64,
-    /// Frames from the host.
-    pub out_pkts: u64,
-    /// Octets of frames to the host.
-    pub in_octets: u64,
-    /// Octets of frames from the host.
-    pub out_octets: u64,
+use crate::slots::{KeptApplication, Slot};
+use rm_rows::Blank;
+
+/// What the network row of a key counts, which is also what a frame that names the key adds to it, and what its application rows make of
+/// that.
+pub trait Counts: Copy {
+    /// What an application row of the key counts.
+    type Application: Copy;
+
+    /// What rows make of gains.
+    ghost tally: { Tally Self Self.Application };
+
+    /// What an application row counts before its first contribution.
+    fn no_application() -> Self::Application
+        ensures { result ≡ tally.none };
+
+    /// Adds a gain to what an application row counts.
+    fn add_to(application: &mut Self::Application, gain: &Self)
+        ensures { application.new ≡ tally.more application.old gain.now };
 }
 
-impl Traffic {
-    /// None of it.
-    pub fn none() -> Traffic
-        ensures { result ≡ no_traffic }
-    {
-        Traffic {
-            in_pkts: 0,
-            out_pkts: 0,
-            in_octets: 0,
-            out_octets: 0,
-        }
-    }
+/// Counts that are kept in network rows.
+pub trait LayerCounts: Counts {
+    /// What is kept of a network row: the tick of its first contribution, in hundredths of a second, what its contributions add up to, and
+    /// in each slot the application row of the protocol there, if it has one.
+    type Row: Blank;
 
-    /// Adds more of it, modulo 2^64.
-    pub fn add(&mut self, more: &Traffic)
-        ensures { self.new ≡ more_traffic self.old more.now }
-    {
-        self.in_pkts = self.in_pkts.wrapping_add(more.in_pkts);
-        self.out_pkts = self.out_pkts.wrapping_add(more.out_pkts);
-        self.in_octets = self.in_octets.wrapping_add(more.in_octets);
-        self.out_octets = self.out_octets.wrapping_add(more.out_octets);
-    }
-}
+    /// How contracts see what is kept.
+    ghost seen: { Self.Row → NetworkRow Self Self.Application };
 
-/// What a row of nlHostTable counts: packets and octets, and of the packets out those to broadcast and multicast addresses of the
-/// medium (RFC 2021, nlHostOutMacNonUnicastPkts).
-#[derive(Clone, Copy, PartialEq, Eq, Debug)]
-pub struct NetworkCounts {
-    /// Its frames and octets.
-    pub traffic: Traffic,
-    /// Frames from the host to a group address or the broadcast address of Ethernet.
-    pub out_non_unicast_pkts: u64,
-}
+    /// A network row takes a contribution, which comes to the slots of the protocols on its path. Tells how many application rows it makes.
+    fn gain(
+        row: &mut Self::Row,
+        slots: &[Option<Slot>; 32],
+        path: &[u32],
+        stamp: u64,
+        tick: u32,
+        gain: &Self,
+    ) -> u32
+        ensures value { seen row.new ≡ gained_value Self.tally slots.now path.now stamp tick (seen row.old) gain.now }
+        ensures made { result ≡ all_made (is_among path.now) slots.now (seen row.old).applications }
+        ensures few { result ≤ 32 };
 
-impl NetworkCounts {
-    /// Nothing.
-    pub fn none() -> NetworkCounts
-        ensures { result ≡ no_counts }
-    {
-        NetworkCounts {
-            traffic: Traffic::none(),
-            out_non_unicast_pkts: 0,
-        }
-    }
+    /// What a network row shows. None before its first contribution.
+    fn network(row: &Self::Row) -> Option<Counted<Self>>
+        ensures { result ≡ counted_by (seen row.now).created (seen row.now).sums };
 
-    /// Adds a gain, modulo 2^64.
-    pub fn add(&mut self, gain: &NetworkCounts)
-        ensures { self.new ≡ plus self.old gain.now }
-    {
-        self.traffic.add(&gain.traffic);
-        self.out_non_unicast_pkts = self
-            .out_non_unicast_pkts
-            .wrapping_add(gain.out_non_unicast_pkts);
-    }
+    /// Its application rows, in slots.
+    fn applications(row: &Self::Row) -> &[Option<KeptApplication<Self::Application>>]
+        ensures value { result.now ≡ (seen row.now).applications }
+        ensures each { length result.now ≡ 32 };
+
+    /// A row that was just entered has nothing.
+    ghost starts: { seen Self.Row.blank_value ≡ blank_row Self.tally.blank };
 }
 
 /// What a row shows: the tick of its first contribution, in hundredths of a second, and what its contributions add up to.

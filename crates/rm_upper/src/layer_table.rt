@@ -5,18 +5,18 @@ ghost use Rattle.rm_layers.specs.Event.{Contribution, Event, names, turns_ip, be
 ghost use Rattle.rm_layers.specs.Upper.{AreTuned};
 ghost use Rattle.rm_layers.specs.Turning.{IsChange};
 
-use crate::counts::NetworkCounts;
+use crate::counts::LayerCounts;
 use crate::network_rows::NetworkRows;
 use rm_evicting::Key;
 use rm_val::NoMemory;
 use std::alloc::Global;
 use std::marker::Model;
 
-/// The network and application rows that a row of hlHostControl holds, and whether ip is on for hosts. While it isn't, no frame is a
-/// reference.
+/// The network and application rows that a row of hlHostControl or hlMatrixControl holds, and whether ip is on for hosts or for matrices.
+/// While it isn't, no frame is a reference.
 #[derive(Drop)]
-pub struct LayerTable<K: Key> {
-    rows: NetworkRows<K>,
+pub struct LayerTable<K: Key, N: LayerCounts> {
+    rows: NetworkRows<K, N>,
     on: bool,
     // The stamps of all references so far are below it.
     next: u64,
@@ -24,22 +24,22 @@ pub struct LayerTable<K: Key> {
     latest: u32,
 }
 
-impl<K: Key> Model for LayerTable<K> {
+impl<K: Key, N: LayerCounts> Model for LayerTable<K, N> {
     ghost use Rattle.rm_upper.specs.LayerTable.{LayerTable as Layers, IsReady};
 
-    ghost Value = { Layers K };
+    ghost Value = { Layers K N N.Application };
 
     ghost view = { λ s. record { layered = s.rows; on = s.on; next = s.next; latest = s.latest } };
 
     ghost invariant = { λ s. IsReady s.rows s.next s.latest };
 }
 
-impl<K: Key> LayerTable<K> {
+impl<K: Key, N: LayerCounts> LayerTable<K, N> {
     ghost use Rattle.rm_upper.specs.Shown.{protocols, Agrees};
     ghost use Rattle.rm_upper.specs.Standing.{StandsFor};
 
     /// No rows, with ip on and no other protocol, and memory for so many network rows. NoMemory where there is none.
-    pub fn new(alloc: Global, capacity: usize) -> Result<LayerTable<K>, NoMemory>
+    pub fn new(alloc: Global, capacity: usize) -> Result<LayerTable<K, N>, NoMemory>
         requires some { 1 ≤ capacity }
         requires bound { capacity ≤ 4096 }
         ensures room { IfOk result (λ table. table.layered.table.room ≡ capacity) }
@@ -55,7 +55,7 @@ impl<K: Key> LayerTable<K> {
 
     /// Takes a frame that names a key, with the protocols on its path that are on, its stamp, its tick, and what it adds: a reference
     /// while ip is on.
-    pub fn name(&mut self, key: K, path: &[u32], stamp: u64, tick: u32, gain: &NetworkCounts)
+    pub fn name(&mut self, key: K, path: &[u32], stamp: u64, tick: u32, gain: &N)
         requires next { self.old.next ≤ stamp }
         requires latest { self.old.latest ≤ tick }
         requires fits { stamp < 2 ^ 58 }
@@ -65,9 +65,9 @@ impl<K: Key> LayerTable<K> {
         ensures room { self.new.layered.table.room ≡ self.old.layered.table.room }
         ensures next { self.new.next ≡ stamp + 1 }
         ensures latest { self.new.latest ≡ tick }
-        ensures stands { (earlier : List (Event K NetworkCounts)) (brings : Contribution NetworkCounts) → brings.stamp ≡ stamp → brings.tick ≡ tick → brings.gain ≡ gain.now
+        ensures stands { (earlier : List (Event K N)) (brings : Contribution N) → brings.stamp ≡ stamp → brings.tick ≡ tick → brings.gain ≡ gain.now
             → Agrees self.old.layered.slots path.now brings → is_ip_on earlier ≡ self.old.on → AreTuned (protocols self.old.layered.slots) earlier → AreRising (names key brings ∷ earlier)
-            → StandsFor K.eq earlier self.old.layered → StandsFor K.eq (names key brings ∷ earlier) self.new.layered }
+            → StandsFor N.tally K.eq earlier self.old.layered → StandsFor N.tally K.eq (names key brings ∷ earlier) self.new.layered }
     {
         if self.on {
             self.rows.refer(key, path, stamp, tick, gain);
@@ -84,7 +84,7 @@ impl<K: Key> LayerTable<K> {
         ensures room { self.new.layered.table.room ≡ self.old.layered.table.room }
         ensures next { self.new.next ≡ self.old.next }
         ensures latest { self.new.latest ≡ self.old.latest }
-        ensures stands { (earlier : List (Event K NetworkCounts)) → StandsFor K.eq earlier self.old.layered → StandsFor K.eq (turns_ip on ∷ earlier) self.new.layered }
+        ensures stands { (earlier : List (Event K N)) → StandsFor N.tally K.eq earlier self.old.layered → StandsFor N.tally K.eq (turns_ip on ∷ earlier) self.new.layered }
     {
         self.rows.clear();
         self.on = on;
@@ -99,8 +99,8 @@ impl<K: Key> LayerTable<K> {
         ensures room { self.new.layered.table.room ≡ self.old.layered.table.room }
         ensures next { self.new.next ≡ self.old.next }
         ensures latest { self.new.latest ≡ self.old.latest }
-        ensures stands { (turnings earlier : List (Event K NetworkCounts)) → AreUpTo stamp earlier → AreTuned (protocols self.old.layered.slots) earlier → AreTuned now.now (turnings ++ earlier)
-            → IsChange stamp turnings earlier (protocols self.old.layered.slots) now.now → StandsFor K.eq earlier self.old.layered → StandsFor K.eq (turnings ++ earlier) self.new.layered }
+        ensures stands { (turnings earlier : List (Event K N)) → AreUpTo stamp earlier → AreTuned (protocols self.old.layered.slots) earlier → AreTuned now.now (turnings ++ earlier)
+            → IsChange stamp turnings earlier (protocols self.old.layered.slots) now.now → StandsFor N.tally K.eq earlier self.old.layered → StandsFor N.tally K.eq (turnings ++ earlier) self.new.layered }
     {
         self.rows.retune(now, stamp);
     }
@@ -116,7 +116,7 @@ impl<K: Key> LayerTable<K> {
         ensures room { self.new.layered.table.room ≡ self.old.layered.table.room }
         ensures next { self.new.next ≡ 0 }
         ensures latest { self.new.latest ≡ 0 }
-        ensures stands { (earlier : List (Event K NetworkCounts)) → StandsFor K.eq (begins ∷ earlier) self.new.layered }
+        ensures stands { (earlier : List (Event K N)) → StandsFor N.tally K.eq (begins ∷ earlier) self.new.layered }
     {
         self.rows.begin(capacity, now);
         self.on = on;
@@ -125,7 +125,7 @@ impl<K: Key> LayerTable<K> {
     }
 
     /// The rows.
-    pub fn rows(&self) -> &NetworkRows<K>
+    pub fn rows(&self) -> &NetworkRows<K, N>
         ensures { result.now ≡ self.now.layered }
     {
         &self.rows

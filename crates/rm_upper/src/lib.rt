@@ -1,9 +1,9 @@
-//! The network and application layer rows of one control row (RFC 2021, section 6): hosts by their addresses, and within each the
-//! protocols above ip.
+//! The network and application layer rows of one control row (RFC 2021, section 6): those of addresses, or of pairs of addresses, and
+//! within each those of the protocols above ip.
 #![tactic(auto)]
 
 mod counts;
-mod host_row;
+mod kept_rows;
 mod layer_table;
 mod network_rows;
 mod slots;
@@ -11,8 +11,7 @@ mod slots;
 mod tests;
 mod walk;
 
-pub use counts::{Counted, NetworkCounts, Traffic};
-pub use host_row::HostRow;
+pub use counts::{Counted, Counts, LayerCounts};
 pub use layer_table::LayerTable;
 pub use network_rows::NetworkRows;
-pub use slots::{KeptApplication, Slot};
+pub use slots::{KeptApplication, Slot, take_all};

@@ -7,12 +7,11 @@ ghost use Rattle.rm_layers.specs.Applications.{Slots};
 ghost use Rattle.rm_layers.specs.Upper.{AreTuned};
 ghost use Rattle.rm_layers.specs.Turning.{IsChange};
 
-use crate::counts::{Counted, NetworkCounts, Traffic};
-use crate::host_row::{HostRow, credit};
+use crate::counts::{Counted, LayerCounts};
+use crate::kept_rows::KeptRows;
 use crate::slots::{Slot, retune_all};
 use crate::walk::{count_applications, next_protocol, show_application};
 use rm_evicting::Key;
-use rm_rows::{Rows, Touch};
 use rm_val::NoMemory;
 use std::alloc::Global;
 use std::marker::Model;
@@ -20,25 +19,25 @@ use std::marker::Model;
 /// The network rows of one control row, the protocols above ip that are on, each in a slot, and how many network rows and application
 /// rows were entered since the control row became active.
 #[derive(Drop)]
-pub struct NetworkRows<K: Key> {
-    rows: Rows<K, HostRow>,
+pub struct NetworkRows<K: Key, N: LayerCounts> {
+    rows: KeptRows<K, N>,
     slots: [Option<Slot>; 32],
     network_inserts: u64,
     application_inserts: u64,
 }
 
-impl<K: Key> Model for NetworkRows<K> {
+impl<K: Key, N: LayerCounts> Model for NetworkRows<K, N> {
     ghost use Rattle.std.specs.Prelude.{◌<◌};
     ghost use Rattle.rm_upper.specs.Standing.{Layered};
 
-    ghost Value = { Layered K };
+    ghost Value = { Layered K N N.Application };
 
     ghost view = { λ s. record { table = s.rows; slots = s.slots; network_inserts = s.network_inserts; application_inserts = s.application_inserts } };
 
     ghost invariant = { λ s. 0 < s.rows.capacity };
 }
 
-impl<K: Key> NetworkRows<K> {
+impl<K: Key, N: LayerCounts> NetworkRows<K, N> {
     ghost use Rattle.rm_upper.specs.Shown.{protocols, Agrees};
     ghost use Rattle.rm_upper.specs.Standing.{StandsFor, referred, slots_after};
     ghost use Rattle.rm_upper.specs.Walk.{ShowsApplication};
@@ -46,16 +45,16 @@ impl<K: Key> NetworkRows<K> {
     ghost use Rattle.std.specs.Ordering.{nat_cmp};
     ghost use Rattle.rm_layers.specs.Network.{network_inserts, application_inserts, network_deletes, application_deletes};
     ghost use Rattle.rm_upper.specs.Count.{held_of, held_by_keys};
-    ghost use Rattle.rm_upper.specs.Cells.{network_row, application_row, network_in, application_in_row};
+    ghost use Rattle.rm_upper.specs.Cells.{network_row, application_row, application_in_row};
     ghost use Rattle.rm_rows.specs.Table.{row_of};
 
     /// No rows, no protocol on, and memory for so many network rows. NoMemory where there is none.
-    pub fn new(alloc: Global, capacity: usize) -> Result<NetworkRows<K>, NoMemory>
+    pub fn new(alloc: Global, capacity: usize) -> Result<NetworkRows<K, N>, NoMemory>
         requires some { 1 ≤ capacity }
         requires bound { capacity ≤ 4096 }
         ensures { IfOk result (λ layered. layered ≡ record { table = record { room = capacity; capacity = capacity; rows = [] }; slots = replicate 32 None; network_inserts = 0; application_inserts = 0 }) }
     {
-        let rows = Rows::new(alloc, capacity)?;
+        let rows = KeptRows::new(alloc, capacity)?;
         Ok(NetworkRows {
             rows,
             slots: [None; 32],
@@ -66,22 +65,22 @@ impl<K: Key> NetworkRows<K> {
 
     /// Takes a reference to a key, with the protocols on its path that are on, its stamp, which is above those of all references before,
     /// its tick, which isn't below theirs, and what it adds.
-    pub fn refer(&mut self, key: K, path: &[u32], stamp: u64, tick: u32, gain: &NetworkCounts)
+    pub fn refer(&mut self, key: K, path: &[u32], stamp: u64, tick: u32, gain: &N)
         requires stamp { All (λ row. row.last < stamp) self.old.table.rows }
         requires tick { All (λ row. row.tick ≤ tick) self.old.table.rows }
         requires network { self.old.network_inserts < 2 ^ 63 }
         requires applications { self.old.application_inserts < 2 ^ 63 }
-        ensures kept { self.new ≡ referred K.eq path.now key stamp tick gain.now self.old }
+        ensures kept { self.new ≡ referred N.tally K.eq path.now key stamp tick gain.now self.old }
         ensures entered { self.new.network_inserts ≤ self.old.network_inserts + 1 }
         ensures made { self.new.application_inserts ≤ self.old.application_inserts + 32 }
-        ensures stands { (earlier : List (Event K NetworkCounts)) (brings : Contribution NetworkCounts) → brings.stamp ≡ stamp → brings.tick ≡ tick → brings.gain ≡ gain.now
+        ensures stands { (earlier : List (Event K N)) (brings : Contribution N) → brings.stamp ≡ stamp → brings.tick ≡ tick → brings.gain ≡ gain.now
             → Agrees self.old.slots path.now brings → is_ip_on earlier ≡ true → AreTuned (protocols self.old.slots) earlier → AreRising (names key brings ∷ earlier)
-            → StandsFor K.eq earlier self.old → StandsFor K.eq (names key brings ∷ earlier) self.new }
+            → StandsFor N.tally K.eq earlier self.old → StandsFor N.tally K.eq (names key brings ∷ earlier) self.new }
     {
-        if let Touch::Held = self.rows.touch(key, stamp, tick) {} else {
+        if !self.rows.touch(key, stamp, tick) {
             self.network_inserts += 1;
         }
-        let made = credit(&mut self.rows, &key, &self.slots, path, stamp, tick, gain);
+        let made = self.rows.gain(&key, &self.slots, path, stamp, tick, gain);
         self.application_inserts += made as u64;
     }
 
@@ -90,8 +89,8 @@ impl<K: Key> NetworkRows<K> {
     pub fn retune(&mut self, now: &[Option<u32>; 32], stamp: u64)
         ensures kept { self.new ≡ record { table = self.old.table; slots = slots_after stamp self.old.slots now.now; network_inserts = self.old.network_inserts; application_inserts = self.old.application_inserts } }
         ensures slots { protocols self.new.slots ≡ now.now }
-        ensures stands { (turnings earlier : List (Event K NetworkCounts)) → AreUpTo stamp earlier → AreTuned (protocols self.old.slots) earlier → AreTuned now.now (turnings ++ earlier)
-            → IsChange stamp turnings earlier (protocols self.old.slots) now.now → StandsFor K.eq earlier self.old → StandsFor K.eq (turnings ++ earlier) self.new }
+        ensures stands { (turnings earlier : List (Event K N)) → AreUpTo stamp earlier → AreTuned (protocols self.old.slots) earlier → AreTuned now.now (turnings ++ earlier)
+            → IsChange stamp turnings earlier (protocols self.old.slots) now.now → StandsFor N.tally K.eq earlier self.old → StandsFor N.tally K.eq (turnings ++ earlier) self.new }
     {
         retune_all(&mut self.slots, now, stamp);
     }
@@ -99,7 +98,7 @@ impl<K: Key> NetworkRows<K> {
     /// Takes every row away, as ip is turned on or off.
     pub fn clear(&mut self)
         ensures kept { self.new ≡ record { table = record { room = self.old.table.room; capacity = self.old.table.capacity; rows = [] }; slots = self.old.slots; network_inserts = self.old.network_inserts; application_inserts = self.old.application_inserts } }
-        ensures stands { (on : Bool) (earlier : List (Event K NetworkCounts)) → StandsFor K.eq earlier self.old → StandsFor K.eq (turns_ip on ∷ earlier) self.new }
+        ensures stands { (on : Bool) (earlier : List (Event K N)) → StandsFor N.tally K.eq earlier self.old → StandsFor N.tally K.eq (turns_ip on ∷ earlier) self.new }
     {
         self.rows.clear();
     }
@@ -111,7 +110,7 @@ impl<K: Key> NetworkRows<K> {
         requires within { capacity ≤ self.old.table.room }
         ensures kept { self.new ≡ record { table = record { room = self.old.table.room; capacity = capacity; rows = [] }; slots = slots_after 0 (replicate 32 None) now.now; network_inserts = 0; application_inserts = 0 } }
         ensures slots { protocols self.new.slots ≡ now.now }
-        ensures stands { (earlier : List (Event K NetworkCounts)) → StandsFor K.eq (begins ∷ earlier) self.new }
+        ensures stands { (earlier : List (Event K N)) → StandsFor N.tally K.eq (begins ∷ earlier) self.new }
     {
         self.rows.reset(capacity);
         self.slots = [None; 32];
@@ -120,44 +119,28 @@ impl<K: Key> NetworkRows<K> {
         self.application_inserts = 0;
     }
 
-    // What is kept of the network row of a key.
-    fn find_network(&self, key: &K) -> Option<Counted<NetworkCounts>>
-        ensures { result ≡ network_in (row_of K.eq key.now self.now.table.rows) }
-    {
-        match self.rows.get(key) {
-            Some(row) => match row.created {
-                Some(created) => Some(Counted {
-                    created,
-                    sums: row.sums,
-                }),
-                None => None,
-            },
-            None => None,
-        }
-    }
-
     // What is kept of the application row of a key and a protocol.
-    fn find_application(&self, key: &K, protocol: u32) -> Option<Counted<Traffic>>
+    fn find_application(&self, key: &K, protocol: u32) -> Option<Counted<N::Application>>
         ensures { result ≡ application_in_row self.now.slots protocol (row_of K.eq key.now self.now.table.rows) }
     {
-        match self.rows.get(key) {
-            Some(row) => show_application(&self.slots, &row.applications, protocol),
+        match self.rows.applications(key) {
+            Some(applications) => show_application(&self.slots, applications, protocol),
             None => None,
         }
     }
 
     /// What the network row of a key shows. None where it has none.
-    pub fn network(&self, key: &K) -> Option<Counted<NetworkCounts>>
-        ensures { (events : List (Event K NetworkCounts)) → AreTuned (protocols self.now.slots) events → StandsFor K.eq events self.now
-            → result ≡ network_row K.eq self.now.table.capacity key.now events }
+    pub fn network(&self, key: &K) -> Option<Counted<N>>
+        ensures { (events : List (Event K N)) → AreTuned (protocols self.now.slots) events → StandsFor N.tally K.eq events self.now
+            → result ≡ network_row N.tally K.eq self.now.table.capacity key.now events }
     {
-        self.find_network(key)
+        self.rows.network(key)
     }
 
     /// What the application row of a key and a protocol shows. None where there is none.
-    pub fn application(&self, key: &K, protocol: u32) -> Option<Counted<Traffic>>
-        ensures { (events : List (Event K NetworkCounts)) → AreTuned (protocols self.now.slots) events → StandsFor K.eq events self.now
-            → result ≡ application_row K.eq self.now.table.capacity key.now protocol events }
+    pub fn application(&self, key: &K, protocol: u32) -> Option<Counted<N::Application>>
+        ensures { (events : List (Event K N)) → AreTuned (protocols self.now.slots) events → StandsFor N.tally K.eq events self.now
+            → result ≡ application_row N.tally K.eq self.now.table.capacity key.now protocol events }
     {
         self.find_application(key, protocol)
     }
@@ -167,8 +150,8 @@ impl<K: Key> NetworkRows<K> {
         ensures least { IsLeast nat_cmp (λ p. StandsAt (ShowsApplication K.eq self.now) mark (key.now, p)) (IsAboveName nat_cmp from) result }
         ensures reached { IfSome result (λ p. mark < 2 ^ 32) }
     {
-        match self.rows.get(key) {
-            Some(row) => next_protocol(&self.slots, &row.applications, mark, from),
+        match self.rows.applications(key) {
+            Some(applications) => next_protocol(&self.slots, applications, mark, from),
             None => None,
         }
     }
@@ -210,7 +193,7 @@ impl<K: Key> NetworkRows<K> {
         from: Option<(K, Option<u32>)>,
     ) -> Option<(u32, (K, u32))>
         ensures shown { IsNextInstance (pair_cmp K.cmp nat_cmp) (ShowsApplication K.eq self.now) mark (IsAboveApplication K.cmp from) result }
-        ensures stands { (events : List (Event K NetworkCounts)) → AreTuned (protocols self.now.slots) events → StandsFor K.eq events self.now
+        ensures stands { (events : List (Event K N)) → AreTuned (protocols self.now.slots) events → StandsFor N.tally K.eq events self.now
             → IsNextInstance (pair_cmp K.cmp nat_cmp) (ApplicationLasts K.eq self.now.table.capacity events) mark (IsAboveApplication K.cmp from) result }
     {
         if let Some(found) = self.next_at(mark as u64, from) {
@@ -224,7 +207,7 @@ impl<K: Key> NetworkRows<K> {
 
     /// The next instance of a network row, by mark and key, above a mark and maybe a key. None where there is none.
     pub fn network_after(&self, mark: u32, from: Option<K>) -> Option<(u32, K)>
-        ensures { (events : List (Event K NetworkCounts)) → AreTuned (protocols self.now.slots) events → StandsFor K.eq events self.now
+        ensures { (events : List (Event K N)) → AreTuned (protocols self.now.slots) events → StandsFor N.tally K.eq events self.now
             → IsNextInstance K.cmp (NetworkLasts K.eq self.now.table.capacity events) mark (IsAboveName K.cmp from) result }
     {
         match self.rows.mark_after(mark, from.as_ref()) {
@@ -235,21 +218,21 @@ impl<K: Key> NetworkRows<K> {
 
     /// How many network rows were entered since the control row became active.
     pub fn network_inserts(&self) -> u64
-        ensures { (events : List (Event K NetworkCounts)) → StandsFor K.eq events self.now → result ≡ network_inserts K.eq self.now.table.capacity events }
+        ensures { (events : List (Event K N)) → StandsFor N.tally K.eq events self.now → result ≡ network_inserts K.eq self.now.table.capacity events }
     {
         self.network_inserts
     }
 
     /// How many application rows were.
     pub fn application_inserts(&self) -> u64
-        ensures { (events : List (Event K NetworkCounts)) → StandsFor K.eq events self.now → result ≡ application_inserts K.eq self.now.table.capacity events }
+        ensures { (events : List (Event K N)) → StandsFor N.tally K.eq events self.now → result ≡ application_inserts K.eq self.now.table.capacity events }
     {
         self.application_inserts
     }
 
     /// How many of the network rows that were entered are gone.
     pub fn network_deletes(&self) -> u64
-        ensures { (events : List (Event K NetworkCounts)) → StandsFor K.eq events self.now → result ≡ network_deletes K.eq self.now.table.capacity events }
+        ensures { (events : List (Event K N)) → StandsFor N.tally K.eq events self.now → result ≡ network_deletes K.eq self.now.table.capacity events }
     {
         self.network_inserts.saturating_sub(self.rows.len() as u64)
     }
@@ -258,8 +241,8 @@ impl<K: Key> NetworkRows<K> {
     fn count_in(&self, key: &K) -> u32
         ensures { result ≡ held_of K.eq self.now key.now }
     {
-        match self.rows.get(key) {
-            Some(row) => count_applications(&self.slots, &row.applications),
+        match self.rows.applications(key) {
+            Some(applications) => count_applications(&self.slots, applications),
             None => 0,
         }
     }
@@ -267,7 +250,7 @@ impl<K: Key> NetworkRows<K> {
     /// How many of the application rows that were entered are gone.
     pub fn application_deletes(&self) -> u64
         ensures kept { result ≡ self.now.application_inserts - held_by_keys K.eq self.now self.now.table.rows }
-        ensures stands { (events : List (Event K NetworkCounts)) → AreTuned (protocols self.now.slots) events → StandsFor K.eq events self.now
+        ensures stands { (events : List (Event K N)) → AreTuned (protocols self.now.slots) events → StandsFor N.tally K.eq events self.now
             → result ≡ application_deletes K.eq self.now.table.capacity events }
     {
         let mut held: u64 = 0;

@@ -4,7 +4,7 @@ ghost use Rattle.std.specs.Prelude.{◌≡◌, ℕ, ◌+◌, ◌≤◌, List, le
 ghost use Rattle.rm_upper.specs.Standing.{slot_after, slots_after};
 ghost use Rattle.rm_upper.specs.Kept.{is_among, first, taken, is_made, kept_with, makes_here, all_with, all_made};
 
-use crate::counts::{NetworkCounts, Traffic};
+use crate::counts::Counts;
 
 /// A protocol above ip that is on, by its local index in the directory, since a stamp: what comes from it on counts.
 #[derive(Clone, Copy, PartialEq, Eq, Debug)]
@@ -18,7 +18,7 @@ pub struct Slot {
 /// An application row: the stamp and the tick of its first contribution, the tick of its last one, and what they add up to. It is one
 /// of its slot only if its first contribution came when the protocol there was on already.
 #[derive(Clone, Copy, PartialEq, Eq, Debug)]
-pub struct KeptApplication {
+pub struct KeptApplication<A> {
     /// The stamp of its first contribution.
     pub stamp: u64,
     /// The tick of its first contribution.
@@ -26,11 +26,11 @@ pub struct KeptApplication {
     /// The tick of its last contribution.
     pub tick: u32,
     /// What its contributions add up to.
-    pub sums: Traffic,
+    pub sums: A,
 }
 
 // Whether a contribution to a slot makes an application row there.
-fn makes(slot: &Slot, kept: &Option<KeptApplication>) -> bool
+fn makes<A: Copy>(slot: &Slot, kept: &Option<KeptApplication<A>>) -> bool
     ensures { result ≡ is_made slot.now kept.now }
 {
     match kept {
@@ -40,11 +40,11 @@ fn makes(slot: &Slot, kept: &Option<KeptApplication>) -> bool
 }
 
 // The application row that a contribution makes.
-fn made(stamp: u64, tick: u32, gain: &NetworkCounts) -> KeptApplication
-    ensures { result ≡ first stamp tick gain.now }
+fn made<N: Counts>(stamp: u64, tick: u32, gain: &N) -> KeptApplication<N::Application>
+    ensures { result ≡ first N.tally stamp tick gain.now }
 {
-    let mut sums = Traffic::none();
-    sums.add(&gain.traffic);
+    let mut sums = N::no_application();
+    N::add_to(&mut sums, gain);
     KeptApplication {
         stamp,
         created: tick,
@@ -54,19 +54,19 @@ fn made(stamp: u64, tick: u32, gain: &NetworkCounts) -> KeptApplication
 }
 
 // The application row of a slot with one contribution more.
-fn take(
+fn take<N: Counts>(
     slot: &Slot,
-    kept: &Option<KeptApplication>,
+    kept: &Option<KeptApplication<N::Application>>,
     stamp: u64,
     tick: u32,
-    gain: &NetworkCounts,
-) -> KeptApplication
-    ensures { result ≡ taken slot.now stamp tick gain.now kept.now }
+    gain: &N,
+) -> KeptApplication<N::Application>
+    ensures { result ≡ taken N.tally slot.now stamp tick gain.now kept.now }
 {
     match kept {
         Some(kept) if kept.stamp >= slot.since => {
             let mut sums = kept.sums;
-            sums.add(&gain.traffic);
+            N::add_to(&mut sums, gain);
             KeptApplication {
                 tick,
                 sums,
@@ -78,7 +78,7 @@ fn take(
 }
 
 // Whether a contribution by a path makes an application row in a slot.
-fn makes_at(slot: &Option<Slot>, kept: &Option<KeptApplication>, path: &[u32]) -> bool
+fn makes_at<A: Copy>(slot: &Option<Slot>, kept: &Option<KeptApplication<A>>, path: &[u32]) -> bool
     ensures { result ≡ makes_here (is_among path.now) slot.now kept.now }
 {
     match slot {
@@ -88,15 +88,15 @@ fn makes_at(slot: &Option<Slot>, kept: &Option<KeptApplication>, path: &[u32]) -
 }
 
 // What a slot keeps after a contribution by a path.
-fn take_at(
+fn take_at<N: Counts>(
     slot: &Option<Slot>,
-    kept: &Option<KeptApplication>,
+    kept: &Option<KeptApplication<N::Application>>,
     path: &[u32],
     stamp: u64,
     tick: u32,
-    gain: &NetworkCounts,
-) -> Option<KeptApplication>
-    ensures { result ≡ kept_with (is_among path.now) stamp tick gain.now slot.now kept.now }
+    gain: &N,
+) -> Option<KeptApplication<N::Application>>
+    ensures { result ≡ kept_with N.tally (is_among path.now) stamp tick gain.now slot.now kept.now }
 {
     match slot {
         Some(slot) => {
@@ -111,17 +111,17 @@ fn take_at(
 }
 
 /// A contribution comes to the slots of the protocols on its path. Tells how many application rows it makes.
-pub(crate) fn take_all(
-    applications: &mut [Option<KeptApplication>],
+pub fn take_all<N: Counts>(
+    applications: &mut [Option<KeptApplication<N::Application>>],
     slots: &[Option<Slot>],
     path: &[u32],
     stamp: u64,
     tick: u32,
-    gain: &NetworkCounts,
+    gain: &N,
 ) -> u32
     requires same { length slots.now ≡ length applications.old }
     requires few { length applications.old ≤ 32 }
-    ensures applications { applications.new ≡ all_with (is_among path.now) stamp tick gain.now slots.now applications.old }
+    ensures applications { applications.new ≡ all_with N.tally (is_among path.now) stamp tick gain.now slots.now applications.old }
     ensures made { result ≡ all_made (is_among path.now) slots.now applications.old }
     ensures few { result ≤ 32 }
 {

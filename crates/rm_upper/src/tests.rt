@@ -1,40 +1,114 @@
-ghost use Rattle.std.specs.Prelude.{◌≡◌, ℕ, ◌+◌, ◌<◌, ◌≤◌, ◌^◌};
+ghost use Rattle.std.specs.Prelude.{◌≡◌, ℕ, ◌+◌, ◌%◌, ◌<◌, ◌≤◌, ◌^◌, replicate, None, refl};
 
-use crate::{Counted, LayerTable, NetworkCounts, Traffic};
+use crate::{Counted, Counts, KeptApplication, LayerCounts, LayerTable, Slot, take_all};
+use rm_rows::Blank;
 use std::test::*;
 
 const UDP: u32 = 6;
 
 const DOMAIN: u32 = 15;
 
-fn out(octets: u64) -> NetworkCounts {
-    NetworkCounts {
-        traffic: Traffic {
-            out_pkts: 1,
-            out_octets: octets,
-            ..Traffic::none()
-        },
-        out_non_unicast_pkts: 0,
+// What the tests count of a host: the octets of its frames, and how many frames there were.
+#[derive(Clone, Copy, PartialEq, Eq, Debug)]
+struct Frames {
+    pkts: u64,
+    octets: u64,
+}
+
+// Of a protocol they count the octets alone.
+#[derive(Clone, Copy, PartialEq, Eq, Debug)]
+struct Octets {
+    octets: u64,
+}
+
+// What they keep of a network row.
+#[derive(Clone, Copy)]
+struct FramesRow {
+    created: Option<u32>,
+    frames: Frames,
+    applications: [Option<KeptApplication<Octets>>; 32],
+}
+
+impl Blank for FramesRow {
+    ghost blank_value = { record { created = None; frames = record { pkts = 0; octets = 0 }; applications = replicate 32 None } };
+
+    fn blank() -> FramesRow {
+        FramesRow {
+            created: None,
+            frames: Frames { pkts: 0, octets: 0 },
+            applications: [None; 32],
+        }
     }
 }
 
-fn back(octets: u64) -> NetworkCounts {
-    NetworkCounts {
-        traffic: Traffic {
-            in_pkts: 1,
-            in_octets: octets,
-            ..Traffic::none()
-        },
-        out_non_unicast_pkts: 0,
+impl Counts for Frames {
+    type Application = Octets;
+
+    ghost tally = { record {
+      blank = record { pkts = 0; octets = 0 };
+      add = λ sums gain. record { pkts = (sums.pkts + gain.pkts) % 2 ^ 64; octets = (sums.octets + gain.octets) % 2 ^ 64 };
+      none = record { octets = 0 };
+      more = λ sums gain. record { octets = (sums.octets + gain.octets) % 2 ^ 64 };
+    } };
+
+    fn no_application() -> Octets {
+        Octets { octets: 0 }
     }
+
+    fn add_to(application: &mut Octets, gain: &Frames) {
+        application.octets = application.octets.wrapping_add(gain.octets);
+    }
+}
+
+impl LayerCounts for Frames {
+    type Row = FramesRow;
+
+    ghost seen = { λ row. record { created = row.created; sums = row.frames; applications = row.applications } };
+
+    fn gain(
+        row: &mut FramesRow,
+        slots: &[Option<Slot>; 32],
+        path: &[u32],
+        stamp: u64,
+        tick: u32,
+        gain: &Frames,
+    ) -> u32 {
+        if row.created.is_none() {
+            row.created = Some(tick);
+        }
+        row.frames.pkts = row.frames.pkts.wrapping_add(gain.pkts);
+        row.frames.octets = row.frames.octets.wrapping_add(gain.octets);
+        take_all(&mut row.applications, slots, path, stamp, tick, gain)
+    }
+
+    fn network(row: &FramesRow) -> Option<Counted<Frames>> {
+        match row.created {
+            Some(created) => Some(Counted {
+                created,
+                sums: row.frames,
+            }),
+            None => None,
+        }
+    }
+
+    fn applications(row: &FramesRow) -> &[Option<KeptApplication<Octets>>] {
+        &row.applications
+    }
+
+    ghost starts = { refl };
+}
+
+// A frame of so many octets.
+fn frame_of(octets: u64) -> Frames {
+    Frames { pkts: 1, octets }
 }
 
 fn host(last: u8) -> [u8; 4] {
     [10, 0, 0, last]
 }
 
-// The n-th frame, of 64 octets, out of its source and back into its destination.
-fn frame(table: &mut LayerTable<[u8; 4]>, n: u64, tick: u32, ends: (u8, u8), path: &[u32])
+// The n-th frame, of 64 octets, of its source and of its destination.
+fn frame(table: &mut LayerTable<[u8; 4], Frames>, n: u64, tick: u32, ends: (u8, u8), path: &[u32])
     requires next { table.old.next ≤ n + n }
     requires latest { table.old.latest ≤ tick }
     requires fits { n < 2 ^ 32 }
@@ -42,8 +116,8 @@ fn frame(table: &mut LayerTable<[u8; 4]>, n: u64, tick: u32, ends: (u8, u8), pat
     ensures latest { table.new.latest ≡ tick }
     ensures room { table.new.layered.table.room ≡ table.old.layered.table.room }
 {
-    table.name(host(ends.0), path, n + n, tick, &out(64));
-    table.name(host(ends.1), path, n + n + 1, tick, &back(64));
+    table.name(host(ends.0), path, n + n, tick, &frame_of(64));
+    table.name(host(ends.1), path, n + n + 1, tick, &frame_of(64));
 }
 
 // Udp and domain in slots.
@@ -56,7 +130,7 @@ fn both() -> [Option<u32>; 32] {
 
 #[test]
 fn walks_go_by_mark(rt: HostRuntime) -> Result<(), Fail> {
-    let mut table: LayerTable<[u8; 4]> = LayerTable::new(rt.alloc(), 1024)?;
+    let mut table: LayerTable<[u8; 4], Frames> = LayerTable::new(rt.alloc(), 1024)?;
     table.begin(1024, &both(), true);
     frame(&mut table, 0, 100, (1, 2), &[UDP]);
     frame(&mut table, 1, 150, (3, 4), &[UDP, DOMAIN]);
@@ -87,7 +161,7 @@ fn walks_go_by_mark(rt: HostRuntime) -> Result<(), Fail> {
 
 #[test]
 fn a_protocol_goes_off_and_on(rt: HostRuntime) -> Result<(), Fail> {
-    let mut table: LayerTable<[u8; 4]> = LayerTable::new(rt.alloc(), 1024)?;
+    let mut table: LayerTable<[u8; 4], Frames> = LayerTable::new(rt.alloc(), 1024)?;
     table.begin(1024, &both(), true);
     frame(&mut table, 0, 100, (1, 2), &[UDP]);
     table.retune(&[None; 32], 2);
@@ -97,7 +171,7 @@ fn a_protocol_goes_off_and_on(rt: HostRuntime) -> Result<(), Fail> {
     frame(&mut table, 1, 200, (1, 2), &[UDP]);
     let shown = Counted {
         created: 200,
-        sums: out(64).traffic,
+        sums: Octets { octets: 64 },
     };
     assert_eq!(rt; table.rows().application(&host(1), UDP), Some(shown));
     assert_eq!(rt; table.rows().application(&host(1), DOMAIN), None);
@@ -106,7 +180,7 @@ fn a_protocol_goes_off_and_on(rt: HostRuntime) -> Result<(), Fail> {
 
 #[test]
 fn entries_are_counted(rt: HostRuntime) -> Result<(), Fail> {
-    let mut table: LayerTable<[u8; 4]> = LayerTable::new(rt.alloc(), 1024)?;
+    let mut table: LayerTable<[u8; 4], Frames> = LayerTable::new(rt.alloc(), 1024)?;
     table.begin(2, &both(), true);
     frame(&mut table, 0, 100, (1, 2), &[UDP]);
     frame(&mut table, 1, 200, (3, 2), &[UDP]);
@@ -120,7 +194,7 @@ fn entries_are_counted(rt: HostRuntime) -> Result<(), Fail> {
 
 #[test]
 fn rows_begin_anew_with_ip(rt: HostRuntime) -> Result<(), Fail> {
-    let mut table: LayerTable<[u8; 4]> = LayerTable::new(rt.alloc(), 1024)?;
+    let mut table: LayerTable<[u8; 4], Frames> = LayerTable::new(rt.alloc(), 1024)?;
     table.begin(1024, &both(), true);
     frame(&mut table, 0, 100, (1, 2), &[UDP]);
     table.turn_ip(false);
@@ -133,7 +207,7 @@ fn rows_begin_anew_with_ip(rt: HostRuntime) -> Result<(), Fail> {
     assert_eq!(rt; table.rows().application_deletes(), 2);
     let shown = Counted {
         created: 500,
-        sums: out(64),
+        sums: frame_of(64),
     };
     assert_eq!(rt; table.rows().network(&host(1)), Some(shown));
     Ok(())

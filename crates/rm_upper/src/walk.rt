@@ -8,11 +8,11 @@ ghost use Rattle.rm_upper.specs.Walk.{IsMarked, marked_at, better};
 ghost use Rattle.rm_upper.specs.Shown.{shown, shown_all, protocol_of, protocols};
 ghost use Rattle.rm_upper.specs.Cells.{counted};
 
-use crate::counts::{Counted, Traffic};
+use crate::counts::Counted;
 use crate::slots::{KeptApplication, Slot};
 
 // The protocol of a slot whose application row stands at a mark.
-fn marked(slot: &Option<Slot>, kept: &Option<KeptApplication>, mark: u64) -> Option<u32>
+fn marked<A: Copy>(slot: &Option<Slot>, kept: &Option<KeptApplication<A>>, mark: u64) -> Option<u32>
     ensures marked { result ≡ marked_at mark slot.now kept.now }
     ensures reached { IfSome result (λ p. mark < 2 ^ 32) }
 {
@@ -48,9 +48,9 @@ fn better(from: Option<u32>, found: Option<u32>, best: Option<u32>) -> Option<u3
 }
 
 /// The least protocol above another whose application row stands at a mark.
-pub(crate) fn next_protocol(
+pub(crate) fn next_protocol<A: Copy>(
     slots: &[Option<Slot>],
-    applications: &[Option<KeptApplication>],
+    applications: &[Option<KeptApplication<A>>],
     mark: u64,
     from: Option<u32>,
 ) -> Option<u32>
@@ -70,7 +70,7 @@ pub(crate) fn next_protocol(
 }
 
 // Whether a slot has an application row.
-fn has_application(slot: &Option<Slot>, kept: &Option<KeptApplication>) -> bool
+fn has_application<A: Copy>(slot: &Option<Slot>, kept: &Option<KeptApplication<A>>) -> bool
     ensures { result ≡ is_some (shown slot.now kept.now) }
 {
     match (slot, kept) {
@@ -80,9 +80,9 @@ fn has_application(slot: &Option<Slot>, kept: &Option<KeptApplication>) -> bool
 }
 
 /// How many slots have an application row.
-pub(crate) fn count_applications(
+pub(crate) fn count_applications<A: Copy>(
     slots: &[Option<Slot>],
-    applications: &[Option<KeptApplication>],
+    applications: &[Option<KeptApplication<A>>],
 ) -> u32
     requires same { length slots.now ≡ length applications.now }
     requires few { length slots.now ≤ 32 }
@@ -108,7 +108,7 @@ fn is_in(protocol: u32, slot: &Option<Slot>) -> bool
 }
 
 // What the application row in a slot shows.
-fn show(slot: &Option<Slot>, kept: &Option<KeptApplication>) -> Option<Counted<Traffic>>
+fn show<A: Copy>(slot: &Option<Slot>, kept: &Option<KeptApplication<A>>) -> Option<Counted<A>>
     ensures { result ≡ counted (shown slot.now kept.now) }
 {
     match (slot, kept) {
@@ -121,11 +121,11 @@ fn show(slot: &Option<Slot>, kept: &Option<KeptApplication>) -> Option<Counted<T
 }
 
 /// What the application row of a protocol shows. None where there is none.
-pub(crate) fn show_application(
+pub(crate) fn show_application<A: Copy>(
     slots: &[Option<Slot>],
-    applications: &[Option<KeptApplication>],
+    applications: &[Option<KeptApplication<A>>],
     protocol: u32,
-) -> Option<Counted<Traffic>>
+) -> Option<Counted<A>>
     requires { length slots.now ≡ length applications.now }
     ensures { result ≡ counted (application_at protocol (protocols slots.now) (shown_all slots.now applications.now)) }
 {

@@ -8,9 +8,9 @@ unchanged : (n : ℕ) → n ≡ n + 0
 unchanged n = omega arith
 
 pub loop-place-preserved : goal.loop-place-preserved
-loop-place-preserved c =
-    let applications = next_applications (is_among c.args.path.now) c.args.stamp c.args.tick c.args.gain.now c.loop-place.place c.args.slots.now c.args.applications.now c.loop-place.applications c.loop-place-test.true c.requires.same c.loop-place.invariant.applications in
-    let made = next_made (is_among c.args.path.now) c.args.stamp c.args.tick c.args.gain.now c.loop-place.place c.loop-place.made c.args.slots.now c.args.applications.now c.loop-place.applications c.loop-place-test.true c.requires.same c.loop-place.invariant.applications c.loop-place.invariant.made in
+loop-place-preserved g c =
+    let applications = next_applications g.N.Counts.tally (is_among c.args.path.now) c.args.stamp c.args.tick c.args.gain.now (c.index-applications-place-in-loop-place.result) c.loop-place.place c.args.slots.now c.args.applications.now c.loop-place.applications c.loop-place-test.true c.requires.same c.loop-place.invariant.applications in
+    let made = next_made g.N.Counts.tally (is_among c.args.path.now) c.args.stamp c.args.tick c.args.gain.now (c.index-applications-place.result) c.loop-place.place c.loop-place.made c.args.slots.now c.args.applications.now c.loop-place.applications c.loop-place-test.true c.requires.same c.loop-place.invariant.applications c.loop-place.invariant.made in
     record {
       applications = rw c.take_at.ensures applications;
       made = elim c.if-makes_at.branch [

@@ -15,7 +15,7 @@ drop_end zero (x ∷ xs) le = absurd (omega arith)
 drop_end (suc i) (x ∷ xs) le = drop_end i xs (omega arith)
 
 pub returns-clause-least : goal.returns-clause-least
-returns-clause-least c =
+returns-clause-least g c =
     let none = drop_end c.loop-place.place c.args.slots.now c.loop-place-test.false in
     let found : c.loop-place.best ≡ best_of c.args.mark c.args.from c.args.slots.now c.args.applications.now None = ap (λ l. best_of c.args.mark c.args.from l (drop c.loop-place.place c.args.applications.now) c.loop-place.best) (sym none) ∙ c.loop-place.invariant.best in
     subst (IsLeast nat_cmp (IsMarked c.args.mark c.args.slots.now c.args.applications.now) (IsAboveName nat_cmp c.args.from)) (sym found) (best_is c.args.mark c.args.from c.args.slots.now c.args.applications.now)

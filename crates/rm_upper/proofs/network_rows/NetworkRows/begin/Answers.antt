@@ -9,4 +9,4 @@ returns-clause-slots g c = rw c.retune_all.ensures (protocols-after 0 (replicate
 pub returns-clause-stands : goal.returns-clause-stands
 returns-clause-stands g c = λ r.
     let exact = exact_key g.K.PartialEq.eq g.K.Ord.cmp g.met.K.Eq.laws g.met.K.Ord.matches_eq g.met.K.Key.exact in
-    rw (c.reset.ensures, c.retune_all.ensures) (stands-first g.K.PartialEq.eq exact c.self.inside.rows.room c.args.capacity r c.args.now.now)
+    rw (c.reset.ensures, c.retune_all.ensures) (stands-first g.N.Counts.tally g.K.PartialEq.eq exact c.self.inside.rows.room c.args.capacity r c.args.now.now)

@@ -10,14 +10,14 @@ use Rattle.rm_upper.proofs.network_rows.NetworkRows.retune.Goals as goal
 pub returns-clause-stands : goal.returns-clause-stands
 returns-clause-stands g c = λ ts r up before after change stands.
     let exact = exact_key g.K.PartialEq.eq g.K.Ord.cmp g.met.K.Eq.laws g.met.K.Ord.matches_eq g.met.K.Key.exact in
-    let layered : Layered g.row.K.Denot = record { table = c.self.inside.rows; slots = c.self.inside.slots; network_inserts = c.self.inside.network_inserts; application_inserts = c.self.inside.application_inserts } in
+    let layered : Layered g.row.K.Denot g.row.N.Denot g.row.N-Application.Denot = record { table = c.self.inside.rows; slots = c.self.inside.slots; network_inserts = c.self.inside.network_inserts; application_inserts = c.self.inside.application_inserts } in
     let seen : layered ≡ c.args.self.now = c.self.view_is in
     let long : length c.self.inside.slots ≡ 32 = c.self.ranges.1.0.1.0.1 in
     let many : length c.args.now.now ≡ 32 = c.told-now in
-    rw c.retune_all.ensures (stands-retuned g.K.PartialEq.eq exact c.args.stamp ts r layered c.args.now.now (long ∙ sym many) up
-    (subst (λ (x : Layered g.row.K.Denot). AreTuned (protocols x.slots) r) (sym seen) before) after
-    (subst (λ (x : Layered g.row.K.Denot). IsChange c.args.stamp ts r (protocols x.slots) c.args.now.now) (sym seen) change)
-    (subst (StandsFor g.K.PartialEq.eq r) (sym seen) stands))
+    rw c.retune_all.ensures (stands-retuned g.N.Counts.tally g.K.PartialEq.eq exact c.args.stamp ts r layered c.args.now.now (long ∙ sym many) up
+    (subst (λ (x : Layered g.row.K.Denot g.row.N.Denot g.row.N-Application.Denot). AreTuned (protocols x.slots) r) (sym seen) before) after
+    (subst (λ (x : Layered g.row.K.Denot g.row.N.Denot g.row.N-Application.Denot). IsChange c.args.stamp ts r (protocols x.slots) c.args.now.now) (sym seen) change)
+    (subst (StandsFor g.N.Counts.tally g.K.PartialEq.eq r) (sym seen) stands))
 
 pub returns-clause-slots : goal.returns-clause-slots
 returns-clause-slots g c =
