@@ -1,0 +1,4 @@
+pub mod RenamedKeys
+pub mod RenamedEvents
+pub mod RenamedRows
+pub mod RenamedSides

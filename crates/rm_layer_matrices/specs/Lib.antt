@@ -1,0 +1,6 @@
+pub mod AddressPairs
+pub mod PairLaws
+pub mod PairCounts
+pub mod PairRow
+pub mod Renamed
+pub mod Passing
