@@ -80,6 +80,19 @@ module _ {K G : Type 0} (side : Side K G) (act : Act) (earlier : Journal) (r : L
       now true = refl
       now false = refl
 
+  turned-unlike : (p : ℕ) (ps : List ℕ) → list_any (nat_eq p) ps ≡ true → is_alike (side.is_on p earlier) (side.is_on p (act ∷ earlier)) ≡ false → is_turned p (turned_of side ps act earlier) ≡ true
+  turned-unlike p [] i off = absurd (true≢false (sym i))
+  turned-unlike p (q ∷ ps) i off = elim (cases_Bool (nat_eq p q)) [
+    | inl y ↦
+        let same : p ≡ q = nat_exact.same p q y in
+        let here : is_alike (side.is_on q earlier) (side.is_on q (act ∷ earlier)) ≡ false = ap (λ x. is_alike (side.is_on x earlier) (side.is_on x (act ∷ earlier))) (sym same) ∙ off in
+        rw (here, y) refl
+    | inr y ↦ elim (cases_Bool (is_alike (side.is_on q earlier) (side.is_on q (act ∷ earlier)))) [
+      | inl e ↦ rw e (turned-unlike p ps (rw y at i) off)
+      | inr e ↦ rw (e, y) (turned-unlike p ps (rw y at i) off)
+    ]
+  ]
+
   turned-up_to : (ps : List ℕ) → AreUpTo (next_stamp earlier) r → AreRising r → AreUpTo (next_stamp earlier) (turned_of side ps act earlier ++ r) × AreRising (turned_of side ps act earlier ++ r)
   turned-up_to [] up rising = (up, rising)
   turned-up_to (p ∷ ps) up rising = elim (cases_Bool (is_alike (side.is_on p earlier) (side.is_on p (act ∷ earlier)))) [
@@ -219,6 +232,19 @@ module _ {K G : Type 0} (side : Side K G) (is : IsSide side) where
   besides_after act earlier =
       let others = rise-ip (next_stamp earlier) act earlier (begun side act earlier ++ events side earlier) (rise-begun (next_stamp earlier) act earlier (events side earlier) (rise_after earlier)) in
       (others.0, λ p. others_on p act earlier (on_after p earlier))
+
+  -- the protocols that are on by what an act turned are those that are on after it
+  pub set_on : (act : Act) (earlier : Journal) (p : ℕ) → is_some (on_since p (turned side act earlier ++ besides side act earlier)) ≡ side.is_on p (act ∷ earlier)
+  set_on act earlier p = set_is_on p act earlier (besides side act earlier) (others_on p act earlier (on_after p earlier))
+
+  -- what is on after an act and wasn't before is turned
+  pub turned_on : (p : ℕ) (act : Act) (earlier : Journal) → side.is_on p (act ∷ earlier) ≡ true → side.is_on p earlier ≡ false → is_turned p (turned side act earlier) ≡ true
+  turned_on p act earlier now before =
+      turned-unlike side act earlier (events side earlier) p (distinct nat_eq (side.protocols (act ∷ earlier) ++ side.protocols earlier))
+      (any-distinct nat_eq nat_exact p (side.protocols (act ∷ earlier) ++ side.protocols earlier)
+      ∙ list_any-append (nat_eq p) (side.protocols (act ∷ earlier)) (side.protocols earlier)
+      ∙ ap (λ b. b || list_any (nat_eq p) (side.protocols earlier)) (is.listed p (act ∷ earlier) now))
+      (rw (before, now) refl)
 
   -- what a Set turns is one change, after what else it does
   pub one_change : (act : Act) (earlier : Journal) (old slots : Slots) → AreNew (turned side act earlier) old slots → IsChange (next_stamp earlier) (turned side act earlier) (besides side act earlier) old slots

@@ -68,10 +68,11 @@ impl LayerCounts for NetworkCounts {
         take_all(&mut row.applications, slots, path, stamp, tick, gain)
     }
 
-    fn network(row: &HostRow) -> Option<Counted<NetworkCounts>> {
+    fn network(row: &HostRow, tick: u32) -> Option<Counted<NetworkCounts>> {
         match row.created {
             Some(created) => Some(Counted {
                 created,
+                tick,
                 sums: row.sums,
             }),
             None => None,

@@ -18,6 +18,7 @@ module _ {K L N A : Type 0} (eq : K → K → Bool) (other : L → L → Bool) (
   network_row-of tally k r = λ d. cond (is_held-of eq other to alike capacity k r d)
       (Some (record {
         created = entry_tick-of eq other to alike capacity k r d;
+        tick = (ap (last_tick other (to k)) (span-of to r) ∙ last_tick-of eq other to alike capacity k (span r)) d;
         sums = total tally.blank (λ sums brings. tally.add sums brings.gain) (contributions-of eq other to alike capacity k r d);
       }))
       None

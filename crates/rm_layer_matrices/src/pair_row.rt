@@ -68,10 +68,11 @@ impl LayerCounts for PairCounts {
         take_all(&mut row.applications, slots, path, stamp, tick, gain)
     }
 
-    fn network(row: &PairRow) -> Option<Counted<PairCounts>> {
+    fn network(row: &PairRow, tick: u32) -> Option<Counted<PairCounts>> {
         match row.created {
             Some(created) => Some(Counted {
                 created,
+                tick,
                 sums: row.sums,
             }),
             None => None,

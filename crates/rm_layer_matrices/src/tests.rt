@@ -60,9 +60,11 @@ fn frame(tables: &mut PairTables<[u8; 4]>, n: u64, tick: u32, ends: (u8, u8), pa
     tables.pass(pair(ends.0, ends.1), &gain, path, n + n, tick);
 }
 
-fn counts(created: u32, pkts: u64, octets: u64) -> Option<Counted<PairCounts>> {
+// What a row shows, by the ticks of its first and of its last frame.
+fn counts(created: u32, tick: u32, pkts: u64, octets: u64) -> Option<Counted<PairCounts>> {
     Some(Counted {
         created,
+        tick,
         sums: PairCounts { pkts, octets },
     })
 }
@@ -80,16 +82,16 @@ fn pairs_stand_in_both_orders(rt: HostRuntime) -> Result<(), Fail> {
     frame(&mut tables, 2, 200, (1, 9), &[UDP]);
     let sources = tables.by_source.rows();
     let destinations = tables.by_destination.rows();
-    assert_eq!(rt; sources.network(&pair(1, 9)), counts(100, 2, 128));
+    assert_eq!(rt; sources.network(&pair(1, 9)), counts(100, 200, 2, 128));
     assert_eq!(rt; sources.network(&pair(9, 1)), None);
-    assert_eq!(rt; destinations.network(&pair(9, 1)), counts(100, 2, 128));
+    assert_eq!(rt; destinations.network(&pair(9, 1)), counts(100, 200, 2, 128));
     assert_eq!(rt;
         sources.application(&pair(2, 3), DOMAIN),
-        counts(150, 1, 64)
+        counts(150, 150, 1, 64)
     );
     assert_eq!(rt;
         destinations.application(&pair(3, 2), DOMAIN),
-        counts(150, 1, 64)
+        counts(150, 150, 1, 64)
     );
     assert_eq!(rt; sources.network_after(0, None), Some((0, pair(1, 9))));
     assert_eq!(rt; destinations.network_after(0, None), Some((0, pair(3, 2))));
@@ -123,9 +125,9 @@ fn pairs_give_way_in_both_orders(rt: HostRuntime) -> Result<(), Fail> {
     let sources = tables.by_source.rows();
     let destinations = tables.by_destination.rows();
     assert_eq!(rt; sources.network(&pair(2, 1)), None);
-    assert_eq!(rt; sources.network(&pair(1, 2)), counts(100, 2, 128));
+    assert_eq!(rt; sources.network(&pair(1, 2)), counts(100, 120, 2, 128));
     assert_eq!(rt; destinations.network(&pair(1, 2)), None);
-    assert_eq!(rt; destinations.network(&pair(2, 1)), counts(100, 2, 128));
+    assert_eq!(rt; destinations.network(&pair(2, 1)), counts(100, 120, 2, 128));
     assert_eq!(rt; sources.network_inserts(), 3);
     assert_eq!(rt; destinations.network_inserts(), 3);
     assert_eq!(rt; sources.application_deletes(), 1);

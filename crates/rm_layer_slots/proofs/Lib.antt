@@ -1,6 +1,9 @@
+pub mod NamedLemmas
 pub mod OnLemmas
 pub mod SteadyLemmas
 pub mod LocalLemmas
-pub mod StayLemmas
+pub mod ApartLemmas
 pub mod FillLemmas
+pub mod SettledLemmas
+pub mod MovedLemmas
 pub mod SideOn

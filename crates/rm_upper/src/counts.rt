@@ -49,9 +49,9 @@ pub trait LayerCounts: Counts {
         ensures made { result ≡ all_made (is_among path.now) slots.now (seen row.old).applications }
         ensures few { result ≤ 32 };
 
-    /// What a network row shows. None before its first contribution.
-    fn network(row: &Self::Row) -> Option<Counted<Self>>
-        ensures { result ≡ counted_by (seen row.now).created (seen row.now).sums };
+    /// What a network row shows, by the tick of its last contribution. None before its first one.
+    fn network(row: &Self::Row, tick: u32) -> Option<Counted<Self>>
+        ensures { result ≡ counted_by tick (seen row.now).created (seen row.now).sums };
 
     /// Its application rows, in slots.
     fn applications(row: &Self::Row) -> &[Option<KeptApplication<Self::Application>>]
@@ -62,11 +62,13 @@ pub trait LayerCounts: Counts {
     ghost starts: { seen Self.Row.blank_value ≡ blank_row Self.tally.blank };
 }
 
-/// What a row shows: the tick of its first contribution, in hundredths of a second, and what its contributions add up to.
+/// What a row shows: the ticks of its first and of its last contribution, in hundredths of a second, and what its contributions add up to.
 #[derive(Clone, Copy, PartialEq, Eq, Debug)]
 pub struct Counted<S> {
     /// The tick at which it was made.
     pub created: u32,
+    /// The tick up to which it stands at marks.
+    pub tick: u32,
     /// What it counts.
     pub sums: S,
 }

@@ -79,10 +79,9 @@ impl<K: Key, N: LayerCounts> KeptRows<K, N> {
     pub(crate) fn network(&self, key: &K) -> Option<Counted<N>>
         ensures { result ≡ network_in (row_of K.eq key.now self.now.rows) }
     {
-        match self.rows.get(key) {
-            Some(row) => N::network(row),
-            None => None,
-        }
+        let row = self.rows.get(key)?;
+        let tick = self.rows.mark(key)?;
+        N::network(row, tick)
     }
 
     /// The application rows of a key, in slots. None where it has no row.

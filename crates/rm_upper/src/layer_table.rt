@@ -76,6 +76,13 @@ impl<K: Key, N: LayerCounts> LayerTable<K, N> {
         self.latest = tick;
     }
 
+    /// Whether ip is on.
+    pub fn is_ip_on(&self) -> bool
+        ensures { result ≡ self.now.on }
+    {
+        self.on
+    }
+
     /// Turns ip on or off, by which every row goes.
     pub fn turn_ip(&mut self, on: bool)
         ensures on { self.new.on ≡ on }

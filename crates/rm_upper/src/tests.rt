@@ -81,10 +81,11 @@ impl LayerCounts for Frames {
         take_all(&mut row.applications, slots, path, stamp, tick, gain)
     }
 
-    fn network(row: &FramesRow) -> Option<Counted<Frames>> {
+    fn network(row: &FramesRow, tick: u32) -> Option<Counted<Frames>> {
         match row.created {
             Some(created) => Some(Counted {
                 created,
+                tick,
                 sums: row.frames,
             }),
             None => None,
@@ -171,6 +172,7 @@ fn a_protocol_goes_off_and_on(rt: HostRuntime) -> Result<(), Fail> {
     frame(&mut table, 1, 200, (1, 2), &[UDP]);
     let shown = Counted {
         created: 200,
+        tick: 200,
         sums: Octets { octets: 64 },
     };
     assert_eq!(rt; table.rows().application(&host(1), UDP), Some(shown));
@@ -207,6 +209,7 @@ fn rows_begin_anew_with_ip(rt: HostRuntime) -> Result<(), Fail> {
     assert_eq!(rt; table.rows().application_deletes(), 2);
     let shown = Counted {
         created: 500,
+        tick: 500,
         sums: frame_of(64),
     };
     assert_eq!(rt; table.rows().network(&host(1)), Some(shown));

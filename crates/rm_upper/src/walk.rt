@@ -114,6 +114,7 @@ fn show<A: Copy>(slot: &Option<Slot>, kept: &Option<KeptApplication<A>>) -> Opti
     match (slot, kept) {
         (Some(slot), Some(kept)) if slot.since <= kept.stamp => Some(Counted {
             created: kept.created,
+            tick: kept.tick,
             sums: kept.sums,
         }),
         _ => None,
