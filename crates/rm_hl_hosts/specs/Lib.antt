@@ -1,0 +1,13 @@
+pub mod Columns
+pub mod Control
+pub mod ControlColumns
+pub mod Paths
+pub mod HostSide
+pub mod Held
+pub mod HlHostControl
+pub mod NlHost
+pub mod AlHost
+pub mod HostCells
+pub mod Standing
+pub mod Shown
+pub mod Places

@@ -1,0 +1,33 @@
+// What is on for tables of hosts, by the directory.
+ghost use Rattle.std.specs.Prelude.{◌≡◌};
+ghost use Rattle.rm_model.specs.Journal.{Journal};
+ghost use Rattle.rm_dir.specs.Group.{Stands as IsDirectory};
+ghost use Rattle.rm_layer_slots.specs.On.{is_ip_on};
+ghost use Rattle.rm_layer_slots.specs.declared.slots.TableKind.TheVariants.{Hosts};
+ghost use Rattle.rm_hl_hosts.specs.Standing.{AreOn};
+
+use rm_dir::Directory;
+use rm_layer_slots::{TableKind, slots_on};
+use rm_path::ProtocolIdentifier;
+
+/// The type of IP (RFC 894).
+const IP: u16 = 0x0800;
+
+/// Whether ip is on for tables of hosts (RFC 2021, protocolDirHostConfig).
+pub fn is_ip_on(directory: &Directory) -> bool
+    ensures { (journal : Journal) → IsDirectory directory.now journal → result ≡ is_ip_on Hosts journal }
+{
+    match directory.protocol(ProtocolIdentifier::Ether(IP)) {
+        Some(ip) => ip.host,
+        None => false,
+    }
+}
+
+/// The local indexes of the protocols above ip that are on for tables of hosts, each in a slot.
+pub fn protocols_on(directory: &Directory) -> [Option<u32>; 32]
+    ensures { (journal : Journal) → IsDirectory directory.now journal → AreOn result journal }
+{
+    let protocols = directory.protocols();
+    protocols.are_apart();
+    slots_on(TableKind::Hosts, protocols)
+}
