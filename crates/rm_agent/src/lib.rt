@@ -8,8 +8,6 @@ mod groups;
 mod laws;
 mod notification;
 mod sampling;
-#[cfg(test)]
-mod tests;
 mod told;
 mod trap;
 

@@ -14,4 +14,3 @@ pub mod Standing
 pub mod Group
 pub mod Left
 pub mod Watched
-pub mod MadeUp

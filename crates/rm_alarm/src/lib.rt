@@ -20,8 +20,6 @@ mod sample_type;
 mod sampling;
 mod startup_alarm;
 mod taking;
-#[cfg(test)]
-mod tests;
 mod thresholds;
 mod watched;
 

@@ -6,8 +6,6 @@ mod laws;
 mod reader;
 mod sizes;
 mod tag;
-#[cfg(test)]
-mod tests;
 mod writer;
 
 pub use laws::{

@@ -8,8 +8,6 @@ mod captured;
 mod full_action;
 mod packets;
 mod taking;
-#[cfg(test)]
-mod tests;
 
 pub use buffer::Buffer;
 pub use buffer_row::{BufferRow, MOST_GRANTED, MOST_SLICE};

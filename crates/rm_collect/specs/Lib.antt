@@ -6,5 +6,3 @@ pub mod WellHeld
 pub mod Group
 pub mod Begun
 pub mod Sampled
-pub mod MadeUp
-pub mod MadeUpLaws

@@ -8,8 +8,6 @@ mod group;
 mod row_columns;
 mod shown;
 mod table;
-#[cfg(test)]
-mod tests;
 
 pub use collected::{ByFacts, Collected};
 pub use collecting::Collecting;

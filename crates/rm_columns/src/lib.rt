@@ -8,8 +8,6 @@ mod interface;
 mod numbered;
 mod row_keys;
 mod sheet;
-#[cfg(test)]
-mod tests;
 mod values;
 
 pub use control_row::ControlRow;

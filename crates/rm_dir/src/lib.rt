@@ -14,12 +14,11 @@ mod row;
 mod settle;
 mod slots;
 mod support;
-#[cfg(test)]
-mod tests;
 
 pub use cell::Others;
 pub use directory::Directory;
 pub use keys::DirectoryKeys;
 pub use laws::{locals_are_apart, slots_are_active};
+pub use locals::judge_locals;
 pub use row::DirectoryRow;
 pub use support::Support;

@@ -21,12 +21,9 @@ use rm_model::{Ask, Place, State, Verdict};
 use rm_status::{Controls, place_under};
 use rm_val::{ErrorStatus, Oid, Value};
 
-/// Names the first binding of a row that a Set makes, where fewer local indexes are left than the rows that it makes.
-pub(crate) fn judge_locals<A: Assigns>(
-    rows: &Controls<DirectoryRow>,
-    given: u32,
-    set: &A,
-) -> Verdict
+/// Judges a Set where so many local indexes were given before. Where fewer are left than the rows that it makes, inconsistentName, at the first
+/// binding of one of these rows.
+pub fn judge_locals<A: Assigns>(rows: &Controls<DirectoryRow>, given: u32, set: &A) -> Verdict
     requires { IsFirstFault (length (A.bindings set.now)) (first_pass protocol_dir (A.bindings set.now)) Fine }
     ensures { let bindings = A.bindings set.now in
         IsFirstFault (length bindings) (local_fault given (rows_before protocol_dir set_to rows.now) bindings) result }

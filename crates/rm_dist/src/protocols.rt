@@ -34,6 +34,7 @@ impl ProtocolTables {
             },
         }
     }
+
     /// A law: the sample of an alarm at a moment in milliseconds, which isn't below that of the last act, makes no difference to the tables. It
     /// does nothing.
     pub fn sample_begins(&self, moment: u32)

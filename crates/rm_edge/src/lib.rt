@@ -6,8 +6,6 @@ mod digits;
 mod memory;
 mod outside;
 mod real;
-#[cfg(test)]
-mod tests;
 mod words;
 
 pub use digits::read_number;

@@ -8,8 +8,6 @@ mod counter;
 mod ether;
 mod row;
 mod statistics;
-#[cfg(test)]
-mod tests;
 
 pub use change::Adding;
 pub use counter::Counter;

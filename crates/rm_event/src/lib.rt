@@ -12,8 +12,6 @@ mod fired;
 mod firing;
 mod group;
 mod log;
-#[cfg(test)]
-mod tests;
 
 pub use event_type::EventType;
 pub use events::Events;

@@ -18,8 +18,6 @@ mod filters;
 mod group;
 mod judging;
 mod matching;
-#[cfg(test)]
-mod tests;
 mod turning;
 
 pub use accept_type::AcceptType;

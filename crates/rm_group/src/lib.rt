@@ -26,8 +26,6 @@ mod readable;
 mod row_indexes;
 mod search;
 mod system;
-#[cfg(test)]
-mod tests;
 mod wrong;
 
 pub use acts::{Steps, Unfired, Unsampled, sample_begins};

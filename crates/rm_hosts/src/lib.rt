@@ -10,8 +10,6 @@ mod host_room;
 mod host_table;
 mod hosts;
 mod shown;
-#[cfg(test)]
-mod tests;
 
 pub use host_counts::HostCounts;
 pub use host_room::HostRoom;

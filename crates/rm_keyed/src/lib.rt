@@ -10,8 +10,6 @@ mod keyed;
 mod part_rows;
 mod source_cell;
 mod source_columns;
-#[cfg(test)]
-mod tests;
 mod two_tables;
 mod uncounted;
 mod walk;

@@ -10,8 +10,6 @@ mod matrix_room;
 mod matrix_table;
 mod pair_counts;
 mod shown;
-#[cfg(test)]
-mod tests;
 
 pub use matrix::Matrix;
 pub use matrix_room::MatrixRoom;

@@ -1,4 +1,3 @@
 pub mod Nested
-pub mod MadeUp
 pub mod InnerTable
 pub mod NumberedRows

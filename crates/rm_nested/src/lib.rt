@@ -8,8 +8,6 @@ mod nested;
 mod number;
 mod numbered_cells;
 mod numbered_rows;
-#[cfg(test)]
-mod tests;
 
 pub use inner_cells::{
     InnerCells, cell_of_both, inner_cell, judge_both, next_inner_cell, next_of_both,

@@ -19,9 +19,6 @@ use rm_ber::{
 use rm_val::{Oid, Value};
 use std::marker::Model;
 
-#[cfg(test)]
-mod tests;
-
 /// The most octets that a message is written in.
 const MOST_OCTETS: usize = 1472;
 

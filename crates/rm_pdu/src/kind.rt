@@ -1,9 +1,6 @@
 // The kinds of PDU.
 ghost use Rattle.std.specs.Prelude.{◌≡◌, ◌↔◌, Some};
 
-#[cfg(test)]
-mod tests;
-
 /// The kind of a PDU (RFC 1905, section 3).
 #[derive(Clone, Copy, Debug, PartialEq, Eq)]
 pub enum Kind {

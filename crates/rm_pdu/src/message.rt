@@ -16,9 +16,6 @@ use crate::layout::{SEQUENCE, VERSION};
 use crate::places::{Offsets, Places};
 use rm_ber::{Bad, Reader};
 
-#[cfg(test)]
-mod tests;
-
 /// The most octets of a datagram that are read.
 const MOST_OCTETS: usize = 8192;
 

@@ -9,8 +9,6 @@ mod pool;
 mod room;
 mod slot;
 mod storage;
-#[cfg(test)]
-mod tests;
 mod walk;
 
 pub use begin::Begin;

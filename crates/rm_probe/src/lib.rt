@@ -15,8 +15,6 @@ mod replaying;
 mod requests;
 mod serving;
 mod status;
-#[cfg(test)]
-mod tests;
 
 pub use entry::replay;
 pub use laws::{one_served, one_text};

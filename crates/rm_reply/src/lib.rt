@@ -11,8 +11,6 @@ mod reply;
 mod request;
 mod responses;
 mod set;
-#[cfg(test)]
-mod tests;
 mod unread;
 
 pub use laws::{every_reply, one_reply};

@@ -5,8 +5,6 @@ mod copied;
 mod ranked;
 mod rate_base;
 mod report;
-#[cfg(test)]
-mod tests;
 
 pub use copied::Copied;
 pub use ranked::Ranked;

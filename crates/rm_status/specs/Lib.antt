@@ -1,7 +1,6 @@
 pub mod Rows
 pub mod Commit
 pub mod Lending
-pub mod MadeUp
 pub mod Change
 pub mod Indexes
 pub mod RowsAfter
@@ -9,4 +8,3 @@ pub mod OfRows
 pub mod Bare
 pub mod KeptCells
 pub mod RowsShown
-pub mod Pairs

@@ -11,8 +11,6 @@ mod other_columns;
 mod place;
 mod row;
 mod steps;
-#[cfg(test)]
-mod tests;
 
 pub use change::Change;
 pub use controls::{Controls, MAX_ROWS};

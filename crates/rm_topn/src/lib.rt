@@ -14,8 +14,6 @@ mod keeping;
 mod plan;
 mod reports;
 mod shown;
-#[cfg(test)]
-mod tests;
 mod top_rows;
 
 pub use due::REPORTS;

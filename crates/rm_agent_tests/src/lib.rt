@@ -1,0 +1,5 @@
+//! Tests of rm_agent.
+#![tactic(auto)]
+
+#[cfg(test)]
+mod tests;

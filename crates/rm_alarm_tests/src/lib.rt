@@ -1,0 +1,5 @@
+//! Tests of rm_alarm.
+#![tactic(auto)]
+
+#[cfg(test)]
+mod tests;

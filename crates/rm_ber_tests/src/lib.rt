@@ -1,0 +1,5 @@
+//! Tests of rm_ber.
+#![tactic(auto)]
+
+#[cfg(test)]
+mod tests;

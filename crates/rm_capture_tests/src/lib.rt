@@ -1,0 +1,5 @@
+//! Tests of rm_capture.
+#![tactic(auto)]
+
+#[cfg(test)]
+mod tests;

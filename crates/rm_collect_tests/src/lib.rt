@@ -1,0 +1,5 @@
+//! Tests of rm_collect.
+#![tactic(auto)]
+
+#[cfg(test)]
+mod tests;

@@ -1,0 +1,5 @@
+//! Tests of rm_columns.
+#![tactic(auto)]
+
+#[cfg(test)]
+mod tests;

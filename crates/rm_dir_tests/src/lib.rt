@@ -1,0 +1,5 @@
+//! Tests of rm_dir.
+#![tactic(auto)]
+
+#[cfg(test)]
+mod tests;

@@ -1,0 +1,5 @@
+//! Tests of rm_edge.
+#![tactic(auto)]
+
+#[cfg(test)]
+mod tests;

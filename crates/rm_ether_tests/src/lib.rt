@@ -1,0 +1,5 @@
+//! Tests of rm_ether.
+#![tactic(auto)]
+
+#[cfg(test)]
+mod tests;

@@ -1,0 +1,5 @@
+//! Tests of rm_event.
+#![tactic(auto)]
+
+#[cfg(test)]
+mod tests;

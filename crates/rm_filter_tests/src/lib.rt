@@ -1,0 +1,5 @@
+//! Tests of rm_filter.
+#![tactic(auto)]
+
+#[cfg(test)]
+mod tests;

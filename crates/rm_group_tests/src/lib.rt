@@ -1,0 +1,5 @@
+//! Tests of rm_group.
+#![tactic(auto)]
+
+#[cfg(test)]
+mod tests;

@@ -1,0 +1,5 @@
+//! Tests of rm_keyed.
+#![tactic(auto)]
+
+#[cfg(test)]
+mod tests;

@@ -1,0 +1,5 @@
+//! Tests of rm_matrix.
+#![tactic(auto)]
+
+#[cfg(test)]
+mod tests;

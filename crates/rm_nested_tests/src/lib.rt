@@ -1,0 +1,5 @@
+//! Tests of rm_nested.
+#![tactic(auto)]
+
+#[cfg(test)]
+mod tests;

@@ -1,0 +1,5 @@
+//! Tests of rm_pdu.
+#![tactic(auto)]
+
+#[cfg(test)]
+mod tests;

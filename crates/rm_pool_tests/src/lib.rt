@@ -1,0 +1,5 @@
+//! Tests of rm_pool.
+#![tactic(auto)]
+
+#[cfg(test)]
+mod tests;

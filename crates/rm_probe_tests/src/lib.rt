@@ -1,0 +1,5 @@
+//! Tests of rm_probe.
+#![tactic(auto)]
+
+#[cfg(test)]
+mod tests;

@@ -1,0 +1,5 @@
+//! Tests of rm_reply.
+#![tactic(auto)]
+
+#[cfg(test)]
+mod tests;

@@ -1,0 +1,5 @@
+//! Tests of rm_report.
+#![tactic(auto)]
+
+#[cfg(test)]
+mod tests;

@@ -1,0 +1,5 @@
+//! Tests of rm_status.
+#![tactic(auto)]
+
+#[cfg(test)]
+mod tests;

@@ -1,0 +1,5 @@
+//! Tests of rm_topn.
+#![tactic(auto)]
+
+#[cfg(test)]
+mod tests;
