@@ -1,5 +1,5 @@
 -- What the valid rows of bufferControlTable collect: each keeps packets that its channel accepts, which captureBufferTable shows.
-use Rattle.std.specs.Prelude.{ℕ, ◌≤◌, List, [], ◌∷◌, length, false, Option}
+use Rattle.std.specs.Prelude.{ℕ, ◌≤◌, List, [], ◌∷◌, length, Option}
 use Rattle.std.proofs.Props.{props}
 use Rattle.rm_val.specs.Val.{Val}
 use Rattle.rm_val.specs.declared.error.ErrorStatus.{ErrorStatus}
@@ -9,6 +9,7 @@ use Rattle.rm_group.specs.Listed.{ListedTable}
 use Rattle.rm_acts.specs.Buffers.{buffer_entry}
 use Rattle.rm_acts.specs.Shown.{buffers_shown}
 use Rattle.rm_collect.specs.Collection.{Collection}
+use Rattle.rm_collect.specs.declared.sampled.Sampled.TheVariants.{ControlTable}
 use Rattle.rm_filter.specs.declared.accepted.Accepted.{Accepted}
 use Rattle.rm_capture.specs.declared.buffer.Buffer.{Buffer}
 use Rattle.rm_capture.specs.declared.buffer_row.BufferRow.{BufferRow}
@@ -32,18 +33,19 @@ packets_alone = read_only (is_of_column packet_entry packet_columns)
 -- Rows share nothing. Alarms may sample bufferControlTable alone.
 unfoldable pub buffer_collection : Collection BufferRow Buffer (Unit {0}) Accepted
 buffer_collection = record {
-  suits = λ shared settings. Unit {0};
+  suits = λ shared settings journal. Unit {0};
   in_range = IsInRange;
   in_range_prop = in_range_prop;
   fits = λ last frames buffer. buffer.captured.accepted ≤ frames;
   is_of = IsBuffer;
+  has_begun = λ settings act earlier. IsBuffer settings (act ∷ earlier);
   judges = AreJudged;
   within = λ seen. length seen.octets ≤ 262144;
   takes = λ judged seen before. Takes judged seen;
   others = λ rows. kept_other;
   inner = λ rows buffers now. cells_of (packets_shown rows buffers);
   cells = λ settings journal now. buffer_cells settings journal;
-  samples_inner = false;
+  sampled = ControlTable;
   sampleable = λ settings journal now. cells_of (buffers_shown settings journal);
   tables = buffer_tables;
   inner_alone = packets_alone;

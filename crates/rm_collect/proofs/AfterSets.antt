@@ -25,7 +25,7 @@ use Rattle.rm_pool.specs.declared.slot.Slot.{Slot}
 use Rattle.rm_pool.specs.Slots.{part_in, has_part}
 use Rattle.rm_pool.specs.Pools.{valid_in, IsOfValid, IsThere, Allowed}
 use Rattle.rm_collect.specs.Rows.{IsFresh, GoesOn, GoesOnOrSawNone, IsKept}
-use Rattle.rm_collect.specs.Collection.{Collection, IsLawful}
+use Rattle.rm_collect.specs.Collection.{Collection, IsLawful, begun_by}
 use Rattle.rm_collect.specs.Begun.{if_valid, valid_columns, IsBegun, Begins}
 use Rattle.rm_collect.specs.WellHeld.{AllFit}
 use Rattle.rm_collect.proofs.Becoming.{fit_later}
@@ -118,20 +118,21 @@ module _ {C : Type 0} (form : RowForm C) (journal : Journal) (now : ℕ) (bs : B
       }
 
 -- What becomes of what a row has collected.
-module _ {C P S J : Type 0} (form : RowForm C) (collection : Collection C P S J) (laws : IsLawful form collection) (shared : S) (settings : Counting) (suits : collection.suits shared settings)
-    (journal : Journal) (now : ℕ) (later : last_moment journal ≤ now) (bs : Bindings) (values : Assignments) (rows new : List (Row C)) (set : IsCommitted form no_rows journal values bs rows new) where
+module _ {C P S J : Type 0} (form : RowForm C) (collection : Collection C P S J) (laws : IsLawful form collection) (shared : S) (settings : Counting) (journal : Journal) (suits : collection.suits shared settings journal)
+    (now : ℕ) (later : last_moment journal ≤ now) (bs : Bindings) (values : Assignments) (rows new : List (Row C)) (set : IsCommitted form no_rows journal values bs rows new) where
   abbrev kept_before : ℕ → Option P → Type 0
   kept_before = IsKept form.table collection.is_of settings journal
 
   abbrev kept_then : ℕ → Option P → Type 0
-  kept_then = IsKept form.table collection.is_of settings (assigns now values ∷ journal)
+  kept_then = IsKept form.table (begun_by collection (assigns now values) journal) settings (assigns now values ∷ journal)
 
   module _ (i : ℕ) where
     stays_there : (part : P) → kept_before i (Some part) → valid_in new i ≡ true → kept_then i (Some part)
     stays_there part was valid =
-        let old = ap is_valid was.0 in (
-          valid_now form journal now bs values rows new set i later old valid,
-          laws.is_of_going settings journal (assigns now values ∷ journal) i part (goes_on form journal now bs values rows new set i later old valid) was.1,
+        let old = ap is_valid was.0 in
+        let still = valid_now form journal now bs values rows new set i later old valid in (
+          still,
+          laws.begun_going settings now values journal i part was.0 still (goes_on form journal now bs values rows new set i later old valid) was.1,
         )
 
     begins_there : (o : Option (Row C)) (n : Option P) → row_in new i ≡ o → is_valid (state_seen o) ≡ true → kept_before i None → IsThere (Begins form collection shared now (if_valid o)) n → kept_then i n
@@ -139,7 +140,8 @@ module _ {C P S J : Type 0} (form : RowForm C) (collection : Collection C P S J)
     begins_there (Some row) None e valid idle begun = absurd begun
     begins_there (Some row) (Some part) e valid idle begun =
         let is : IsBegun form collection shared now row.columns part = subst (λ c. Begins form collection shared now c part) (ap (λ t. cond t (Some row.columns) None) valid) begun in
-        (valid_then form journal now bs values rows new set i idle row e valid, is.is_of settings (assigns now values ∷ journal) i suits refl (is_fresh form journal now bs values rows new set i idle row e valid))
+        let then = valid_then form journal now bs values rows new set i idle row e valid in
+        (then, is.has_begun settings values journal i suits idle (ap is_valid then) (is_fresh form journal now bs values rows new set i idle row e valid))
 
     none_there : (n : Option P) → valid_in new i ≡ false → is_some n ≡ false → kept_then i n
     none_there None idle none = ap is_valid (sym (new_state form journal now bs values rows new set i)) ∙ idle

@@ -17,7 +17,7 @@ use Rattle.rm_collect.specs.Collection.{Collection, IsLawful}
 use Rattle.rm_collect.specs.Held.{Held}
 use Rattle.rm_collect.specs.WellHeld.{IsWellHeld}
 use Rattle.rm_collect.specs.Begun.{valid_columns, Begins}
-use Rattle.rm_collect.specs.Group.{Stands, AreFine}
+use Rattle.rm_collect.specs.Group.{Stands, HasBegunSet, AreFine}
 use Rattle.rm_collect.proofs.InRange.{first_fine, rows_in_range}
 use Rattle.rm_collect.proofs.AfterSets.{rows_with_set, parts_with_set, all_fit_then}
 
@@ -39,14 +39,14 @@ module _ {C P S J : Type 0} (form : RowForm C) (collection : Collection C P S J)
     of_valid = of_valid;
   }
 
-  pub stands_with_set : (settings : Counting) (journal : Journal) (values : Assignments) → AreControlRows form.table held.rows → Stands form collection held settings journal → last_moment journal ≤ now
-      → ((name : List ℕ) → value_given values name ≡ value_given bs name) → Stands form collection with_set settings (assigns now values ∷ journal)
-  stands_with_set settings journal values ordered stands reached gives =
+  pub begun_with_set : (settings : Counting) (journal : Journal) (values : Assignments) → AreControlRows form.table held.rows → Stands form collection held settings journal → last_moment journal ≤ now
+      → ((name : List ℕ) → value_given values name ≡ value_given bs name) → HasBegunSet form collection with_set settings (assigns now values) journal
+  begun_with_set settings journal values ordered stands reached gives =
       let set : IsCommitted form no_rows journal values bs held.rows new =
       record { gives = gives; fine = bindings_fine; together = fine.together; held = ordered; stood = stands.rows; after = after } in
       record {
         suits = stands.suits;
         given = stands.given;
         rows = rows_with_set form journal now bs values held.rows new set;
-        parts = parts_with_set form collection laws held.shared settings stands.suits journal now reached bs values held.rows new set held.parts then stands.parts of_valid stays begun;
+        parts = parts_with_set form collection laws held.shared settings journal stands.suits now reached bs values held.rows new set held.parts then stands.parts of_valid stays begun;
       }

@@ -70,7 +70,7 @@ module _ {C P S J : Type 0} (form : RowForm C) (collection : Collection C P S J)
   pub stands_with_frame : (settings : Counting) (journal : Journal) (frame : Frame) → Stands form collection held settings journal → IsOf settings frame facts octets number moment
       → collection.judges settings journal frame judged → Stands form collection with_frame settings (passes frame ∷ journal)
   stands_with_frame settings journal frame stands of judges = record {
-    suits = stands.suits;
+    suits = laws.suits_taken settings journal frame held.shared stands.suits;
     given = more held.frames (length (frames_in journal)) stands.given;
     rows = rows_passes form.table no_rows form.set_to held.rows journal frame stands.rows;
     parts = λ row.

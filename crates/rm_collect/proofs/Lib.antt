@@ -3,4 +3,5 @@ mod Becoming
 mod InRange
 mod AfterSets
 mod Assigned
+mod Turning
 mod Nearest

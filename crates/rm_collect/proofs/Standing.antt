@@ -1,17 +1,17 @@
 -- Where each row has the part that it had, nothing changes for a caller.
-use Rattle.std.proofs.Common.{◌≡◌, ℕ, List, sym, ap, subst, ◌∙◌}
+use Rattle.std.proofs.Common.{◌≡◌, ℕ, List, ◌∷◌, sym, ap, subst, ◌∙◌}
 use Rattle.std.specs.Prelude.{is_some}
 use Rattle.rm_model.specs.Counting.{Counting}
-use Rattle.rm_model.specs.Journal.{Journal}
+use Rattle.rm_model.specs.Journal.{Act, Journal}
 use Rattle.rm_columns.specs.RowForm.{RowForm}
 use Rattle.rm_pool.specs.declared.slot.Slot.{Slot}
 use Rattle.rm_pool.specs.Slots.{part_in}
 use Rattle.rm_pool.specs.Pools.{Allowed}
 use Rattle.rm_collect.specs.Rows.{IsKept}
-use Rattle.rm_collect.specs.Collection.{Collection}
+use Rattle.rm_collect.specs.Collection.{Collection, begun_by}
 use Rattle.rm_collect.specs.Held.{Held}
 use Rattle.rm_collect.specs.WellHeld.{IsWellHeld}
-use Rattle.rm_collect.specs.Group.{Stands}
+use Rattle.rm_collect.specs.Group.{Stands, HasBegunSet}
 
 module _ {C P S J : Type 0} (form : RowForm C) (collection : Collection C P S J) (held : Held C P S) (parts : List (Slot P)) (same : (row : ℕ) → part_in parts row ≡ part_in held.parts row) where
   abbrev with_parts : Held C P S
@@ -23,6 +23,14 @@ module _ {C P S J : Type 0} (form : RowForm C) (collection : Collection C P S J)
     given = stands.given;
     rows = stands.rows;
     parts = λ row. subst (IsKept form.table collection.is_of settings journal row) (sym (same row)) (stands.parts row);
+  }
+
+  pub still_begun : (settings : Counting) (act : Act) (earlier : Journal) → HasBegunSet form collection held settings act earlier → HasBegunSet form collection with_parts settings act earlier
+  still_begun settings act earlier begun = record {
+    suits = begun.suits;
+    given = begun.given;
+    rows = begun.rows;
+    parts = λ row. subst (IsKept form.table (begun_by collection act earlier) settings (act ∷ earlier) row) (sym (same row)) (begun.parts row);
   }
 
   pub still_well_held : IsWellHeld collection held → IsWellHeld collection with_parts

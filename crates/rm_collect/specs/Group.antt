@@ -1,7 +1,7 @@
 -- A control table whose valid rows collect, as a caller sees it.
-use Rattle.std.specs.Prelude.{◌≡◌, ℕ, ◌≤◌, max, length}
+use Rattle.std.specs.Prelude.{◌≡◌, ℕ, ◌≤◌, max, [], ◌∷◌, length}
 use Rattle.rm_model.specs.Counting.{Counting}
-use Rattle.rm_model.specs.Journal.{Journal, frames_in}
+use Rattle.rm_model.specs.Journal.{Act, Journal, passes, assigns, samples, frames_in}
 use Rattle.rm_model.specs.ControlRows.{no_rows}
 use Rattle.rm_model.specs.Judgement.{Bindings, second_pass, IsFirstFault}
 use Rattle.rm_model.specs.Reserves.{count_valid, count_valid_after}
@@ -12,7 +12,7 @@ use Rattle.rm_status.specs.Rows.{rows_before}
 use Rattle.rm_status.specs.RowsAfter.{AreRowsAfter}
 use Rattle.rm_pool.specs.Slots.{part_in}
 use Rattle.rm_collect.specs.Rows.{IsKept}
-use Rattle.rm_collect.specs.Collection.{Collection, alone}
+use Rattle.rm_collect.specs.Collection.{Collection, alone, begun_by}
 use Rattle.rm_collect.specs.Held.{Held}
 
 module _ {C P S : Type 0} where
@@ -37,10 +37,24 @@ module _ {C P S J : Type 0} (form : RowForm C) (collection : Collection C P S J)
   -- It stands for a journal: what the rows share is what the probe was set to, it was given the frames of the journal, its rows are those
   -- after it, and exactly the valid ones have what they have collected.
   pub record Stands (held : Held C P S) (settings : Counting) (journal : Journal) : Type 0 where
-    pub suits : collection.suits held.shared settings
+    pub suits : collection.suits held.shared settings journal
     pub given : held.frames ≡ length (frames_in journal)
     pub rows : AreRowsAfter form.table no_rows form.set_to held.rows journal
     pub parts : (row : ℕ) → IsKept form.table collection.is_of settings journal row (part_in held.parts row)
+
+  -- It has begun a Set, the act after a journal: its rows are those after the Set, and what they share is still what it was before.
+  pub record HasBegunSet (held : Held C P S) (settings : Counting) (act : Act) (earlier : Journal) : Type 0 where
+    pub suits : collection.suits held.shared settings earlier
+    pub given : held.frames ≡ length (frames_in earlier)
+    pub rows : AreRowsAfter form.table no_rows form.set_to held.rows (act ∷ earlier)
+    pub parts : (row : ℕ) → IsKept form.table (begun_by collection act earlier) settings (act ∷ earlier) row (part_in held.parts row)
+
+  -- It has begun the Set that is the last act of a journal.
+  abbrev pub HasBegun : Held C P S → Counting → Journal → Type 0
+  HasBegun held settings [] = ⊥
+  HasBegun held settings (passes frame ∷ earlier) = ⊥
+  HasBegun held settings (samples moment alarm reading ∷ earlier) = ⊥
+  HasBegun held settings (assigns moment values ∷ earlier) = HasBegunSet held settings (assigns moment values) earlier
 
   -- both passes find nothing wrong with a Set, by the rows that are held
   pub record AreFine (held : Held C P S) (bindings : Bindings) : Type 0 where

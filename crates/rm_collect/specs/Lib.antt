@@ -5,4 +5,5 @@ pub mod Held
 pub mod WellHeld
 pub mod Group
 pub mod Begun
+pub mod Turned
 pub mod Sampled

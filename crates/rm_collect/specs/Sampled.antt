@@ -72,12 +72,12 @@ module _ {C P S J : Type 0} (form : RowForm C) (collection : Collection C P S J)
   kept_sampled row None idle = ap is_valid (same_state form.table laws.unsampled journal moment alarm reading (row_index form.table row)) ∙ idle
   kept_sampled row (Some part) is = (
     same_state form.table laws.unsampled journal moment alarm reading (row_index form.table row) ∙ is.0,
-    laws.is_of_going settings journal (samples moment alarm reading ∷ journal) row part (goes_on form.table laws.unsampled journal moment alarm reading later row) is.1,
+    laws.is_of_sampled settings journal moment alarm reading row part is.0 (goes_on form.table laws.unsampled journal moment alarm reading later row) is.1,
   )
 
   pub stands_sampled : (held : Held C P S) → Stands form collection held settings journal → Stands form collection held settings (samples moment alarm reading ∷ journal)
   stands_sampled held stands = record {
-    suits = stands.suits;
+    suits = laws.suits_sampled settings journal moment alarm reading held.shared stands.suits;
     given = stands.given;
     rows = rows_samples form.table no_rows form.set_to laws.unsampled held.rows journal moment alarm reading stands.rows;
     parts = λ row. kept_sampled row (part_in held.parts row) (stands.parts row);

@@ -1,16 +1,16 @@
 // What a Set makes of the rows and of what they collect.
 ghost use Rattle.std.specs.Prelude.{◌≡◌, ℕ, ◌≤◌, List, ◌∷◌};
 ghost use Rattle.rm_model.specs.Counting.{Counting};
-ghost use Rattle.rm_model.specs.Journal.{Assignments, Journal, assigns, last_moment, value_given};
+ghost use Rattle.rm_model.specs.Journal.{Act, Assignments, Journal, assigns, last_moment, value_given};
 ghost use Rattle.rm_collect.specs.Rows.{GoesOnOrSawNone};
-ghost use Rattle.rm_collect.specs.Group.{Stands, IsPrepared, IsReleased, IsStocked, frames_given, last_given};
+ghost use Rattle.rm_collect.specs.Group.{Stands, HasBegun, HasBegunSet, IsPrepared, IsReleased, IsStocked, frames_given, last_given};
 
 use crate::collected::Collected;
 use crate::collecting::Collecting;
 use rm_group::Assigns;
 
 impl<P: Collected> Collecting<P> {
-    /// Does a Set, for which all was made ready, at a moment in milliseconds. A row that becomes valid begins to collect at that
+    /// Begins a Set, for which all was made ready, at a moment in milliseconds. A row that becomes valid begins to collect at that
     /// moment, and one that isn't valid any more loses what it has. No memory is taken.
     pub fn assign<A: Assigns>(&mut self, set: &A, now: u32)
         requires later { last_given self.old ≤ now }
@@ -19,10 +19,10 @@ impl<P: Collected> Collecting<P> {
         ensures last { last_given self.new ≡ now }
         ensures frames { frames_given self.new ≡ frames_given self.old }
         ensures stocked { IsStocked self.new }
-        ensures stands { (settings : Counting) (journal : Journal) (values : Assignments) → Stands P.Columns.form P.collection self.old settings journal
+        ensures begun { (settings : Counting) (journal : Journal) (values : Assignments) → Stands P.Columns.form P.collection self.old settings journal
             → last_moment journal ≤ now
             → ((name : List ℕ) → value_given values name ≡ value_given (A.bindings set.now) name)
-            → Stands P.Columns.form P.collection self.new settings (assigns now values ∷ journal) }
+            → HasBegun P.Columns.form P.collection self.new settings (assigns now values ∷ journal) }
         ensures released { IsReleased P.Columns.form self.new }
     {
         prove!(self.table.rows.len() <= 32);
@@ -51,6 +51,8 @@ impl<P: Collected> Collecting<P> {
         ensures stocked { IsStocked self.old → IsStocked self.new }
         ensures stands { (settings : Counting) (journal : Journal) → Stands P.Columns.form P.collection self.old settings journal
             → Stands P.Columns.form P.collection self.new settings journal }
+        ensures begun { (settings : Counting) (act : Act) (earlier : Journal) → HasBegunSet P.Columns.form P.collection self.old settings act earlier
+            → HasBegunSet P.Columns.form P.collection self.new settings act earlier }
         ensures released { IsReleased P.Columns.form self.new }
     {
         self.parts.give_back(&self.table.rows);

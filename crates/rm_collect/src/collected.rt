@@ -1,12 +1,13 @@
 // What a control row collects.
-ghost use Rattle.std.specs.Prelude.{◌≡◌, ℕ, ◌<◌, ◌≤◌, List, [], length, Some, IfSome, OnSome, IfNone};
+ghost use Rattle.std.specs.Prelude.{◌≡◌, ℕ, ◌<◌, ◌≤◌, List, [], ◌∷◌, length, Some, true, false, IfSome, OnSome, IfNone};
 ghost use Rattle.std.specs.Option.{option_map};
 ghost use Rattle.rm_val.specs.Val.{val_of};
 ghost use Rattle.rm_val.specs.Spellable.{IsSpellable, HasSpelling};
 ghost use Rattle.rm_model.specs.Cells.{IsNext};
 ghost use Rattle.rm_model.specs.ControlTable.{row_index};
+ghost use Rattle.rm_model.specs.ControlRows.{no_rows, is_valid, state_of};
 ghost use Rattle.rm_model.specs.Counting.{Counting};
-ghost use Rattle.rm_model.specs.Journal.{Frame, Journal, last_moment};
+ghost use Rattle.rm_model.specs.Journal.{Assignments, Frame, Journal, assigns};
 ghost use Rattle.rm_model.specs.Judgement.{IsFirstFault};
 ghost use Rattle.rm_group.specs.Alone.{alone_at};
 ghost use Rattle.rm_group.specs.Least.{AreFrom};
@@ -22,6 +23,7 @@ ghost use Rattle.rm_collect.specs.Rows.{IsFresh};
 ghost use Rattle.rm_collect.specs.Collection.{Collection, IsLawful};
 
 use crate::row_columns::RowColumns;
+use crate::sampled::Sampled;
 use rm_columns::ControlRow;
 use rm_group::{Assigns, Passing, TableObjects};
 use rm_model::Verdict;
@@ -44,12 +46,15 @@ pub trait Collected: Part {
     /// What the rows collect, and what the tables show of it.
     ghost collection: { Collection Self.Columns Self Self.Shared Self.Judged };
 
-    /// Begins what a row with these columns collects, in storage that is spare, at a moment in milliseconds.
+    /// Begins what a row with these columns collects, in storage that is spare, by the Set of a moment in milliseconds by which the row
+    /// becomes valid.
     fn begin(&mut self, columns: &Self::Columns, shared: &Self::Shared, now: u32)
         requires in_range { collection.in_range columns.now }
         ensures fits { (frames : ℕ) → collection.fits now frames self.new }
-        ensures is_of { (settings : Counting) (journal : Journal) (row : ℕ) → collection.suits shared.now settings → last_moment journal ≡ now
-            → IsFresh Self.Columns.form columns.now journal row → collection.is_of settings journal row self.new };
+        ensures begun { (settings : Counting) (values : Assignments) (earlier : Journal) (row : ℕ) → collection.suits shared.now settings earlier
+            → is_valid (state_of Self.Columns.form.table no_rows earlier (row_index Self.Columns.form.table row)) ≡ false
+            → is_valid (state_of Self.Columns.form.table no_rows (assigns now values ∷ earlier) (row_index Self.Columns.form.table row)) ≡ true
+            → IsFresh Self.Columns.form columns.now (assigns now values ∷ earlier) row → collection.has_begun settings (assigns now values) earlier row self.new };
 
     /// A frame passes that was judged to be these, after so many frames: each row takes it.
     fn pass(parts: &mut Pool<Self>, judged: &[Self::Judged], passing: &Passing<'_>, before: u32)
@@ -101,9 +106,9 @@ pub trait Collected: Part {
         ensures from { (rows : List (Row Self.Columns)) (parts : List (Slot Self)) (now : ℕ) → AreFrom result.now (collection.inner rows parts now) }
         ensures fits { length result.now ≤ 128 };
 
-    /// Whether alarms may sample the other tables beside the control table.
-    fn samples_inner() -> bool
-        ensures { result ≡ collection.samples_inner };
+    /// Which of the tables alarms may sample.
+    fn sampled() -> Sampled
+        ensures { result ≡ collection.sampled };
 
     /// The first pass of a Set: each binding alone that isn't of the control table.
     fn judge_inner<A: Assigns>(set: &A) -> Verdict

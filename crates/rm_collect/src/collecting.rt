@@ -1,8 +1,8 @@
 // A control table, and what its valid rows collect.
-ghost use Rattle.std.specs.Prelude.{◌≡◌, ℕ, ◌+◌, ◌<◌, ◌≤◌, [], ◌∷◌, OnOk};
+ghost use Rattle.std.specs.Prelude.{◌≡◌, ℕ, ℤ, ◌+◌, ◌<◌, ◌≤◌, [], ◌∷◌, Option, OnOk};
 ghost use Rattle.std.specs.Option.{option_copied};
 ghost use Rattle.rm_model.specs.Counting.{Counting};
-ghost use Rattle.rm_model.specs.Journal.{Journal, Frame, passes};
+ghost use Rattle.rm_model.specs.Journal.{Journal, Frame, last_moment, passes, samples};
 ghost use Rattle.rm_group.specs.declared.bounds.TheConstants.{MOST_FRAMES, MOST_OCTETS};
 ghost use Rattle.rm_group.specs.Passing.{IsOf};
 ghost use Rattle.rm_pool.specs.Slots.{part_in};
@@ -42,7 +42,7 @@ impl<P: Collected> Model for Collecting<P> {
 impl<P: Collected> Collecting<P> {
     /// The table before the first frame. It has no row, and no storage.
     pub fn new(shared: P::Shared) -> Collecting<P>
-        ensures stands { (settings : Counting) → P.collection.suits shared settings → Stands P.Columns.form P.collection result settings [] }
+        ensures stands { (settings : Counting) → P.collection.suits shared settings [] → Stands P.Columns.form P.collection result settings [] }
         ensures frames { frames_given result ≡ 0 }
         ensures last { last_given result ≡ 0 }
     {
@@ -89,6 +89,13 @@ impl<P: Collected> Collecting<P> {
         self.frames = before + 1;
         self.table.last = passing.moment;
     }
+
+    /// A law: the sample of an alarm at a moment in milliseconds, which isn't below that of the last act, makes no difference to what rows
+    /// collect. It does nothing.
+    pub fn sample_begins(&self, moment: u32)
+        ensures { (settings : Counting) (earlier : Journal) (alarm : ℕ) (reading : Option ℤ) → Stands P.Columns.form P.collection self.now settings earlier
+            → last_moment earlier ≤ moment → Stands P.Columns.form P.collection self.now settings (samples moment alarm reading ∷ earlier) }
+    {}
 
     /// What a row has collected. None exactly where the row isn't valid.
     pub fn part(&self, row: u32) -> Option<&P>

@@ -1,6 +1,7 @@
 // A control table whose valid rows collect, as a group of objects.
 use crate::collected::{ByFacts, Collected};
 use crate::collecting::Collecting;
+use crate::turned::ByItself;
 use rm_group::{
     Assigns, Commits, Denied, Group, Look, NeverDue, Passing, Readable, TableObjects, Tables,
     Unfired, Unsampled, lower_verdict,
@@ -77,7 +78,7 @@ impl<P: Collected> Group for Collecting<P> {
     }
 }
 
-impl<P: Collected> Commits for Collecting<P> {
+impl<P: ByItself> Commits for Collecting<P> {
     fn commit<A: Assigns>(&mut self, set: &A, now: u32) {
         self.assign(set, now);
     }

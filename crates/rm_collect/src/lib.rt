@@ -2,13 +2,19 @@
 #![tactic(auto)]
 
 mod assigning;
+mod beside;
 mod collected;
 mod collecting;
 mod group;
 mod row_columns;
+mod sampled;
 mod shown;
 mod table;
+mod turned;
 
+pub use beside::CollectingBeside;
 pub use collected::{ByFacts, Collected};
 pub use collecting::Collecting;
 pub use row_columns::RowColumns;
+pub use sampled::Sampled;
+pub use turned::{ByItself, ByOther, Turned};

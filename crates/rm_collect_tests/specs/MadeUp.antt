@@ -1,6 +1,6 @@
 -- A made-up control table, for the tests: each valid row counts the frames of an interface. Column 2 is the interface, 1 to 9, column 3
 -- the count, and column 4 the status.
-use Rattle.std.specs.Prelude.{◌≡◌, ℕ, ◌+◌, ◌≤◌, pos, List, [], ◌∷◌, length, filter, nat_eq, if◌then◌else◌, Option, None, refl, true}
+use Rattle.std.specs.Prelude.{◌≡◌, ℕ, ◌+◌, ◌≤◌, pos, List, [], ◌∷◌, length, filter, nat_eq, if◌then◌else◌, Option, None, refl}
 use Rattle.std.specs.Option.{option_map_or}
 use Rattle.rm_val.specs.Val.{Val, int, counter}
 use Rattle.rm_proto.specs.declared.known.Facts.{Facts}
@@ -21,6 +21,7 @@ use Rattle.rm_status.specs.RowsShown.{with_index}
 use Rattle.rm_pool.specs.declared.slot.Slot.{Slot}
 use Rattle.rm_pool.specs.Slots.{part_in}
 use Rattle.rm_collect.specs.Collection.{Collection}
+use Rattle.rm_collect.specs.declared.sampled.Sampled.TheVariants.{AllTables}
 
 -- the frames of an interface that a row has counted, beside a number that all rows share and the moment at which it began
 pub record Tallied : Type 0 where
@@ -84,18 +85,19 @@ made_up_table journal = control_cells made_up no_rows made_up_columns (with_inde
 -- its rows go by the facts of frames alone
 abbrev pub made_up_collection : Collection ℕ Tallied ℕ (Unit {0})
 made_up_collection = record {
-  suits = λ shared settings. settings.hosts ≡ shared;
+  suits = λ shared settings journal. settings.hosts ≡ shared;
   in_range = λ source. Unit {0};
   in_range_prop = λ source a b d. tt;
   fits = λ last frames tallied. (tallied.begun ≤ last) × (tallied.count ≤ frames);
   is_of = IsTally;
+  has_begun = λ settings act earlier. IsTally settings (act ∷ earlier);
   judges = λ settings journal frame judged. Unit {0};
   within = λ seen. Unit {0};
   takes = λ judged seen before. Tallies seen.facts;
   others = λ rows. count_kept;
   inner = λ rows parts now name. None;
   cells = λ settings journal now. cells_of (made_up_table journal);
-  samples_inner = true;
+  sampled = AllTables;
   sampleable = λ settings journal now. cells_of (made_up_table journal);
   tables = record { entry = made_up_entry; columns = made_up_columns } ∷ [];
   inner_alone = λ name value. None;

@@ -6,7 +6,7 @@ use Rattle.std.proofs.Math.Nat.{le_trans}
 use Rattle.rm_val.specs.Val.{Val, int, counter}
 use Rattle.rm_proto.specs.declared.known.Facts.{Facts}
 use Rattle.rm_model.specs.Counting.{Counting}
-use Rattle.rm_model.specs.Journal.{Frame, Journal, passes}
+use Rattle.rm_model.specs.Journal.{Frame, Journal, passes, assigns, samples}
 use Rattle.rm_model.specs.FrameFacts.{frame_facts}
 use Rattle.rm_model.specs.Cells.{cells_of}
 use Rattle.rm_model.specs.Finite.{AreFinite}
@@ -30,6 +30,7 @@ use Rattle.rm_pool.specs.Slots.{part_in}
 use Rattle.rm_collect.specs.Rows.{GoesOn, IsKept}
 use Rattle.rm_collect.specs.Collection.{IsLawful, alone}
 use Rattle.rm_collect.specs.Sampled.{never_seen}
+use Rattle.rm_collect.specs.Turned.{IsByItself}
 use Rattle.rm_collect_tests.specs.MadeUp.{Tallied, IsTally, Tallies, made_up, made_up_columns, made_up_rows, source_set, count_of, count_after, count_kept, made_up_table, made_up_collection}
 
 fits_taken : (facts : Facts) (moment frames : ℕ) (tallied new : Tallied) → (tallied.begun ≤ moment) × (tallied.count ≤ frames) → Tallies facts tallied new → (new.begun ≤ moment) × (new.count ≤ frames + 1)
@@ -104,7 +105,10 @@ made_up_lawful = record {
   fits_later = λ last now frames tallied later fits. (le_trans fits.0 later, fits.1);
   fits_taken = λ judged seen frames. fits_taken seen.facts seen.moment frames;
   is_of_taken = λ settings journal row frame judged tallied new valid judges fits is takes. is_tally_taken settings journal row frame tallied new valid is takes;
-  is_of_going = is_tally_going;
+  is_of_sampled = λ settings journal moment alarm reading row part valid. is_tally_going settings journal (samples moment alarm reading ∷ journal) row part;
+  begun_going = λ settings moment values earlier row part before after. is_tally_going settings earlier (assigns moment values ∷ earlier) row part;
+  suits_taken = λ settings journal frame shared suits. suits;
+  suits_sampled = λ settings journal moment alarm reading shared suits. suits;
   same = λ settings journal now rows parts held is are later. same_shown settings journal rows parts held is are;
   same_sampled = λ settings journal now rows parts held is are later. same_shown settings journal rows parts held is are;
   recurring = λ settings one other journal alike now name. refl;
@@ -113,4 +117,11 @@ made_up_lawful = record {
   unsampled = refl;
   shows_listed = λ settings journal now. of_table (made_up_table journal);
   refuses_listed = subst (AreRefused (is_listed made_up_collection.tables) (is_settable made_up)) (λ d name value. sym (settable_refused name value) d) (control_listed made_up made_up_columns);
+}
+
+-- no other group makes a difference to it
+pub made_up_by_itself : IsByItself made_up_collection
+made_up_by_itself = record {
+  whole = λ settings moment values earlier row part begun. begun;
+  lasting = λ settings moment values earlier shared suits. suits;
 }

@@ -1,5 +1,5 @@
 -- What the valid rows of historyControl collect: each has a history, of which etherHistory shows the last complete buckets.
-use Rattle.std.specs.Prelude.{ℕ, List, [], ◌∷◌, Option, true}
+use Rattle.std.specs.Prelude.{ℕ, List, [], ◌∷◌, Option}
 use Rattle.std.specs.Option.{option_or}
 use Rattle.rm_val.specs.Val.{Val}
 use Rattle.rm_val.specs.declared.error.ErrorStatus.{ErrorStatus}
@@ -9,6 +9,7 @@ use Rattle.rm_model.specs.Cells.{Cells, cells_of, is_of_column}
 use Rattle.rm_group.specs.Alone.{read_only}
 use Rattle.rm_group.specs.Listed.{ListedTable}
 use Rattle.rm_collect.specs.Collection.{Collection}
+use Rattle.rm_collect.specs.declared.sampled.Sampled.TheVariants.{AllTables}
 use Rattle.rm_history.specs.declared.control_columns.ControlColumns.{ControlColumns}
 use Rattle.rm_history.specs.declared.run.Run.{Run}
 use Rattle.rm_history.specs.Columns.{control_columns, sample_columns}
@@ -35,18 +36,19 @@ history_cells settings journal now name = option_or (cells_of (control_table jou
 -- Rows share nothing.
 unfoldable pub history_collection : Collection ControlColumns Run (Unit {0}) (Unit {0})
 history_collection = record {
-  suits = λ shared settings. Unit {0};
+  suits = λ shared settings journal. Unit {0};
   in_range = AreInRange;
   in_range_prop = in_range_prop;
   fits = Fits;
   is_of = IsRun;
+  has_begun = λ settings act earlier. IsRun settings (act ∷ earlier);
   judges = λ settings journal frame judged. Unit {0};
   within = λ seen. Unit {0};
   takes = λ judged seen before. Counts seen.facts seen.moment;
   others = λ rows runs. kept_other rows;
   inner = λ rows runs now. cells_of (runs_table runs now);
   cells = history_cells;
-  samples_inner = true;
+  sampled = AllTables;
   sampleable = history_cells;
   tables = history_tables;
   inner_alone = samples_alone;

@@ -8,7 +8,7 @@ use crate::counted_frame::CountedFrame;
 use crate::plan::Plan;
 use crate::run::{MOST_BUCKETS, Run};
 use crate::samples::{SAMPLE_OBJECTS, Samples};
-use rm_collect::{ByFacts, Collected, RowColumns};
+use rm_collect::{ByFacts, ByItself, Collected, RowColumns, Sampled};
 use rm_ether::Adding;
 use rm_group::{Assigns, Passing, TableObjects, judge_read_only};
 use rm_model::{State, Verdict};
@@ -75,8 +75,8 @@ impl Collected for Run {
         SAMPLE_OBJECTS.entry
     }
 
-    fn samples_inner() -> bool {
-        true
+    fn sampled() -> Sampled {
+        Sampled::AllTables
     }
 
     fn judge_inner<A: Assigns>(set: &A) -> Verdict {
@@ -102,6 +102,12 @@ impl ByFacts for Run {
     ghost unjudged = { unjudged };
 
     ghost all_within = { all_within };
+}
+
+impl ByItself for Run {
+    ghost use Rattle.rm_history.specs.Lawful.{by_itself};
+
+    ghost by_itself = { by_itself };
 }
 
 // How the history of a row with these columns is taken that begins at a moment.

@@ -147,7 +147,7 @@ module _ (tables : List (Slot HostTable)) (settings : Counting) (journal : Journ
   cell is value = cond is (Some value) None
 
   of_address : (row : ℕ) (index : List ℕ) (column : ℕ) (o : Option HostTable) → IsKept host_control IsTable settings journal row o
-      → cell_in with_address kept_value row o index column ≡ cell (is_host settings journal (row ∷ index)) (host_at settings journal column (row ∷ index))
+      → cell_in with_address kept_value true row o index column ≡ cell (is_host settings journal (row ∷ index)) (host_at settings journal column (row ∷ index))
   of_address row [] column None idle = refl
   of_address row [] column (Some table) is = ap (option_map (λ key. kept_value row table key column)) (no_empty_address table)
   of_address row (count ∷ address) column None idle =
@@ -159,10 +159,10 @@ module _ (tables : List (Slot HostTable)) (settings : Counting) (journal : Journ
   of_address row (count ∷ address) column (Some table) is = address_cell settings journal row table is.1 column count address
 
   same_hosts : (name : List ℕ) → cells_of (addresses_table tables) name ≡ cells_of (host_table settings journal) name
-  same_hosts = same_table with_address kept_value tables (host_table settings journal) refl (λ row index column. of_address row index column (part_in tables row) (are row))
+  same_hosts = same_table with_address kept_value true tables (host_table settings journal) refl (λ row index column. of_address row index column (part_in tables row) (are row))
 
   of_ranked : (row : ℕ) (index : List ℕ) (column : ℕ) (o : Option HostTable) → IsKept host_control IsTable settings journal row o
-      → cell_in with_rank kept_value row o index column ≡ cell (is_ranked settings journal (row ∷ index)) (ranked_at settings journal column (row ∷ index))
+      → cell_in with_rank kept_value true row o index column ≡ cell (is_ranked settings journal (row ∷ index)) (ranked_at settings journal column (row ∷ index))
   of_ranked row [] column None idle = refl
   of_ranked row [] column (Some table) is = refl
   of_ranked row (rank ∷ []) column None idle = sym (ap (λ o. cell (is_some o) (option_map_or (λ address. host_value settings journal row address column) o null)) (no_host settings journal row idle rank))
@@ -171,7 +171,7 @@ module _ (tables : List (Slot HostTable)) (settings : Counting) (journal : Journ
   of_ranked row (rank ∷ next ∷ more) column (Some table) is = refl
 
   same_ranks : (name : List ℕ) → cells_of (ranks_table tables) name ≡ cells_of (time_table settings journal) name
-  same_ranks = same_table with_rank kept_value tables (time_table settings journal) refl (λ row index column. of_ranked row index column (part_in tables row) (are row))
+  same_ranks = same_table with_rank kept_value true tables (time_table settings journal) refl (λ row index column. of_ranked row index column (part_in tables row) (are row))
 
   -- hostControl
   rows_are : (row : ℕ) (o : Option HostTable) → IsKept host_control IsTable settings journal row o

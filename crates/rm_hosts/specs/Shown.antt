@@ -1,5 +1,5 @@
 -- What the rows and the hosts that are kept show.
-use Rattle.std.specs.Prelude.{◌≡◌, ℕ, pos, ◌%◌, ◌^◌, List, [], ◌∷◌, nat_eq, if◌then◌else◌, Option, None, option_map, unwrap_or, refl}
+use Rattle.std.specs.Prelude.{◌≡◌, ℕ, pos, ◌%◌, ◌^◌, List, [], ◌∷◌, true, nat_eq, if◌then◌else◌, Option, None, option_map, unwrap_or, refl}
 use Rattle.std.specs.Option.{option_map_or}
 use Rattle.std.specs.Str.{bytes_eq}
 use Rattle.rm_val.specs.Val.{Val, int, counter, octets}
@@ -47,10 +47,10 @@ with_rank table = key_ranked (entries_of table)
 
 -- host and hostTime with these hosts
 abbrev pub addresses_table : List (Slot HostTable) → Table
-addresses_table = parts_table with_address kept_value host_entry host_columns
+addresses_table = parts_table with_address kept_value true host_entry host_columns
 
 abbrev pub ranks_table : List (Slot HostTable) → Table
-ranks_table = parts_table with_rank kept_value time_entry host_columns
+ranks_table = parts_table with_rank kept_value true time_entry host_columns
 
 -- their cells
 abbrev pub inner_shown : List (Slot HostTable) → Cells

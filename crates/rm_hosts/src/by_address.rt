@@ -1,5 +1,5 @@
 // The hosts by their addresses.
-ghost use Rattle.std.specs.Prelude.{◌≤◌, refl};
+ghost use Rattle.std.specs.Prelude.{◌≤◌, refl, true};
 ghost use Rattle.rm_hosts.specs.Columns.{host_columns};
 ghost use Rattle.rm_hosts.specs.Host.{host_entry};
 ghost use Rattle.rm_hosts.specs.Shown.{kept_value, with_address, no_empty_address};
@@ -28,6 +28,8 @@ impl KeyTable for ByAddress {
 
     ghost key_at = { with_address };
 
+    ghost is_open = { λ now. true };
+
     ghost longest = { 7 };
 
     ghost value_of = { kept_value };
@@ -38,6 +40,10 @@ impl KeyTable for ByAddress {
 
     fn objects() -> TableObjects {
         HOST_OBJECTS
+    }
+
+    fn is_open(_now: u32) -> bool {
+        true
     }
 
     fn index_above(table: &HostTable, index: &Oid) -> Option<Oid> {

@@ -1,5 +1,5 @@
 // The hosts by their ranks in the order of entry.
-ghost use Rattle.std.specs.Prelude.{◌≤◌, refl};
+ghost use Rattle.std.specs.Prelude.{◌≤◌, refl, true};
 ghost use Rattle.rm_hosts.specs.Columns.{host_columns};
 ghost use Rattle.rm_hosts.specs.HostTime.{time_entry};
 ghost use Rattle.rm_hosts.specs.Shown.{kept_value, with_rank};
@@ -28,6 +28,8 @@ impl KeyTable for ByRank {
 
     ghost key_at = { with_rank };
 
+    ghost is_open = { λ now. true };
+
     ghost longest = { 1 };
 
     ghost value_of = { kept_value };
@@ -38,6 +40,10 @@ impl KeyTable for ByRank {
 
     fn objects() -> TableObjects {
         TIME_OBJECTS
+    }
+
+    fn is_open(_now: u32) -> bool {
+        true
     }
 
     fn index_above(table: &HostTable, index: &Oid) -> Option<Oid> {

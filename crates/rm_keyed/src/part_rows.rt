@@ -1,5 +1,5 @@
 // Inner rows that the parts of a pool show by keys.
-ghost use Rattle.std.specs.Prelude.{◌≡◌, ◌+◌, ◌≤◌, ℕ, List, [], length, drop, Option, None, IfSome, IsTrue, is_some};
+ghost use Rattle.std.specs.Prelude.{◌≡◌, ◌+◌, ◌≤◌, ℕ, List, [], length, drop, Bool, Option, None, IfSome, IsTrue, is_some};
 ghost use Rattle.std.specs.Option.{option_map};
 ghost use Rattle.rm_val.specs.Val.{Val, val_of};
 ghost use Rattle.rm_val.specs.Spellable.{HasSpelling};
@@ -25,6 +25,10 @@ pub trait KeyTable {
     /// The key of the row that has an index in a part, if there is one.
     ghost key_at: { Self.Part → List ℕ → Option Self.Key };
 
+    /// The table has rows at a moment in milliseconds, if its parts have any. It has none while it is closed, as a table of RFC 2021 is
+    /// while sysUpTime is 0.
+    ghost is_open: { ℕ → Bool };
+
     /// No index in a part has more numbers.
     ghost longest: { ℕ };
 
@@ -41,6 +45,10 @@ pub trait KeyTable {
     fn objects() -> TableObjects
         ensures entry { result.entry.now ≡ entry }
         ensures columns { result.columns.now ≡ columns };
+
+    /// Whether the table has rows at a moment in milliseconds.
+    fn is_open(now: u32) -> bool
+        ensures { result ≡ is_open now };
 
     /// The least index in a part above these numbers. None where there is none above.
     fn index_above(part: &Self::Part, numbers: &Oid) -> Option<Oid>
@@ -83,7 +91,7 @@ impl<T: KeyTable> InnerRows for PartRows<'_, T> {
 
     ghost is_outer = { λ s row. has_part s.parts.now row };
 
-    ghost is_inner = { λ s now row index. is_some (key_in T.key_at (part_in s.parts.now row) index) };
+    ghost is_inner = { λ s now row index. is_some (key_in T.key_at (T.is_open now) (part_in s.parts.now row) index) };
 
     ghost longest = { T.longest };
 
@@ -91,13 +99,16 @@ impl<T: KeyTable> InnerRows for PartRows<'_, T> {
         self.parts.after(row)
     }
 
-    fn inner_after(&self, row: u32, index: &Oid, _now: u32) -> Option<Oid> {
+    fn inner_after(&self, row: u32, index: &Oid, now: u32) -> Option<Oid> {
+        if !T::is_open(now) {
+            return None;
+        }
         T::index_above(self.parts.get(row)?, index)
     }
 
-    ghost not_empty = { λ s now row. no_empty T.key_at T.not_empty (part_in s.parts.now row) };
+    ghost not_empty = { λ s now row. no_empty T.key_at T.not_empty (T.is_open now) (part_in s.parts.now row) };
 
-    ghost of_outer = { λ s now row index none. no_part T.key_at (part_in s.parts.now row) index none };
+    ghost of_outer = { λ s now row index none. no_part T.key_at (T.is_open now) (part_in s.parts.now row) index none };
 
     ghost short = { T.short };
 }
@@ -126,8 +137,8 @@ impl<'a, T: KeyTable> InnerCells<'a> for PartRows<'a, T> {
 
     ghost can_show = { λ s. AreNumbered s.parts.now };
 
-    fn value(&self, at: &Instance, _now: u32) -> Option<Value<'a>> {
-        if at.index.len() == 0 {
+    fn value(&self, at: &Instance, now: u32) -> Option<Value<'a>> {
+        if at.index.len() == 0 || !T::is_open(now) {
             return None;
         }
         let row = at.index.at(0);

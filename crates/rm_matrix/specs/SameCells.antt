@@ -110,15 +110,15 @@ module _ (tables : List (Slot MatrixTable)) (settings : Counting) (journal : Jou
         ∙ found_member pair_eq exact_pair (λ other. bytes_eq (index other) numbers) (held_keys pair_eq settings.pairs (keys (mentions_of settings journal row))) pair e))
 
     of_row : (row : ℕ) (numbers : List ℕ) (column : ℕ) (o : Option MatrixTable) → IsKept matrix_control IsTable settings journal row o
-        → cell_in found kept_value row o numbers column ≡ if_pair row column (pair_at settings journal row index numbers)
+        → cell_in found kept_value true row o numbers column ≡ if_pair row column (pair_at settings journal row index numbers)
     of_row row numbers column None idle =
         sym (ap (λ (mentions : List PairMention). if_pair row column (key_of_index pair_eq settings.pairs mentions index numbers)) (none_at settings journal row idle))
     of_row row numbers column (Some table) is =
         ap (option_map (λ pair. kept_value row table pair column)) (found_is row table is.1 numbers)
         ∙ of_found row table is.1 numbers column (pair_at settings journal row index numbers) refl
 
-    same_pairs : (entry name : List ℕ) → cells_of (parts_table found kept_value entry pair_columns tables) name ≡ cells_of (pair_table settings journal index entry) name
-    same_pairs entry = same_table found kept_value tables (pair_table settings journal index entry) refl (λ row numbers column. of_row row numbers column (part_in tables row) (are row))
+    same_pairs : (entry name : List ℕ) → cells_of (parts_table found kept_value true entry pair_columns tables) name ≡ cells_of (pair_table settings journal index entry) name
+    same_pairs entry = same_table found kept_value true tables (pair_table settings journal index entry) refl (λ row numbers column. of_row row numbers column (part_in tables row) (are row))
 
   same_sources : (name : List ℕ) → cells_of (sources_table tables) name ≡ cells_of (source_table settings journal) name
   same_sources = same_pairs source_index by_source (source_is settings journal) source_entry

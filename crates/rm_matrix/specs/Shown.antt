@@ -1,5 +1,5 @@
 -- What the rows and the pairs that are kept show.
-use Rattle.std.specs.Prelude.{◌≡◌, ℕ, pos, ◌%◌, ◌^◌, List, [], ◌∷◌, nat_eq, if◌then◌else◌, Option, None, option_map, refl}
+use Rattle.std.specs.Prelude.{◌≡◌, ℕ, pos, ◌%◌, ◌^◌, List, [], ◌∷◌, true, nat_eq, if◌then◌else◌, Option, None, option_map, refl}
 use Rattle.std.proofs.Common.{ap}
 use Rattle.std.specs.Option.{option_map_or}
 use Rattle.rm_val.specs.Val.{Val, int, counter, octets}
@@ -53,10 +53,10 @@ by_destination table numbers = option_map reversed (key_with pair_index (reverse
 
 -- matrixSD and matrixDS with these pairs
 abbrev pub sources_table : List (Slot MatrixTable) → Table
-sources_table = parts_table by_source kept_value source_entry pair_columns
+sources_table = parts_table by_source kept_value true source_entry pair_columns
 
 abbrev pub destinations_table : List (Slot MatrixTable) → Table
-destinations_table = parts_table by_destination kept_value destination_entry pair_columns
+destinations_table = parts_table by_destination kept_value true destination_entry pair_columns
 
 -- their cells
 abbrev pub inner_shown : List (Slot MatrixTable) → Cells

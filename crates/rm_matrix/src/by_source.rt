@@ -1,5 +1,5 @@
 // The pairs by their sources and then by their destinations.
-ghost use Rattle.std.specs.Prelude.{◌≡◌, ◌≤◌, refl, drop, IfSome};
+ghost use Rattle.std.specs.Prelude.{◌≡◌, ◌≤◌, refl, drop, IfSome, true};
 ghost use Rattle.std.specs.Option.{option_map};
 ghost use Rattle.rm_val.specs.Val.{val_of};
 ghost use Rattle.rm_val.specs.Spellable.{HasSpelling};
@@ -31,6 +31,8 @@ impl KeyTable for BySource {
 
     ghost key_at = { by_source };
 
+    ghost is_open = { λ now. true };
+
     ghost longest = { 14 };
 
     ghost value_of = { kept_value };
@@ -41,6 +43,10 @@ impl KeyTable for BySource {
 
     fn objects() -> TableObjects {
         SOURCE_OBJECTS
+    }
+
+    fn is_open(_now: u32) -> bool {
+        true
     }
 
     fn index_above(table: &MatrixTable, index: &Oid) -> Option<Oid> {

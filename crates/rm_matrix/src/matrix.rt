@@ -7,7 +7,7 @@ use crate::counted_frame::CountedFrame;
 use crate::matrix_control::{CONTROL_OBJECTS, ControlColumns};
 use crate::matrix_room::MatrixRoom;
 use crate::matrix_table::MatrixTable;
-use rm_collect::{ByFacts, Collected, Collecting, RowColumns};
+use rm_collect::{ByFacts, ByItself, Collected, Collecting, RowColumns, Sampled};
 use rm_group::{Assigns, Passing, TableObjects};
 use rm_keyed::{PartRows, cell_of_two, judge_two, next_of_two, source_value};
 use rm_model::Verdict;
@@ -92,8 +92,8 @@ impl Collected for MatrixTable {
         SOURCE_OBJECTS.entry
     }
 
-    fn samples_inner() -> bool {
-        true
+    fn sampled() -> Sampled {
+        Sampled::AllTables
     }
 
     fn judge_inner<A: Assigns>(set: &A) -> Verdict {
@@ -119,4 +119,10 @@ impl ByFacts for MatrixTable {
     ghost unjudged = { unjudged };
 
     ghost all_within = { all_within };
+}
+
+impl ByItself for MatrixTable {
+    ghost use Rattle.rm_matrix.specs.Lawful.{by_itself};
+
+    ghost by_itself = { by_itself };
 }

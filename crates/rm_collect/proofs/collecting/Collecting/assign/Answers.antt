@@ -4,7 +4,7 @@ use Rattle.rm_status.proofs.Puts.{all_fine}
 use Rattle.rm_collect.specs.Held.{Held}
 use Rattle.rm_collect.specs.Group.{IsPrepared, Stands}
 use Rattle.rm_collect.proofs.InRange.{first_fine, rows_in_range}
-use Rattle.rm_collect.proofs.Assigned.{well_with_set, stands_with_set}
+use Rattle.rm_collect.proofs.Assigned.{well_with_set, begun_with_set}
 use Rattle.rm_collect.proofs.collecting.Collecting.assign.Goals as goal
 
 pub commit-requires : goal.commit-requires
@@ -52,8 +52,8 @@ returns-clause-stocked g c =
     let stocked : 1 ≤ length c.self.inside.parts = subst (λ (held : Held g.row.P-Columns.Denot g.row.P.Denot g.row.P-Shared.Denot). 1 ≤ length held.parts) (sym c.self.view_is) c.requires.stocked in
     c.give_back.ensures.stocked (subst (λ n. 1 ≤ n) (sym c.follow.ensures.size) stocked)
 
-pub returns-clause-stands : goal.returns-clause-stands
-returns-clause-stands g c settings journal values stands reached gives =
+pub returns-clause-begun : goal.returns-clause-begun
+returns-clause-begun g c settings journal values stands reached gives =
     let form = g.P.Columns.ControlRow.form in
     let collection = g.P.Collected.collection in
     let bs = g.A.Assigns.bindings c.args.set.now in
@@ -62,6 +62,6 @@ returns-clause-stands g c settings journal values stands reached gives =
     let ready : IsPrepared form collection old bs = rw c.self.view_is c.requires.ready in
     let later : inside.table.last ≤ c.args.now = subst (λ (held : Held g.row.P-Columns.Denot g.row.P.Denot g.row.P-Shared.Denot). held.last ≤ c.args.now) (sym c.self.view_is) c.requires.later in
     let stood : Stands form collection old settings journal = rw c.self.view_is stands in
-    c.give_back.ensures.stands settings _
-    (stands_with_set form collection g.met.P.Collected.laws old c.self.invariant c.args.now later bs ready.fine c.commit.new.self c.commit.ensures c.follow.new.self c.follow.ensures.of_valid c.follow.ensures.stays c.follow.ensures.begun
+    c.give_back.ensures.begun settings _ journal
+    (begun_with_set form collection g.met.P.Collected.laws old c.self.invariant c.args.now later bs ready.fine c.commit.new.self c.commit.ensures c.follow.new.self c.follow.ensures.of_valid c.follow.ensures.stays c.follow.ensures.begun
     settings journal values c.len.ensures.rows stood reached gives)
