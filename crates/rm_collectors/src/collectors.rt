@@ -14,11 +14,9 @@ use rm_topn::Reports;
 use rm_val::NoMemory;
 use std::alloc::Global;
 
-/// The history, the hosts with their reports, and the matrix.
-pub(crate) type Groups = Both<History, Both<ReportedHosts, Matrix>>;
-
-/// The hosts, and beside them the reports of those that gained most.
-type ReportedHosts = Both<Hosts, Reports>;
+/// The history with the matrix, and the hosts with the reports of those that gained most beside them. Pairs stand in one another no deeper
+/// than they must: each level makes what stands over them longer to prove.
+pub(crate) type Groups = Both<Both<History, Matrix>, Both<Hosts, Reports>>;
 
 /// The control tables whose valid rows collect what frames bring, with what they have collected: those of the history, of the hosts, of
 /// the reports of hosts, and of the matrix (RFC 1757, section 5). It may be asked at a moment where the reports that are due have ended.
@@ -42,13 +40,13 @@ impl Collectors {
         });
         Collectors {
             groups: Both {
-                first: History::new(()),
-                second: Both {
-                    first: Both {
-                        first: hosts,
-                        second: Reports::new(),
-                    },
+                first: Both {
+                    first: History::new(()),
                     second: matrix,
+                },
+                second: Both {
+                    first: hosts,
+                    second: Reports::new(),
                 },
             },
         }
@@ -62,9 +60,9 @@ impl Collectors {
         ensures last { last_given self.new ≡ last_given self.old }
         ensures frames { frames_given self.new ≡ frames_given self.old }
     {
-        self.groups.first.reserve(alloc)?;
-        self.groups.second.first.first.reserve(alloc)?;
-        self.groups.second.first.second.reserve(alloc)?;
+        self.groups.first.first.reserve(alloc)?;
+        self.groups.first.second.reserve(alloc)?;
+        self.groups.second.first.reserve(alloc)?;
         self.groups.second.second.reserve(alloc)
     }
 
@@ -77,7 +75,7 @@ impl Collectors {
         ensures last { last_given self.new ≤ max (last_given self.old) moment }
         ensures frames { frames_given self.new ≡ frames_given self.old }
     {
-        let hosts = &mut self.groups.second.first;
+        let hosts = &mut self.groups.second;
         hosts.second.end_by(&hosts.first, moment);
     }
 }

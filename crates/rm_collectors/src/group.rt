@@ -1,5 +1,4 @@
-// The control tables whose valid rows collect, as one group of objects: what the pair of the history does with the pair of the hosts and
-// the matrix, beside the hosts their reports.
+// The control tables whose valid rows collect, as one group of objects: what the pairs of them do.
 use crate::collectors::{Collectors, Groups};
 use rm_group::{
     Assigns, Commits, Denied, Due, FallsDue, Group, Look, Objects, Passing, Readable, Steps,

@@ -7,7 +7,7 @@ use Rattle.rm_collectors.proofs.collectors.Collectors.new.Goals as goal
 pub returns-clause-stands : goal.returns-clause-stands
 unfolding Stands history_collection host_collection matrix_collection
 returns-clause-stands c counting set = record {
-  first = c.new.ensures.stands counting tt;
-  second = record { first = record { first = c.new-hosts.ensures.stands counting set.hosts; second = c.new-2.ensures.stands counting; tied = tt }; second = c.new-matrix.ensures.stands counting set.pairs; tied = tt };
+  first = record { first = c.new.ensures.stands counting tt; second = c.new-matrix.ensures.stands counting set.pairs; tied = tt };
+  second = record { first = c.new-hosts.ensures.stands counting set.hosts; second = c.new-2.ensures.stands counting; tied = tt };
   tied = tt;
 }
