@@ -27,6 +27,24 @@ put-has q p (Some r ∷ slots) some = ap (λ b. nat_eq q r || b) (put-has q p sl
     swap true false c = refl
     swap false b c = refl
 
+put-within : (q p : ℕ) (slots : Slots) → has_slot q (put_first p slots) ≡ true → (nat_eq q p || has_slot q slots) ≡ true
+put-within q p [] i = absurd (true≢false (sym i))
+put-within q p (None ∷ slots) i = i
+put-within q p (Some r ∷ slots) i = elim (cases_Bool (nat_eq q r)) [ inl y ↦ rw y (last (nat_eq q p)) | inr y ↦ rw y (put-within q p slots (rw y at i)) ]
+  where
+    last : (b : Bool) → (b || true) ≡ true
+    last true = refl
+    last false = refl
+
+put-keeps : (q p : ℕ) (slots : Slots) → has_slot q slots ≡ true → has_slot q (put_first p slots) ≡ true
+put-keeps q p [] i = i
+put-keeps q p (None ∷ slots) i = rw i (last (nat_eq q p))
+  where
+    last : (b : Bool) → (b || true) ≡ true
+    last true = refl
+    last false = refl
+put-keeps q p (Some r ∷ slots) i = elim (cases_Bool (nat_eq q r)) [ inl y ↦ rw y refl | inr y ↦ rw y (put-keeps q p slots (rw y at i)) ]
+
 put-none : (q p : ℕ) (slots : Slots) → nat_eq q p ≡ false → has_slot q slots ≡ false → has_slot q (put_first p slots) ≡ false
 put-none q p [] other off = refl
 put-none q p (None ∷ slots) other off = rw other off
@@ -102,10 +120,10 @@ empty_one slots on p long apart also within here none = elim (cases_Bool (has_em
     also_there false true h = h refl
     also_there false false h = refl
 
--- what is so once the slots that are kept, and so many of the protocols that are on, have their slots
+-- What is so once the slots that are kept, and so many of the protocols that are on, have their slots. There is a slot for each where none is on twice.
 pub record IsSettling (old on : Slots) (at : ℕ) (slots : Slots) : Type 0 where
   pub within : (q : ℕ) → has_slot q slots ≡ true → has_slot q on ≡ true
-  pub done : (q : ℕ) → has_slot q (take at on) ≡ true → has_slot q slots ≡ true
+  pub done : AreApart on → (q : ℕ) → has_slot q (take at on) ≡ true → has_slot q slots ≡ true
   pub stay : (q : ℕ) → has_slot q old ≡ true → has_slot q on ≡ true → has_slot q slots ≡ true
   pub apart : AreApart slots
   pub settled : AreSettled old slots
@@ -154,7 +172,7 @@ kept-size on (slot ∷ old) = ap suc (kept-size on old)
 pub begins : (old on : Slots) → length old ≡ length on → AreApart old → IsSettling old on 0 (map (kept_in on) old)
 begins old on long apart = record {
   within = λ q i. second (has_slot q old) (has_slot q on) (sym (kept-has on q old) ∙ i);
-  done = λ q i. absurd (true≢false (sym i));
+  done = λ also q i. absurd (true≢false (sym i));
   stay = λ q i j. kept-has on q old ∙ rw (i, j) refl;
   apart = kept-apart on old apart;
   settled = kept-settled (λ protocol. has_slot protocol old) on old;
@@ -192,7 +210,7 @@ module _ (old on slots : Slots) (at : ℕ) (so : IsSettling old on at slots) whe
   pub skips : slice_get on at ≡ Some None → IsSettling old on (suc at) slots
   skips here = record {
     within = so.within;
-    done = λ q i. so.done q (sym (last (has_slot q (take at on))) ∙ sym (more-has at q on None here) ∙ i);
+    done = λ also q i. so.done also q (sym (last (has_slot q (take at on))) ∙ sym (more-has at q on None here) ∙ i);
     stay = so.stay;
     apart = so.apart;
     settled = so.settled;
@@ -203,11 +221,11 @@ module _ (old on slots : Slots) (at : ℕ) (so : IsSettling old on at slots) whe
       last true = refl
       last false = refl
 
-  pub places : (p : ℕ) → slice_get on at ≡ Some (Some p) → AreApart on → IsSettling old on (suc at) (placed p slots)
-  places p here also = elim (cases_Bool (has_slot p slots)) [
+  pub places : (p : ℕ) → slice_get on at ≡ Some (Some p) → IsSettling old on (suc at) (placed p slots)
+  places p here = elim (cases_Bool (has_slot p slots)) [
     | inl e ↦ rw e (record {
       within = so.within;
-      done = λ q i. either (has_slot q (take at on)) (nat_eq q p) (sym (more-has at q on (Some p) here) ∙ i) (so.done q) (λ y. ap (λ n. has_slot n slots) (nat_exact.same q p y) ∙ e);
+      done = λ also q i. either (has_slot q (take at on)) (nat_eq q p) (sym (more-has at q on (Some p) here) ∙ i) (so.done also q) (λ y. ap (λ n. has_slot n slots) (nat_exact.same q p y) ∙ e);
       stay = so.stay;
       apart = so.apart;
       settled = so.settled;
@@ -215,11 +233,11 @@ module _ (old on slots : Slots) (at : ℕ) (so : IsSettling old on at slots) whe
     })
     | inr e ↦
         let is_on : has_slot p on ≡ true = there at p on (Some p) here itself in
-        let some : has_empty slots ≡ true = empty_one slots on p so.size so.apart also so.within is_on e in
+        let some : AreApart on → has_empty slots ≡ true = λ also. empty_one slots on p so.size so.apart also so.within is_on e in
         rw e (record {
-          within = λ q i. either (nat_eq q p) (has_slot q slots) (sym (put-has q p slots some) ∙ i) (λ y. ap (λ n. has_slot n on) (nat_exact.same q p y) ∙ is_on) (so.within q);
-          done = λ q i. put-has q p slots some ∙ either (has_slot q (take at on)) (nat_eq q p) (sym (more-has at q on (Some p) here) ∙ i) (λ y. right (nat_eq q p) (so.done q y)) (λ y. rw y refl);
-          stay = λ q i j. put-has q p slots some ∙ right (nat_eq q p) (so.stay q i j);
+          within = λ q i. either (nat_eq q p) (has_slot q slots) (put-within q p slots i) (λ y. ap (λ n. has_slot n on) (nat_exact.same q p y) ∙ is_on) (so.within q);
+          done = λ also q i. put-has q p slots (some also) ∙ either (has_slot q (take at on)) (nat_eq q p) (sym (more-has at q on (Some p) here) ∙ i) (λ y. right (nat_eq q p) (so.done also q y)) (λ y. rw y refl);
+          stay = λ q i j. put-keeps q p slots (so.stay q i j);
           apart = put-apart p slots e so.apart;
           settled = put-settled (λ protocol. has_slot protocol old) p old slots (new is_on e) so.settled;
           size = put-size p slots ∙ so.size;
@@ -241,8 +259,8 @@ module _ (old on slots : Slots) (at : ℕ) (so : IsSettling old on at slots) whe
       new : has_slot p on ≡ true → has_slot p slots ≡ false → has_slot p old ≡ false
       new is_on off = elim (cases_Bool (has_slot p old)) [ inl i ↦ absurd (true≢false (sym (so.stay p i is_on) ∙ off)) | inr o ↦ o ]
 
-pub ends : (old on slots : Slots) (at : ℕ) → IsSettling old on at slots → take at on ≡ on → (q : ℕ) → has_slot q slots ≡ has_slot q on
-ends old on slots at so whole q = both_ways (has_slot q slots) (has_slot q on) (so.within q) (λ i. so.done q (ap (has_slot q) whole ∙ i))
+pub ends : (old on slots : Slots) (at : ℕ) → IsSettling old on at slots → take at on ≡ on → AreApart on → (q : ℕ) → has_slot q slots ≡ has_slot q on
+ends old on slots at so whole also q = both_ways (has_slot q slots) (has_slot q on) (so.within q) (λ i. so.done also q (ap (has_slot q) whole ∙ i))
   where
     both_ways : (a b : Bool) → (a ≡ true → b ≡ true) → (b ≡ true → a ≡ true) → a ≡ b
     both_ways true b to back = sym (to refl)

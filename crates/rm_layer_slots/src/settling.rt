@@ -5,12 +5,11 @@ ghost use Rattle.std.specs.Option.{is_none};
 ghost use Rattle.rm_layers.specs.Applications.{is_in, has_slot, AreApart};
 ghost use Rattle.rm_layer_slots.specs.Settled.{AreSettled, kept_in, placed};
 
-/// The slots of the protocols that are on, by their local indexes, and by the slots that there were: a protocol that is on still stays in
-/// its slot, and each other one gets one that is free. In neither list a protocol has two slots.
+/// The slots of the protocols that are on, by their local indexes, and by the slots that there were, of which no protocol had two: a protocol
+/// that is on still stays in its slot, and each other one gets one that is free.
 pub fn settle(old: &[Option<u32>; 32], on: &[Option<u32>; 32]) -> [Option<u32>; 32]
-    requires old { AreApart old.now }
-    requires on { AreApart on.now }
-    ensures same { (protocol : ℕ) → has_slot protocol result ≡ has_slot protocol on.now }
+    requires { AreApart old.now }
+    ensures same { AreApart on.now → (protocol : ℕ) → has_slot protocol result ≡ has_slot protocol on.now }
     ensures apart { AreApart result }
     ensures settled { AreSettled old.now result }
 {

@@ -3,6 +3,7 @@ pub mod CreditLemmas
 pub mod SeenLemmas
 pub mod SeenTables
 pub mod StandingLemmas
+pub mod SoundLemmas
 pub mod WalkLemmas
 pub mod RowWalk
 pub mod Lasts

@@ -17,7 +17,9 @@ use Rattle.rm_upper.specs.Kept.{NetworkRow}
 use Rattle.rm_upper.specs.Tally.{Tally}
 use Rattle.rm_upper.specs.Shown.{protocols}
 use Rattle.rm_upper.specs.Standing.{Layered, StandsFor}
-use Rattle.rm_upper.specs.Walk.{ShowsApplication}
+use Rattle.rm_upper.specs.Sound.{AreSound}
+use Rattle.rm_upper.specs.Walk.{ShowsApplication, ShowsNetwork}
+use Rattle.rm_upper.proofs.SoundLemmas.{own_row}
 use Rattle.rm_upper.proofs.WalkLemmas.{least-shown}
 use Rattle.rm_upper.proofs.Lasts.{application-lasts, lasts-application, Is, each, is_held_here, found, there}
 
@@ -91,6 +93,18 @@ module _ {K : Type 0} (eq : K → K → Bool) (exact : IsExact eq) where
     | inl y ↦ let is : Some x ≡ Some row = rw y at e in (0, omega arith, cc)
     | inr y ↦ let more = contained k rows row (rw y at e) in (suc more.0, (let lt : more.0 < length rows = more.1 in omega arith), more.2)
   ]
+
+  keyed : {V : Type 0} (k : K) (rows : List (Row K V)) (row : Row K V) → row_of eq k rows ≡ Some row → row.key ≡ k
+  keyed k [] row e = cc
+  keyed k (x ∷ rows) row e = elim (cases_Bool (eq k x.key)) [
+    | inl y ↦ let is : Some x ≡ Some row = rw y at e in let same : x ≡ row = cc in ap (λ (z : Row _ _). z.key) (sym same) ∙ sym (exact.same k x.key y)
+    | inr y ↦ keyed k rows row (rw y at e)
+  ]
+
+  pub network_shown : {N A : Type 0} (layered : Layered K N A) → AreSound eq layered.table.rows → (cmp : K → K → Ordering) (mark : ℕ) (from : Option K) (res : Option (ℕ × K)) → IsNextMark cmp layered.table.rows mark from res → IsNextInstance cmp (ShowsNetwork eq layered) mark (IsAboveName cmp from) res
+  network_shown layered sound cmp mark from res next =
+      mark_instance cmp (ShowsNetwork eq layered) layered.table.rows (λ row c. (row, own_row eq exact layered.table.rows row sound c, refl))
+      (λ k u s. (s.0, contained k layered.table.rows s.0 s.1, keyed k layered.table.rows s.0 s.1, s.2)) mark from res next
 
   module _ {N A : Type 0} (tally : Tally N A) (layered : Layered K N A) (r : List (Event K N)) (tuned : AreTuned (protocols layered.slots) r) (stands : StandsFor tally eq r layered) where
     of_key : (row : Row K (NetworkRow N A)) → Contains layered.table.rows row → NetworkLasts eq layered.table.capacity r row.key row.tick

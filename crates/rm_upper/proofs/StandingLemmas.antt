@@ -6,7 +6,7 @@ use Rattle.std.proofs.lemmas.Bool.Decides.{nat_tests}
 use Rattle.rm_evicting.specs.Held.{IsExact}
 use Rattle.rm_evicting.specs.declared.Row.{Row}
 use Rattle.rm_evicting.specs.Row.{at_first, without_first, holds, is_oldest, room_made, touched, credited}
-use Rattle.rm_evicting.proofs.RowLemmas.{each-push, each-weaker}
+use Rattle.rm_evicting.proofs.RowLemmas.{each-push}
 use Rattle.rm_layers.specs.Event.{Contribution, Event, names, turns, turns_ip, begins, is_ip_on, AreUpTo, AreRising}
 use Rattle.rm_layers.specs.Applications.{Slots, kept_applications, retuned_value}
 use Rattle.rm_layers.specs.Upper.{AreTuned, IsOf, with_value, AreTurnings}

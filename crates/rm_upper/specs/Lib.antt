@@ -2,6 +2,7 @@ pub mod Tally
 pub mod Kept
 pub mod Shown
 pub mod Standing
+pub mod Sound
 pub mod Walk
 pub mod Count
 pub mod Cells

@@ -1,4 +1,4 @@
--- The application rows that a walk finds.
+-- The network and application rows that a walk finds.
 use Rattle.std.specs.Prelude.{◌≡◌, ℕ, ◌≤◌, ◌⊎◌, Bool, true, cond, ◌&&◌, List, [], ◌∷◌, nat_le, nat_lt, Option, Some, None}
 use Rattle.rm_evicting.specs.declared.Row.{Row}
 use Rattle.rm_rows.specs.Table.{row_of}
@@ -46,6 +46,10 @@ best_of mark from (slot ∷ slots) [] best = best
 best_of mark from (slot ∷ slots) (kept ∷ applications) best = best_of mark from slots applications (better from (marked_at mark slot kept) best)
 
 module _ {K N A : Type 0} (eq : K → K → Bool) (layered : Layered K N A) where
+  -- the network row of a key, and the tick of its last contribution
+  abbrev pub ShowsNetwork : K → ℕ → Type 0
+  ShowsNetwork key tick = (row : Row K (NetworkRow N A)) × (row_of eq key layered.table.rows ≡ Some row) × (tick ≡ row.tick)
+
   -- the application row of a key and a protocol, and the tick of its last contribution
   abbrev pub ShowsApplication : K × ℕ → ℕ → Type 0
   ShowsApplication x tick = (row : Row K (NetworkRow N A)) × (row_of eq x.0 layered.table.rows ≡ Some row) × IsShown layered.slots row.value.applications x.1 tick

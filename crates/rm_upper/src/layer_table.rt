@@ -43,6 +43,7 @@ impl<K: Key, N: LayerCounts> LayerTable<K, N> {
         requires some { 1 ≤ capacity }
         requires bound { capacity ≤ 4096 }
         ensures room { IfOk result (λ table. table.layered.table.room ≡ capacity) }
+        ensures slots { IfOk result (λ table. protocols table.layered.slots ≡ replicate 32 None) }
     {
         let rows = NetworkRows::new(alloc, capacity)?;
         Ok(LayerTable {

@@ -29,23 +29,25 @@ pub struct NetworkRows<K: Key, N: LayerCounts> {
 impl<K: Key, N: LayerCounts> Model for NetworkRows<K, N> {
     ghost use Rattle.std.specs.Prelude.{◌<◌};
     ghost use Rattle.rm_upper.specs.Standing.{Layered};
+    ghost use Rattle.rm_upper.specs.Sound.{AreSound};
 
     ghost Value = { Layered K N N.Application };
 
     ghost view = { λ s. record { table = s.rows; slots = s.slots; network_inserts = s.network_inserts; application_inserts = s.application_inserts } };
 
-    ghost invariant = { λ s. 0 < s.rows.capacity };
+    ghost invariant = { λ s. (0 < s.rows.capacity) × AreSound K.eq s.rows.rows };
 }
 
 impl<K: Key, N: LayerCounts> NetworkRows<K, N> {
     ghost use Rattle.rm_upper.specs.Shown.{protocols, Agrees};
     ghost use Rattle.rm_upper.specs.Standing.{StandsFor, referred, slots_after};
-    ghost use Rattle.rm_upper.specs.Walk.{ShowsApplication};
+    ghost use Rattle.rm_upper.specs.Sound.{AreSound};
+    ghost use Rattle.rm_upper.specs.Walk.{ShowsApplication, ShowsNetwork};
     ghost use Rattle.rm_layers.specs.Marks.{IsLeast, StandsAt, IsAboveName, IsAboveApplication, IsNextInstance, ApplicationLasts, NetworkLasts, pair_cmp};
     ghost use Rattle.std.specs.Ordering.{nat_cmp};
     ghost use Rattle.rm_layers.specs.Network.{network_inserts, application_inserts, network_deletes, application_deletes};
     ghost use Rattle.rm_upper.specs.Count.{held_of, held_by_keys};
-    ghost use Rattle.rm_upper.specs.Cells.{network_row, application_row, application_in_row};
+    ghost use Rattle.rm_upper.specs.Cells.{network_row, application_row, network_in, application_in_row};
     ghost use Rattle.rm_rows.specs.Table.{row_of};
 
     /// No rows, no protocol on, and memory for so many network rows. NoMemory where there is none.
@@ -119,6 +121,13 @@ impl<K: Key, N: LayerCounts> NetworkRows<K, N> {
         self.application_inserts = 0;
     }
 
+    /// A law: no key has two rows, and each row has had a contribution, so that it shows something. It does nothing.
+    pub fn are_sound(&self)
+        ensures { AreSound K.eq self.now.table.rows }
+    {
+        let _ = &self.rows;
+    }
+
     // What is kept of the application row of a key and a protocol.
     fn find_application(&self, key: &K, protocol: u32) -> Option<Counted<N::Application>>
         ensures { result ≡ application_in_row self.now.slots protocol (row_of K.eq key.now self.now.table.rows) }
@@ -131,7 +140,8 @@ impl<K: Key, N: LayerCounts> NetworkRows<K, N> {
 
     /// What the network row of a key shows. None where it has none.
     pub fn network(&self, key: &K) -> Option<Counted<N>>
-        ensures { (events : List (Event K N)) → AreTuned (protocols self.now.slots) events → StandsFor N.tally K.eq events self.now
+        ensures kept { result ≡ network_in (row_of K.eq key.now self.now.table.rows) }
+        ensures stands { (events : List (Event K N)) → AreTuned (protocols self.now.slots) events → StandsFor N.tally K.eq events self.now
             → result ≡ network_row N.tally K.eq self.now.table.capacity key.now events }
     {
         self.rows.network(key)
@@ -139,7 +149,8 @@ impl<K: Key, N: LayerCounts> NetworkRows<K, N> {
 
     /// What the application row of a key and a protocol shows. None where there is none.
     pub fn application(&self, key: &K, protocol: u32) -> Option<Counted<N::Application>>
-        ensures { (events : List (Event K N)) → AreTuned (protocols self.now.slots) events → StandsFor N.tally K.eq events self.now
+        ensures kept { result ≡ application_in_row self.now.slots protocol (row_of K.eq key.now self.now.table.rows) }
+        ensures stands { (events : List (Event K N)) → AreTuned (protocols self.now.slots) events → StandsFor N.tally K.eq events self.now
             → result ≡ application_row N.tally K.eq self.now.table.capacity key.now protocol events }
     {
         self.find_application(key, protocol)
@@ -207,7 +218,8 @@ impl<K: Key, N: LayerCounts> NetworkRows<K, N> {
 
     /// The next instance of a network row, by mark and key, above a mark and maybe a key. None where there is none.
     pub fn network_after(&self, mark: u32, from: Option<K>) -> Option<(u32, K)>
-        ensures { (events : List (Event K N)) → AreTuned (protocols self.now.slots) events → StandsFor N.tally K.eq events self.now
+        ensures kept { IsNextInstance K.cmp (ShowsNetwork K.eq self.now) mark (IsAboveName K.cmp from) result }
+        ensures stands { (events : List (Event K N)) → AreTuned (protocols self.now.slots) events → StandsFor N.tally K.eq events self.now
             → IsNextInstance K.cmp (NetworkLasts K.eq self.now.table.capacity events) mark (IsAboveName K.cmp from) result }
     {
         match self.rows.mark_after(mark, from.as_ref()) {
@@ -218,21 +230,24 @@ impl<K: Key, N: LayerCounts> NetworkRows<K, N> {
 
     /// How many network rows were entered since the control row became active.
     pub fn network_inserts(&self) -> u64
-        ensures { (events : List (Event K N)) → StandsFor N.tally K.eq events self.now → result ≡ network_inserts K.eq self.now.table.capacity events }
+        ensures kept { result ≡ self.now.network_inserts }
+        ensures stands { (events : List (Event K N)) → StandsFor N.tally K.eq events self.now → result ≡ network_inserts K.eq self.now.table.capacity events }
     {
         self.network_inserts
     }
 
     /// How many application rows were.
     pub fn application_inserts(&self) -> u64
-        ensures { (events : List (Event K N)) → StandsFor N.tally K.eq events self.now → result ≡ application_inserts K.eq self.now.table.capacity events }
+        ensures kept { result ≡ self.now.application_inserts }
+        ensures stands { (events : List (Event K N)) → StandsFor N.tally K.eq events self.now → result ≡ application_inserts K.eq self.now.table.capacity events }
     {
         self.application_inserts
     }
 
     /// How many of the network rows that were entered are gone.
     pub fn network_deletes(&self) -> u64
-        ensures { (events : List (Event K N)) → StandsFor N.tally K.eq events self.now → result ≡ network_deletes K.eq self.now.table.capacity events }
+        ensures kept { result ≡ self.now.network_inserts - length self.now.table.rows }
+        ensures stands { (events : List (Event K N)) → StandsFor N.tally K.eq events self.now → result ≡ network_deletes K.eq self.now.table.capacity events }
     {
         self.network_inserts.saturating_sub(self.rows.len() as u64)
     }

@@ -5,7 +5,7 @@ use Rattle.rm_layer_slots.proofs.settling.settle.Goals as goal
 use Rattle.rm_layer_slots.proofs.settling.settle.Goals.{in-Some, in_default}
 
 pub loop-slot-init : goal.loop-slot-init
-loop-slot-init c = rw c.kept-slots.ensures (begins c.args.old.now c.args.on.now (c.told-old ∙ sym c.told-on) c.requires.old)
+loop-slot-init c = rw c.kept-slots.ensures (begins c.args.old.now c.args.on.now (c.told-old ∙ sym c.told-on) c.requires)
 
 pub loop-slot-preserved : goal.loop-slot-preserved
 loop-slot-preserved c =
@@ -14,7 +14,7 @@ loop-slot-preserved c =
     let one : suc at ≡ at + 1 = omega arith in
     subst (λ n. IsSettling c.args.old.now c.args.on.now n c.match-on-slot.slots) one
     (elim c.match-on-slot.branch as (λ _. IsSettling c.args.old.now c.args.on.now (suc at) c.match-on-slot.slots) [
-      | in-Some w ↦ rw (w.slots-is, w.place.ensures) (places c.args.old.now c.args.on.now c.loop-slot.slots at c.loop-slot.invariant w.in-Some.protocol (here ∙ ap Some w.in-Some.is) c.requires.on)
+      | in-Some w ↦ rw (w.slots-is, w.place.ensures) (places c.args.old.now c.args.on.now c.loop-slot.slots at c.loop-slot.invariant w.in-Some.protocol (here ∙ ap Some w.in-Some.is))
       | in_default w ↦ rw w.slots-is (skips c.args.old.now c.args.on.now c.loop-slot.slots at c.loop-slot.invariant (here ∙ ap Some w.in_default.is))
     ])
 

@@ -1,4 +1,4 @@
-use Rattle.std.proofs.Common.{◌≡◌, map, sym, ap, ◌∙◌}
+use Rattle.std.proofs.Common.{map, sym, ap, ◌∙◌}
 use Rattle.rm_evicting.specs.Row.{credited}
 use Rattle.rm_rows.specs.Table.{Table}
 use Rattle.rm_upper.specs.Kept.{NetworkRow}

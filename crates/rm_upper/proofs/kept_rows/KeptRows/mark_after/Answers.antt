@@ -1,4 +1,4 @@
-use Rattle.std.proofs.Common.{◌≡◌, subst}
+use Rattle.std.proofs.Common.{subst}
 use Rattle.std.specs.Option.{option_copied}
 use Rattle.rm_rows.specs.Table.{Table, IsNextMark, pair_copied}
 use Rattle.rm_upper.specs.Kept.{NetworkRow}

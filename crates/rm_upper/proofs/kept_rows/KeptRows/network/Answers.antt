@@ -1,4 +1,4 @@
-use Rattle.std.proofs.Common.{◌≡◌, None, sym, ap, ◌∙◌}
+use Rattle.std.proofs.Common.{sym, ap, ◌∙◌}
 use Rattle.rm_rows.specs.Table.{Table, row_of}
 use Rattle.rm_upper.specs.Kept.{NetworkRow}
 use Rattle.rm_upper.specs.Cells.{network_in}

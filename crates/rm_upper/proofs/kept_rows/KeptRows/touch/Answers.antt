@@ -1,4 +1,4 @@
-use Rattle.std.proofs.Common.{◌≡◌, ◌<◌, ◌≤◌, All, map, nat_lt, length, refl, sym, ap, ◌∙◌, subst}
+use Rattle.std.proofs.Common.{◌<◌, ◌≤◌, All, map, nat_lt, length, sym, ap, ◌∙◌, subst}
 use Rattle.std.specs.Prelude.{find}
 use Rattle.rm_evicting.specs.Row.{holds, is_oldest, touched}
 use Rattle.rm_rows.specs.Table.{Table}
