@@ -12,5 +12,3 @@ pub mod Resting
 pub mod Shown
 pub mod ShownLaws
 pub mod Finite
-pub mod Both
-pub mod BothLaws

@@ -1,8 +1,6 @@
-//! The distribution of protocols (RFC 2021, section 6): protocolDistControlTable and protocolDistStatsTable; and, as one group, the directory
-//! of protocols with it.
+//! The distribution of protocols (RFC 2021, section 6): protocolDistControlTable and protocolDistStatsTable.
 #![tactic(auto)]
 
-mod both;
 mod cell;
 mod change;
 mod count;
@@ -10,7 +8,6 @@ mod counts;
 mod distribution;
 mod group;
 mod locals;
-mod protocols;
 mod row;
 mod stats;
 #[cfg(test)]
@@ -19,5 +16,4 @@ mod tests;
 pub use count::Count;
 pub use counts::Counts;
 pub use distribution::Distribution;
-pub use protocols::ProtocolTables;
 pub use row::{DistributionRow, Tally};

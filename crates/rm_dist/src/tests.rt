@@ -3,9 +3,10 @@
 ghost use Rattle.std.specs.Prelude.{IfOk, None};
 ghost use Rattle.rm_val.specs.Spellable.{IsSpellable};
 
-use crate::ProtocolTables;
+use crate::Distribution;
+use rm_dir::Directory;
 use rm_group::{
-    Assignments, Commits, FallsDue, Group, Look, MOST_FRAMES, MOST_OCTETS, Objects, Passing,
+    Assignments, Both, Commits, FallsDue, Group, Look, MOST_FRAMES, MOST_OCTETS, Objects, Passing,
     Readable, Steps,
 };
 use rm_model::{Reading, Verdict};
@@ -14,6 +15,9 @@ use rm_val::{ErrorStatus, Oid, Value};
 use std::alloc::Global;
 use std::process::Abort;
 use std::test::Fail;
+
+/// The directory, and beside it the distribution.
+type ProtocolTables = Both<Directory, Distribution>;
 
 /// A Set of at most four bindings.
 type Set = Assignments<'static, 4>;
@@ -70,7 +74,7 @@ impl Look for Unread {
 
 // Judges a Set at a moment, and does it where nothing is wrong with it. A moment before the last one is a general error.
 fn apply(alloc: Global, protocols: &mut ProtocolTables, set: &Set, now: u32) -> Verdict {
-    if now < protocols.groups.second.last {
+    if now < protocols.second.last {
         return Verdict::Wrong {
             status: ErrorStatus::GenErr,
             index: 0,
@@ -113,12 +117,21 @@ fn datagram(source: u16, dest: u16, moment: u32) -> Passing<'static> {
     }
 }
 
+// The directory and the distribution before the first frame.
+fn before_all() -> ProtocolTables {
+    Both {
+        first: Directory::new(),
+        second: Distribution::new(),
+    }
+}
+
 // A frame passes, where its moment isn't before the last one.
 fn count(protocols: &mut ProtocolTables, passing: &Passing<'_>) {
-    let held = &protocols.groups.second;
+    let held = &mut protocols.second;
     let later = held.last <= passing.moment;
     if later && held.frames < MOST_FRAMES && passing.facts.length <= MOST_OCTETS {
-        protocols.pass(passing);
+        held.frame(&protocols.first, &passing.facts, passing.moment);
+        protocols.first.pass(passing);
     }
 }
 
@@ -149,7 +162,7 @@ fn shown(
 // Each protocol on the path of a good frame is counted, from when the row became active.
 #[test]
 fn frames_are_counted(rt: HostRuntime) -> Result<(), Fail> {
-    let mut protocols = ProtocolTables::new();
+    let mut protocols = before_all();
     count(&mut protocols, &datagram(40000, 161, 500));
     let set = set_of(STATUS, &[1], 4)?;
     assert_eq!(rt;
@@ -161,7 +174,7 @@ fn frames_are_counted(rt: HostRuntime) -> Result<(), Fail> {
     bad.facts.good = false;
     count(&mut protocols, &bad);
     count(&mut protocols, &datagram(7, 8, 2000));
-    protocols.sample_begins(2500);
+    protocols.second.sample_begins(2500);
     for (local, packets) in [
         (1, Some(2)),
         (2, Some(2)),
@@ -180,7 +193,7 @@ fn frames_are_counted(rt: HostRuntime) -> Result<(), Fail> {
 // A protocol that is switched off loses its count, and begins anew.
 #[test]
 fn idle_protocols_lose_counts(rt: HostRuntime) -> Result<(), Fail> {
-    let mut protocols = ProtocolTables::new();
+    let mut protocols = before_all();
     let row = set_of(STATUS, &[1], 4)?;
     assert_eq!(rt;
         apply(rt.alloc(), &mut protocols, &row, 1000),
@@ -211,7 +224,7 @@ fn idle_protocols_lose_counts(rt: HostRuntime) -> Result<(), Fail> {
 // A walk comes from the directory to both tables, the counts in the order of the local indexes.
 #[test]
 fn counts_are_walked(rt: HostRuntime) -> Result<(), Fail> {
-    let mut protocols = ProtocolTables::new();
+    let mut protocols = before_all();
     let row = set_of(STATUS, &[7], 4)?;
     assert_eq!(rt;
         apply(rt.alloc(), &mut protocols, &row, 1000),
@@ -243,7 +256,7 @@ fn counts_are_walked(rt: HostRuntime) -> Result<(), Fail> {
 // What is counted can't be set, and a row has to be there.
 #[test]
 fn sets_are_refused(rt: HostRuntime) -> Result<(), Fail> {
-    let mut protocols = ProtocolTables::new();
+    let mut protocols = before_all();
     let refused = [
         (set_of(PACKETS, &[1, 1], 0)?, ErrorStatus::NotWritable),
         (set_of(STATUS, &[0], 4)?, ErrorStatus::NoCreation),

@@ -1,7 +1,7 @@
 pub mod PathLemmas
-pub mod HostSideLemmas
 pub mod OnLemmas
 pub mod TurnLemmas
-pub mod ShownLemmas
 pub mod PlaceLemmas
+pub mod ReachedLemmas
+pub mod WalkLemmas
 pub mod Examples

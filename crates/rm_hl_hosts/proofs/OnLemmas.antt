@@ -11,7 +11,7 @@ use Rattle.rm_layers.specs.Upper.{AreTuned}
 use Rattle.rm_upper.specs.Standing.{StandsFor}
 use Rattle.rm_layer_hosts.specs.Counts.{host_tally}
 use Rattle.rm_layer_events.specs.Side.{turned, besides}
-use Rattle.rm_layer_events.proofs.SideLemmas.{on_after, set_on, besides_after}
+use Rattle.rm_layer_events.proofs.SideLemmas.{set_on, besides_after}
 use Rattle.rm_layer_slots.specs.declared.slots.TableKind.TheVariants.{Hosts}
 use Rattle.rm_layer_slots.specs.On.{slots_on}
 use Rattle.rm_layer_slots.proofs.OnLemmas.{tuned_after}
@@ -20,16 +20,13 @@ use Rattle.rm_layer_slots.proofs.ApartLemmas.{apart_on}
 use Rattle.rm_hl_hosts.specs.Held.{seen_events}
 use Rattle.rm_hl_hosts.specs.HostSide.{host_side}
 use Rattle.rm_hl_hosts.specs.Standing.{AreOn, HostTable, IsHosts}
-use Rattle.rm_hl_hosts.proofs.HostSideLemmas.{is_host_side}
+use Rattle.rm_hl_hosts.specs.HostSideLaws.{is_host_side}
 
 -- those that are active have their slots
 pub by_slots : (journal : Journal) (slots : List (Option Protocol)) → AreActiveAfter journal slots → HaveSlots slots → AreOn (slots_on Hosts slots) journal
 by_slots journal slots active have = record { on = tuned_after Hosts journal slots active; apart = apart_on Hosts journal slots active.known have.apart }
 
 module _ (settings : Counting) (row : ℕ) where
-  pub tuned_for : (journal : Journal) (slots : Slots) → AreOn slots journal → AreTuned slots (seen_events settings journal row)
-  tuned_for journal slots on = record { tuned = λ p. on.on p ∙ sym (on_after (host_side settings row) (is_host_side settings row) p journal); apart = on.apart }
-
   pub tuned_before : (act : Act) (earlier : Journal) (slots : Slots) → AreOn slots earlier → AreTuned slots (besides (host_side settings row) act earlier)
   tuned_before act earlier slots on = record {
     tuned = λ p. on.on p ∙ sym ((besides_after (host_side settings row) (is_host_side settings row) act earlier).1 p);

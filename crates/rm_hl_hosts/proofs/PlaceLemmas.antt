@@ -1,16 +1,9 @@
 -- The numbers of indexes.
-use Rattle.std.proofs.Common.{◌≡◌, ℕ, Bool, true, false, cond, ◌&&◌, nat_eq, List, [], ◌∷◌, length, drop, Some, None, refl, ap, arith}
-use Rattle.std.specs.Prelude.{slice_index, option_and_then}
+use Rattle.std.proofs.Common.{◌≡◌, ℕ, ◌<◌, Bool, true, false, cond, ◌&&◌, nat_eq, nat_lt, List, [], ◌∷◌, length, drop, Some, None, refl, ap, arith}
+use Rattle.std.specs.Prelude.{slice_index}
 use Rattle.std.proofs.lemmas.Bool.Decides.{nat_tests}
-use Rattle.rm_model.specs.Counting.{Counting}
-use Rattle.rm_model.specs.Journal.{Journal}
-use Rattle.rm_hl_hosts.specs.Held.{has_host, has_application}
-use Rattle.rm_hl_hosts.specs.AlHost.{application_value}
-use Rattle.rm_hl_hosts.specs.Shown.{host_shown, application_shown}
-use Rattle.rm_hl_hosts.specs.declared.places.HostPlace.{HostPlace}
-use Rattle.rm_hl_hosts.specs.declared.places.ApplicationPlace.{ApplicationPlace}
-use Rattle.rm_hl_hosts.specs.NlHost.{ip_local, is_of_host, host_value}
-use Rattle.rm_hl_hosts.specs.Places.{host_place, application_place, host_cell, application_cell}
+use Rattle.rm_hl_hosts.specs.NlHost.{ip_local, is_address, is_of_host}
+use Rattle.rm_hl_hosts.specs.Places.{host_place, application_place}
 
 -- the numbers of a list from a place on
 abbrev from : List ℕ → ℕ → ℕ
@@ -75,36 +68,14 @@ not_nine (n ∷ mark ∷ protocol ∷ count ∷ a ∷ b ∷ c ∷ d ∷ []) othe
 not_nine (n ∷ mark ∷ protocol ∷ count ∷ a ∷ b ∷ c ∷ d ∷ local ∷ []) other = absurd (other (omega arith))
 not_nine (n ∷ mark ∷ protocol ∷ count ∷ a ∷ b ∷ c ∷ d ∷ local ∷ next ∷ more) other = refl
 
--- what the tables show at an index is what they show of what it names
-module _ (settings : Counting) (journal : Journal) (row now : ℕ) where
-  pub host_there : (numbers : List ℕ) (column : ℕ) → option_and_then (λ (place : HostPlace). host_shown settings journal row now place.mark place.address column) (host_place numbers) ≡ host_cell settings journal row now numbers column
-  host_there [] column = refl
-  host_there (mark ∷ []) column = refl
-  host_there (mark ∷ protocol ∷ []) column = refl
-  host_there (mark ∷ protocol ∷ count ∷ address) column = by_test (is_of_host protocol count address)
-    where
-      by_test : (t : Bool)
-          → option_and_then (λ (place : HostPlace). host_shown settings journal row now place.mark place.address column) (cond t (Some (record { mark = mark; address = address })) None)
-          ≡ cond (t && has_host settings journal row now mark address) (Some (host_value settings journal row address column)) None
-      by_test true = refl
-      by_test false = refl
-
-  pub application_there : (numbers : List ℕ) (column : ℕ)
-      → option_and_then (λ (place : ApplicationPlace). application_shown settings journal row now place.host.mark place.host.address place.protocol column) (application_place numbers) ≡ application_cell settings journal row now numbers column
-  application_there [] column = refl
-  application_there (mark ∷ []) column = refl
-  application_there (mark ∷ protocol ∷ []) column = refl
-  application_there (mark ∷ protocol ∷ count ∷ []) column = refl
-  application_there (mark ∷ protocol ∷ count ∷ a ∷ []) column = refl
-  application_there (mark ∷ protocol ∷ count ∷ a ∷ b ∷ []) column = refl
-  application_there (mark ∷ protocol ∷ count ∷ a ∷ b ∷ c ∷ []) column = refl
-  application_there (mark ∷ protocol ∷ count ∷ a ∷ b ∷ c ∷ d ∷ []) column = refl
-  application_there (mark ∷ protocol ∷ count ∷ a ∷ b ∷ c ∷ d ∷ local ∷ next ∷ more) column = refl
-  application_there (mark ∷ protocol ∷ count ∷ a ∷ b ∷ c ∷ d ∷ local ∷ []) column = by_test (is_of_host protocol count (a ∷ b ∷ c ∷ d ∷ []))
-    where
-      by_test : (t : Bool)
-          → option_and_then (λ (place : ApplicationPlace). application_shown settings journal row now place.host.mark place.host.address place.protocol column)
-          (cond t (Some (record { host = record { mark = mark; address = a ∷ b ∷ c ∷ d ∷ [] }; protocol = local })) None)
-          ≡ cond (t && has_application settings journal row now mark (a ∷ b ∷ c ∷ d ∷ []) local) (Some (application_value settings journal row (a ∷ b ∷ c ∷ d ∷ []) local column)) None
-      by_test true = refl
-      by_test false = refl
+-- four octets are an address
+pub four_octets : (numbers : List ℕ) → length numbers ≡ 4 → ((k : ℕ) → slice_index numbers k < 256) → is_address numbers ≡ true
+four_octets (a ∷ b ∷ c ∷ d ∷ []) long octets = rw (octet a (octets 0), octet b (octets 1), octet c (octets 2), octet d (octets 3)) refl
+  where
+    octet : (number : ℕ) → number < 256 → nat_lt number 256 ≡ true
+    octet number lt = grind (arith, nat_tests)
+four_octets [] long octets = absurd (omega (arith, long))
+four_octets (a ∷ []) long octets = absurd (omega (arith, long))
+four_octets (a ∷ b ∷ []) long octets = absurd (omega (arith, long))
+four_octets (a ∷ b ∷ c ∷ []) long octets = absurd (omega (arith, long))
+four_octets (a ∷ b ∷ c ∷ d ∷ e ∷ more) long octets = absurd (omega (arith, long))

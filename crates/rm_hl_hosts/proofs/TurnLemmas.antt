@@ -17,7 +17,7 @@ use Rattle.rm_layer_slots.proofs.SideOn.{change_on}
 use Rattle.rm_hl_hosts.specs.Held.{seen_events}
 use Rattle.rm_hl_hosts.specs.HostSide.{host_side}
 use Rattle.rm_hl_hosts.specs.Standing.{AreOn}
-use Rattle.rm_hl_hosts.proofs.HostSideLemmas.{counts_by, is_host_side}
+use Rattle.rm_hl_hosts.specs.HostSideLaws.{counts_by, is_host_side}
 use Rattle.rm_hl_hosts.proofs.OnLemmas.{tuned_before, tuned_then}
 
 -- what a test of two says

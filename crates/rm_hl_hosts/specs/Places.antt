@@ -1,11 +1,11 @@
 -- The rows of nlHost and alHost by their indexes, behind the number of a control row, and what they show there.
-use Rattle.std.specs.Prelude.{ℕ, List, [], ◌∷◌, if◌then◌else◌, Option, Some, None}
+use Rattle.std.specs.Prelude.{ℕ, List, [], ◌∷◌, ◌++◌, if◌then◌else◌, Option, Some, None}
 use Rattle.rm_val.specs.Val.{Val}
 use Rattle.rm_model.specs.Counting.{Counting}
 use Rattle.rm_model.specs.Journal.{Journal}
 use Rattle.rm_hl_hosts.specs.declared.places.HostPlace.{HostPlace}
 use Rattle.rm_hl_hosts.specs.declared.places.ApplicationPlace.{ApplicationPlace}
-use Rattle.rm_hl_hosts.specs.NlHost.{is_of_host, is_host_index, host_at}
+use Rattle.rm_hl_hosts.specs.NlHost.{ip_local, is_of_host, is_host_index, host_at}
 use Rattle.rm_hl_hosts.specs.AlHost.{is_application_index, application_at}
 
 -- the mark and the address of a host
@@ -20,6 +20,13 @@ application_place (mark ∷ protocol ∷ count ∷ a ∷ b ∷ c ∷ d ∷ local
     then Some (record { host = record { mark = mark; address = a ∷ b ∷ c ∷ d ∷ [] }; protocol = local })
     else None
 application_place numbers = None
+
+-- the index of a host at a mark, and that of a protocol of it
+abbrev pub host_index : (mark : ℕ) → (address : List ℕ) → List ℕ
+host_index mark address = mark ∷ ip_local ∷ 4 ∷ address
+
+abbrev pub application_index : (mark : ℕ) → (address : List ℕ) → (protocol : ℕ) → List ℕ
+application_index mark address protocol = mark ∷ ip_local ∷ 4 ∷ (address ++ protocol ∷ [])
 
 -- what the tables show at such an index, by what they show of a host and of a protocol of it
 module _ (settings : Counting) (journal : Journal) (row now : ℕ) where

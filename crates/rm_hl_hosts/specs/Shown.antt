@@ -1,5 +1,5 @@
 -- What is kept of the hosts of a row shows.
-use Rattle.std.specs.Prelude.{ℕ, ◌%◌, ◌^◌, List, nat_eq, if◌then◌else◌, Option, Some, None}
+use Rattle.std.specs.Prelude.{ℕ, ◌%◌, ◌^◌, List, nat_eq, nat_le, if◌then◌else◌, Option, Some, None}
 use Rattle.rm_val.specs.Val.{Val, gauge, ticks}
 use Rattle.rm_model.specs.Counting.{Counting}
 use Rattle.rm_model.specs.Journal.{Journal}
@@ -18,7 +18,12 @@ host_column host column = if nat_eq column 8 then ticks host.created else gauge 
 abbrev pub application_column : Counted Traffic → (column : ℕ) → Val
 application_column application column = if nat_eq column 6 then ticks application.created else gauge (traffic_in column application.sums % 2 ^ 32)
 
--- the same where there is such a row, and it stands at a mark at a moment in milliseconds
+-- the same where there is such a row, and its last contribution didn't come before a mark
+abbrev pub up_to_tick : {S : Type 0} → (Counted S → (column : ℕ) → Val) → (mark : ℕ) → Option (Counted S) → (column : ℕ) → Option Val
+up_to_tick column_of mark None column = None
+up_to_tick column_of mark (Some counted) column = if nat_le mark counted.tick then Some (column_of counted column) else None
+
+-- and where it stands at a mark at a moment in milliseconds
 module _ {S : Type 0} (column_of : Counted S → (column : ℕ) → Val) (now mark : ℕ) where
   abbrev pub at_mark : Option (Counted S) → (column : ℕ) → Option Val
   at_mark None column = None

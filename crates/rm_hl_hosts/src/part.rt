@@ -1,17 +1,9 @@
 // The hosts of a row, as storage of a pool.
-ghost use Rattle.std.specs.Prelude.{◌≡◌, ◌<◌, ◌≤◌, ◌∷◌, ℕ, true, false};
-ghost use Rattle.rm_val.specs.Val.{int};
-ghost use Rattle.rm_model.specs.Counting.{Counting};
-ghost use Rattle.rm_model.specs.Journal.{Assignments, Journal, assigns};
-ghost use Rattle.rm_layer_slots.specs.On.{is_ip_on};
-ghost use Rattle.rm_layer_slots.specs.declared.slots.TableKind.TheVariants.{Hosts};
+ghost use Rattle.std.specs.Prelude.{◌≡◌};
+ghost use Rattle.rm_layers.specs.Applications.{AreApart};
 ghost use Rattle.rm_upper.specs.Shown.{protocols};
-ghost use Rattle.rm_hl_hosts.specs.Control.{control_set};
-ghost use Rattle.rm_hl_hosts.specs.ControlColumns.{IsInRange, room_of};
-ghost use Rattle.rm_hl_hosts.specs.Held.{is_active};
-ghost use Rattle.rm_hl_hosts.specs.Standing.{AreOn, HasBegun};
+ghost use Rattle.rm_hl_hosts.specs.Apart.{apart_prop};
 
-use crate::row::HostControlRow;
 use rm_layer_hosts::NetworkCounts;
 use rm_pool::Part;
 use rm_upper::LayerTable;
@@ -25,41 +17,24 @@ pub const MOST_HOSTS: u32 = 1024;
 /// becomes active, so that neither a frame nor a Set asks for memory.
 #[derive(Drop)]
 pub struct HostPart {
+    /// The interface whose frames it takes.
+    pub source: u32,
     /// The hosts.
     pub hosts: LayerTable<[u8; 4], NetworkCounts>,
+    // The local indexes of the protocols above ip that are on, each in the slot that its rows have.
+    pub(crate) slots: [Option<u32>; 32],
     ghost room: { hosts.layered.table.room ≡ 1024 },
+    ghost tuned: { protocols hosts.layered.slots ≡ slots },
+    ghost apart: { AreApart slots } by { apart_prop slots },
 }
 
 impl Part for HostPart {
     fn spare(alloc: Global) -> Result<Self, NoMemory> {
         let hosts = LayerTable::new(alloc, MOST_HOSTS as usize)?;
-        Ok(HostPart { hosts })
-    }
-}
-
-impl HostPart {
-    /// Begins anew, as a row with these columns becomes active: with no host, and with ip and the protocols above it as they are before what
-    /// the Set turns. `upper` is how many hosts the probe has each row hold at most.
-    pub fn begin(
-        &mut self,
-        columns: &HostControlRow,
-        upper: u32,
-        slots: &[Option<u32>; 32],
-        on: bool,
-    )
-        requires some { 0 < upper }
-        requires most { upper ≤ 1024 }
-        requires in_range { IsInRange columns.now }
-        ensures on { self.new.hosts.on ≡ on }
-        ensures slots { protocols self.new.hosts.layered.slots ≡ slots.now }
-        ensures next { self.new.hosts.next ≡ 0 }
-        ensures latest { self.new.hosts.latest ≡ 0 }
-        ensures begun { (settings : Counting) (row moment : ℕ) (values : Assignments) (earlier : Journal) → upper ≡ settings.upper
-            → int columns.now.network ≡ control_set (assigns moment values ∷ earlier) row 6 → int columns.now.application ≡ control_set (assigns moment values ∷ earlier) row 10
-            → is_active settings earlier row ≡ false → is_active settings (assigns moment values ∷ earlier) row ≡ true
-            → on ≡ is_ip_on Hosts earlier → AreOn slots.now earlier → HasBegun settings (assigns moment values) earlier row self.new.hosts }
-    {
-        let room = columns.room(upper);
-        self.hosts.begin(room as usize, slots, on);
+        Ok(HostPart {
+            source: 0,
+            hosts,
+            slots: [None; 32],
+        })
     }
 }

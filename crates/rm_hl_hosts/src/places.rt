@@ -1,15 +1,15 @@
 // The rows of nlHost and alHost by their indexes.
-ghost use Rattle.std.specs.Prelude.{◌≡◌, ◌≤◌, ◌∷◌, [], length, drop, slice_index, nat_lt, if◌then◌else◌, Some, None};
+ghost use Rattle.std.specs.Prelude.{◌≡◌, ◌≤◌, ◌∷◌, [], true, length, drop, slice_index, nat_lt, if◌then◌else◌, Some, None};
 ghost use Rattle.rm_hl_hosts.specs.NlHost.{is_address};
 ghost use Rattle.rm_hl_hosts.specs.Places.{host_place, application_place};
 
 use rm_val::Oid;
 
 /// The local index of ip.
-const IP_LOCAL: u32 = 2;
+pub(crate) const IP_LOCAL: u32 = 2;
 
 /// How many octets an address has, as the count before them says.
-const ADDRESS_OCTETS: u32 = 4;
+pub(crate) const ADDRESS_OCTETS: u32 = 4;
 
 /// A host at a mark.
 #[derive(Clone, Copy, PartialEq, Eq, Debug)]
@@ -20,6 +20,21 @@ pub struct HostPlace {
     pub address: [u8; 4],
 }
 
+impl HostPlace {
+    ghost use Rattle.rm_hl_hosts.specs.Places.{host_index};
+
+    /// Its index in nlHost, behind the number of a control row.
+    pub fn index(&self) -> Oid
+        ensures { result ≡ host_index self.now.mark self.now.address }
+    {
+        let mut index = Oid::new();
+        index.push(self.mark).unwrap();
+        index.push(IP_LOCAL).unwrap();
+        index.put_counted(&self.address).unwrap();
+        index
+    }
+}
+
 /// A protocol of a host at a mark.
 #[derive(Clone, Copy, PartialEq, Eq, Debug)]
 pub struct ApplicationPlace {
@@ -27,6 +42,19 @@ pub struct ApplicationPlace {
     pub host: HostPlace,
     /// The local index of the protocol.
     pub protocol: u32,
+}
+
+impl ApplicationPlace {
+    ghost use Rattle.rm_hl_hosts.specs.Places.{application_index};
+
+    /// Its index in alHost, behind the number of a control row.
+    pub fn index(&self) -> Oid
+        ensures { result ≡ application_index self.now.host.mark self.now.host.address self.now.protocol }
+    {
+        let mut index = self.host.index();
+        index.push(self.protocol).unwrap();
+        index
+    }
 }
 
 /// The host that an index of nlHost names behind its first number, which is that of a control row. None where it can be none's.
@@ -51,6 +79,14 @@ pub fn application_place(index: &Oid) -> Option<ApplicationPlace>
         host,
         protocol: index.at(8),
     })
+}
+
+/// A law: four octets are an address. It does nothing.
+pub(crate) fn are_octets(address: &[u8])
+    requires { length address.now ≡ 4 }
+    ensures { is_address address.now ≡ true }
+{
+    let _first = address[0];
 }
 
 // The host that the eight first numbers of an index name.

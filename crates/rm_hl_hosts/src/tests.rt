@@ -1,17 +1,20 @@
 // What a manager sees of the hosts of a row, worked out from frames. They have 60 octets without the check sequence.
 ghost use Rattle.std.specs.Prelude.{◌≡◌, ◌+◌, ◌<◌, ◌≤◌, ◌^◌};
 
-use crate::{
-    HostControlRow, HostPart, application_value, control_counter, host_value, is_ip_on,
-    locals_above_ip, protocols_on, take_frame, turn,
-};
+use crate::by_application::ByApplication;
+use crate::by_host::ByHost;
+use crate::frames::take_frame;
+use crate::shown::control_counter;
+use crate::{HostControlRow, HostPart, HostShared, locals_above_ip};
+use rm_collect::Turned;
 use rm_columns::ControlRow;
 use rm_dir::Directory;
+use rm_keyed::KeyTable;
 use rm_layer_hosts::NetworkCounts;
 use rm_pool::Part;
 use rm_proto::{Cast, Facts, IpPair, Ports};
 use rm_upper::LayerTable;
-use rm_val::Value;
+use rm_val::{Oid, Value};
 use std::test::*;
 
 const UDP: u32 = 6;
@@ -52,6 +55,7 @@ fn pass(hosts: &mut LayerTable<[u8; 4], NetworkCounts>, n: u64, tick: u32, facts
     ensures next { hosts.new.next ≤ n + n + 2 }
     ensures latest { hosts.new.latest ≤ tick }
     ensures room { hosts.new.layered.table.room ≡ hosts.old.layered.table.room }
+    ensures slots { hosts.new.layered.slots ≡ hosts.old.layered.slots }
 {
     let path = locals_above_ip(&Directory::new(), facts);
     take_frame(hosts, 1, facts, path.as_slice(), n + n, tick);
@@ -65,40 +69,71 @@ fn number_of(value: Option<Value<'_>>) -> Option<u32> {
     }
 }
 
+// What a column of a table shows at an index of a row, at a moment. None while the table has no rows, and where it has no such row.
+fn shown<T: KeyTable<Part = HostPart>>(
+    part: &HostPart,
+    now: u32,
+    index: &[u32],
+    column: u32,
+) -> Result<Option<u32>, Fail> {
+    let index = Oid::from_slice(index)?;
+    if T::is_open(now) {
+        Ok(number_of(T::value(1, part, &index, column)))
+    } else {
+        Ok(None)
+    }
+}
+
+// What a column of nlHost shows of the host with that last octet at a mark.
+fn host_value(
+    part: &HostPart,
+    now: u32,
+    mark: u32,
+    last: u32,
+    column: u32,
+) -> Result<Option<u32>, Fail> {
+    shown::<ByHost>(part, now, &[1, mark, 2, 4, 10, 0, 0, last], column)
+}
+
+// And one of alHost of a protocol of it.
+fn application_value(
+    part: &HostPart,
+    now: u32,
+    mark: u32,
+    last: u32,
+    protocol: u32,
+    column: u32,
+) -> Result<Option<u32>, Fail> {
+    let index = [1, mark, 2, 4, 10, 0, 0, last, protocol];
+    shown::<ByApplication>(part, now, &index, column)
+}
+
+// The hosts share what is on by the directory.
+fn shared(directory: &Directory) -> HostShared {
+    HostShared::by(directory, 1024)
+}
+
 // Two frames of three hosts, of which the row has room for two: the second evicts the host that was named least recently.
 #[test]
 fn hosts_give_way(rt: HostRuntime) -> Result<(), Fail> {
     let mut part = HostPart::spare(rt.alloc())?;
     let mut columns = HostControlRow::blank(1);
     columns.network = 2;
-    part.begin(&columns, 1024, &protocols_on(&Directory::new()), true);
+    part.restart(&columns, &shared(&Directory::new()));
     pass(&mut part.hosts, 0, 100, &query(1, 2));
     pass(&mut part.hosts, 1, 150, &query(1, 3));
-    let hosts = &part.hosts;
-    assert_eq!(rt; number_of(host_value(hosts, 2000, 0, &host(1), 4)), Some(2));
-    assert_eq!(rt;
-        number_of(host_value(hosts, 2000, 150, &host(1), 6)),
-        Some(128)
-    );
-    assert_eq!(rt; number_of(host_value(hosts, 2000, 151, &host(1), 4)), None);
-    assert_eq!(rt; number_of(host_value(hosts, 2000, 0, &host(2), 3)), None);
-    assert_eq!(rt; number_of(host_value(hosts, 9, 0, &host(3), 3)), None);
-    assert_eq!(rt;
-        number_of(host_value(hosts, 2000, 0, &host(1), 8)),
-        Some(100)
-    );
-    assert_eq!(rt;
-        number_of(application_value(hosts, 2000, 0, &host(3), DOMAIN, 2)),
-        Some(1)
-    );
-    assert_eq!(rt;
-        number_of(application_value(hosts, 2000, 0, &host(3), DOMAIN, 6)),
-        Some(150)
-    );
-    assert_eq!(rt; control_counter(hosts, 4), 3);
-    assert_eq!(rt; control_counter(hosts, 5), 1);
-    assert_eq!(rt; control_counter(hosts, 8), 6);
-    assert_eq!(rt; control_counter(hosts, 9), 2);
+    assert_eq!(rt; host_value(&part, 2000, 0, 1, 4)?, Some(2));
+    assert_eq!(rt; host_value(&part, 2000, 150, 1, 6)?, Some(128));
+    assert_eq!(rt; host_value(&part, 2000, 151, 1, 4)?, None);
+    assert_eq!(rt; host_value(&part, 2000, 0, 2, 3)?, None);
+    assert_eq!(rt; host_value(&part, 9, 0, 3, 3)?, None);
+    assert_eq!(rt; host_value(&part, 2000, 0, 1, 8)?, Some(100));
+    assert_eq!(rt; application_value(&part, 2000, 0, 3, DOMAIN, 2)?, Some(1));
+    assert_eq!(rt; application_value(&part, 2000, 0, 3, DOMAIN, 6)?, Some(150));
+    assert_eq!(rt; control_counter(&part.hosts, 4), 3);
+    assert_eq!(rt; control_counter(&part.hosts, 5), 1);
+    assert_eq!(rt; control_counter(&part.hosts, 8), 6);
+    assert_eq!(rt; control_counter(&part.hosts, 9), 2);
     Ok(())
 }
 
@@ -107,27 +142,21 @@ fn hosts_give_way(rt: HostRuntime) -> Result<(), Fail> {
 fn ip_is_turned(rt: HostRuntime) -> Result<(), Fail> {
     let mut part = HostPart::spare(rt.alloc())?;
     let directory = Directory::new();
-    let slots = protocols_on(&directory);
-    part.begin(
-        &HostControlRow::blank(1),
-        1024,
-        &slots,
-        is_ip_on(&directory),
-    );
+    let mut shared = shared(&directory);
+    part.restart(&HostControlRow::blank(1), &shared);
     pass(&mut part.hosts, 0, 100, &query(1, 2));
-    turn(&mut part.hosts, false, &slots, 2);
+    shared.on = false;
+    part.turn(&shared, 1);
     assert_eq!(rt; control_counter(&part.hosts, 5), 2);
-    turn(&mut part.hosts, true, &[None; 32], 2);
+    shared.on = true;
+    shared.slots = [None; 32];
+    part.turn(&shared, 1);
     let mut bad = query(1, 2);
     bad.good = false;
     pass(&mut part.hosts, 1, 200, &bad);
     pass(&mut part.hosts, 2, 300, &query(1, 2));
-    let hosts = &part.hosts;
-    assert_eq!(rt; number_of(host_value(hosts, 4000, 0, &host(2), 3)), Some(1));
-    assert_eq!(rt;
-        number_of(application_value(hosts, 4000, 0, &host(2), UDP, 2)),
-        None
-    );
-    assert_eq!(rt; control_counter(hosts, 4), 4);
+    assert_eq!(rt; host_value(&part, 4000, 0, 2, 3)?, Some(1));
+    assert_eq!(rt; application_value(&part, 4000, 0, 2, UDP, 2)?, None);
+    assert_eq!(rt; control_counter(&part.hosts, 4), 4);
     Ok(())
 }

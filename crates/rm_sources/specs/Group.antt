@@ -1,7 +1,7 @@
 -- The groups whose variables alarms may sample, as one group: etherStats and the tables that collect what frames bring, the directory of protocols
--- with their distribution, and the filters, channels and buffers. Where more than one had a variable of a name, or found something wrong with a
+-- with what counts by it, and the filters, channels and buffers. Where more than one had a variable of a name, or found something wrong with a
 -- binding, the first one's would count.
-use Rattle.std.specs.Prelude.{ℕ, List, ◌∷◌, Bool, ◌||◌, ◌⊎◌, max, Option}
+use Rattle.std.specs.Prelude.{◌≡◌, ℕ, List, ◌∷◌, Bool, ◌||◌, ◌⊎◌, max, Option}
 use Rattle.std.specs.Option.{option_or}
 use Rattle.rm_val.specs.Val.{Val}
 use Rattle.rm_val.specs.declared.error.ErrorStatus.{ErrorStatus}
@@ -16,11 +16,17 @@ use Rattle.rm_group.specs.Listed.{is_listed, is_settable}
 use Rattle.rm_ether.specs.EtherStats.{ether_stats, ether_beginning, ether_table}
 use Rattle.rm_ether.specs.Group.{Stands as EtherStands, AreFine as IsEtherFine, frames_given as ether_frames, last_given as ether_last, ether_tables, ether_alone}
 use Rattle.rm_ether.specs.Shown.{rows_table}
-use Rattle.rm_collectors.specs.Group.{Stands as CollectorsStand, IsAskable as AreCollectorsAskable, IsStocked as AreCollectorsStocked, AreFine as AreCollectorsFine, ArePrepared as AreCollectorsPrepared, AreReleased as AreCollectorsReleased, FallsDue as ReportsFallDue, left_of as reports_left, frames_given as collectors_frames, last_given as collectors_last, shown as collectors_shown, collected_cells, collected_objects, collected_settable, collected_alone, collected_together, CollectedReserves}
+use Rattle.rm_settings.specs.declared.settings.Settings.{Settings}
+use Rattle.rm_collectors.specs.Group.{Stands as CollectorsStand, IsSetTo as AreCollectorsSetTo, IsAskable as AreCollectorsAskable, IsStocked as AreCollectorsStocked, AreFine as AreCollectorsFine, ArePrepared as AreCollectorsPrepared, AreReleased as AreCollectorsReleased, FallsDue as ReportsFallDue, left_of as reports_left, frames_given as collectors_frames, last_given as collectors_last, shown as collectors_shown, collected_cells, collected_objects, collected_settable, collected_alone, collected_together, CollectedReserves}
 use Rattle.rm_collectors.specs.declared.collectors.Collectors.{Collectors}
-use Rattle.rm_dist.specs.Both.{Stands as ProtocolsStand, AreFine as AreProtocolsFine, frames_given as protocols_frames, last_given as protocols_last, shown as protocols_shown, protocol_cells, distributed_cells, protocol_objects, protocol_settable, protocol_alone, protocol_together}
+use Rattle.rm_protocols.specs.Group.{Stands as ProtocolsStand, AreFine as AreProtocolsFine, ArePrepared as AreProtocolsPrepared, IsStocked as AreProtocolsStocked, AreReleased as AreProtocolsReleased, frames_given as protocols_frames, last_given as protocols_last, shown as protocols_shown, protocol_cells, distributed_cells, protocol_objects, protocol_settable, protocol_alone, protocol_together, ProtocolReserves}
 use Rattle.rm_channels.specs.Group.{Stands as ChannelsStand, IsUnderWay as ChannelsUnderWay, IsStocked as AreChannelsStocked, AreFine as AreChannelsFine, ArePrepared as AreChannelsPrepared, AreReleased as AreChannelsReleased, frames_given as channels_frames, last_given as channels_last, shown as channels_shown, channel_cells, channel_sampleable, channel_objects, channel_settable, channel_alone, channel_together, ChannelReserves}
 use Rattle.rm_sources.specs.declared.sources.Sources.{Sources}
+
+-- the probe was set so, as the model's settings have it
+pub record IsSetTo (settings : Settings) (counting : Counting) : Type 0 where
+  pub collectors : AreCollectorsSetTo settings counting
+  pub upper : counting.upper ≡ settings.upper
 
 -- the history, the hosts with their reports, and the matrix
 abbrev pub collectors_of : Sources → Collectors
@@ -43,7 +49,7 @@ pub record IsUnderWay (held : Sources) (settings : Counting) (act : Act) (earlie
 
 -- it may be asked at a moment where the reports of hosts that are due have ended, and the others may always be asked
 abbrev pub IsAskable : Sources → (moment : ℕ) → Type 0
-IsAskable held moment = (Unit {0} × AreCollectorsAskable (collectors_of held) moment) × ((Unit {0} × Unit {0}) × (Unit {0} × Unit {0}))
+IsAskable held moment = (Unit {0} × AreCollectorsAskable (collectors_of held) moment) × (((Unit {0} × Unit {0}) × Unit {0}) × (Unit {0} × Unit {0}))
 
 -- What falls due is the end of a report of hosts that runs, and so many are left that end up to a moment.
 abbrev pub FallsDue : Sources → Due → Type 0
@@ -63,13 +69,13 @@ last_given held =
 
 -- there is the storage of one row of each table whose rows take storage, whether it is spare or not
 abbrev pub IsStocked : Sources → Type 0
-IsStocked held = (Unit {0} × AreCollectorsStocked (collectors_of held)) × (Unit {0} × AreChannelsStocked held.groups.second.second)
+IsStocked held = (Unit {0} × AreCollectorsStocked (collectors_of held)) × (AreProtocolsStocked held.groups.second.first × AreChannelsStocked held.groups.second.second)
 
 -- the cells of all tables
 unfoldable pub source_cells : Counting → Journal → (now : ℕ) → Cells
 source_cells settings journal now name =
     option_or (option_or (cells_of (ether_table settings journal) name) (collected_cells settings journal now name))
-    (option_or (protocol_cells settings journal name) (channel_cells settings journal now name))
+    (option_or (protocol_cells settings journal now name) (channel_cells settings journal now name))
 
 -- Those that alarms may sample, after a journal and by what is held: of the directory none, and of filters, channels and buffers those of
 -- channelTable and bufferControlTable.
@@ -102,7 +108,7 @@ source_together settings journal bindings place =
 
 -- After a journal there may be no memory for the row that the binding with that number, from 1, makes valid.
 unfoldable pub SourceReserves : Journal → Bindings → (index : ℕ) → Type 0
-SourceReserves journal bindings index = (⊥ ⊎ CollectedReserves journal bindings index) ⊎ (⊥ ⊎ ChannelReserves journal bindings index)
+SourceReserves journal bindings index = (⊥ ⊎ CollectedReserves journal bindings index) ⊎ (ProtocolReserves journal bindings index ⊎ ChannelReserves journal bindings index)
 
 -- both passes find nothing wrong with a Set, by the rows that are held; there is storage for each row that is valid after it, too; there is
 -- storage for the valid rows only, or for one row of each table where none is valid
@@ -114,7 +120,7 @@ AreFine held bindings =
 abbrev pub ArePrepared : Sources → Bindings → Type 0
 ArePrepared held bindings =
     (IsEtherFine held.groups.first.first bindings × AreCollectorsPrepared (collectors_of held) bindings)
-    × (AreProtocolsFine held.groups.second.first bindings × AreChannelsPrepared held.groups.second.second bindings)
+    × (AreProtocolsPrepared held.groups.second.first bindings × AreChannelsPrepared held.groups.second.second bindings)
 
 abbrev pub AreReleased : Sources → Type 0
-AreReleased held = (Unit {0} × AreCollectorsReleased (collectors_of held)) × (Unit {0} × AreChannelsReleased held.groups.second.second)
+AreReleased held = (Unit {0} × AreCollectorsReleased (collectors_of held)) × (AreProtocolsReleased held.groups.second.first × AreChannelsReleased held.groups.second.second)

@@ -18,8 +18,8 @@ use Rattle.rm_ether.specs.FiniteLaws.{ether_finite}
 use Rattle.rm_ether.specs.Group.{ether_tables, ether_alone}
 use Rattle.rm_collectors.specs.Group.{collected_cells, collected_objects, collected_settable, collected_alone}
 use Rattle.rm_collectors.specs.Laws.{all_asked as collectors_asked, all_finite as collected_finite, all_listed as collected_listed, all_recurring as collected_recurring, all_refused as collected_refused}
-use Rattle.rm_dist.specs.Both.{protocol_cells, distributed_cells, protocol_objects, protocol_settable, protocol_alone}
-use Rattle.rm_dist.specs.BothLaws.{all_finite as protocols_finite, all_listed as protocols_listed, all_recurring as protocols_recurring, all_refused as protocols_refused}
+use Rattle.rm_protocols.specs.Group.{protocol_cells, distributed_cells, protocol_objects, protocol_settable, protocol_alone}
+use Rattle.rm_protocols.specs.Laws.{all_finite as protocols_finite, all_listed as protocols_listed, all_recurring as protocols_recurring, all_refused as protocols_refused}
 use Rattle.rm_channels.specs.Group.{channel_cells, channel_sampleable, channel_objects, channel_settable, channel_alone}
 use Rattle.rm_channels.specs.Laws.{all_finite as channels_finite, all_listed as channels_listed, all_recurring as channels_recurring, all_refused as channels_refused}
 use Rattle.rm_sources.specs.Group.{IsAskable, FallsDue, collectors_of, source_cells, sampled_cells, source_objects, source_settable, source_alone}
@@ -30,7 +30,7 @@ abbrev counted_cells : Counting → Journal → (now : ℕ) → Cells
 counted_cells settings journal now name = option_or (cells_of (ether_table settings journal) name) (collected_cells settings journal now name)
 
 abbrev classified_cells : Counting → Journal → (now : ℕ) → Cells
-classified_cells settings journal now name = option_or (protocol_cells settings journal name) (channel_cells settings journal now name)
+classified_cells settings journal now name = option_or (protocol_cells settings journal now name) (channel_cells settings journal now name)
 
 abbrev counted_objects : List ℕ → Bool
 counted_objects name = is_listed ether_tables name || collected_objects name
@@ -56,7 +56,7 @@ unfolding source_cells
 all_finite settings journal now =
     both_finite (counted_cells settings journal now) (classified_cells settings journal now)
     (both_finite (cells_of (ether_table settings journal)) (collected_cells settings journal now) (ether_finite settings journal) (collected_finite settings journal now))
-    (both_finite (protocol_cells settings journal) (channel_cells settings journal now) (protocols_finite settings journal) (channels_finite settings journal now))
+    (both_finite (protocol_cells settings journal now) (channel_cells settings journal now) (protocols_finite settings journal now) (channels_finite settings journal now))
 
 -- those that alarms may sample depend on what alarms read after earlier acts only
 pub all_recurring : ReadBefore sampled_cells
@@ -73,8 +73,8 @@ all_listed settings journal now =
     both_of_objects counted_objects classified_objects (counted_cells settings journal now) (classified_cells settings journal now)
     (both_of_objects (is_listed ether_tables) collected_objects (cells_of (ether_table settings journal)) (collected_cells settings journal now)
     (of_table (ether_table settings journal)) (collected_listed settings journal now))
-    (both_of_objects protocol_objects channel_objects (protocol_cells settings journal) (channel_cells settings journal now)
-    (protocols_listed settings journal) (channels_listed settings journal now))
+    (both_of_objects protocol_objects channel_objects (protocol_cells settings journal now) (channel_cells settings journal now)
+    (protocols_listed settings journal now) (channels_listed settings journal now))
 
 -- an object that can't be set is notWritable
 pub all_refused : AreRefused source_objects source_settable source_alone
@@ -89,4 +89,4 @@ all_refused =
 pub all_asked : (held : Sources) (moment : ℕ) → IsAskable held moment ↔ HaveEnded (FallsDue held) moment
 all_asked held moment =
     let asked = collectors_asked (collectors_of held) moment in
-    (λ may. asked.0 may.0.1, λ ended. ((tt, asked.1 ended), ((tt, tt), (tt, tt))))
+    (λ may. asked.0 may.0.1, λ ended. ((tt, asked.1 ended), (((tt, tt), tt), (tt, tt))))

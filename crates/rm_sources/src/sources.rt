@@ -8,16 +8,15 @@ ghost use Rattle.rm_acts.specs.declared.firing.Firing.{Firing as Fires};
 ghost use Rattle.rm_topn.specs.Due.{HasEnded};
 ghost use Rattle.rm_filter.specs.Judging.{AreAccepting};
 ghost use Rattle.rm_capture.specs.declared.buffer_row.TheConstants.{MOST_SLICE};
-ghost use Rattle.rm_collectors.specs.Group.{IsSetTo};
-ghost use Rattle.rm_sources.specs.Group.{Stands, IsAskable, IsStocked, IsUnderWay, FallsDue, collectors_of, frames_given, last_given, left_of};
+ghost use Rattle.rm_sources.specs.Group.{Stands, IsSetTo, IsAskable, IsStocked, IsUnderWay, FallsDue, collectors_of, frames_given, last_given, left_of};
 
 use rm_acts::Firing;
 use rm_channels::Channels;
 use rm_collectors::Collectors;
-use rm_dist::ProtocolTables;
 use rm_ether::Ether;
 use rm_filter::Accepted;
 use rm_group::{Both, Passing, Steps, sample_begins};
+use rm_protocols::ProtocolTables;
 use rm_settings::Settings;
 use rm_val::NoMemory;
 use std::alloc::Global;
@@ -26,7 +25,7 @@ use std::alloc::Global;
 pub(crate) type Groups = Both<Both<Ether, Collectors>, Both<ProtocolTables, Channels>>;
 
 /// The groups whose variables alarms may sample: etherStats, the tables whose valid rows collect what frames bring, the directory of
-/// protocols with their distribution, and the filters, channels and capture buffers. They may be asked at a moment where the reports of
+/// protocols with what counts by it, and the filters, channels and capture buffers. They may be asked at a moment where the reports of
 /// hosts that are due have ended.
 ///
 /// A frame passes (`pass`), its events are then fired in the order of the channels that ask for them (`accepting`), and each firing turns
@@ -51,7 +50,7 @@ impl Sources {
                     second: Collectors::new(settings),
                 },
                 second: Both {
-                    first: ProtocolTables::new(),
+                    first: ProtocolTables::new(settings),
                     second: Channels::new(),
                 },
             },
@@ -67,6 +66,7 @@ impl Sources {
         ensures frames { frames_given self.new ≡ frames_given self.old }
     {
         self.groups.first.second.reserve(alloc)?;
+        self.groups.second.first.reserve(alloc)?;
         self.groups.second.second.reserve(alloc)
     }
 

@@ -5,9 +5,10 @@ use Rattle.rm_layers.specs.Event.{Contribution}
 use Rattle.rm_layer_hosts.specs.declared.counts.NetworkCounts.{NetworkCounts}
 use Rattle.rm_upper.specs.Shown.{protocols, Agrees}
 use Rattle.rm_hl_hosts.specs.HostSide.{ends_named, host_side, locals_above_ip}
-use Rattle.rm_hl_hosts.proofs.HostSideLemmas.{is_host_side, ends_of, none_of}
+use Rattle.rm_hl_hosts.specs.HostSideLaws.{is_host_side, ends_of, none_of}
 use Rattle.rm_hl_hosts.proofs.PathLemmas.{on_path}
-use Rattle.rm_hl_hosts.proofs.OnLemmas.{passed_on, tuned_for}
+use Rattle.rm_hl_hosts.proofs.OnLemmas.{passed_on}
+use Rattle.rm_hl_hosts.specs.Tuned.{tuned_for}
 use Rattle.rm_hl_hosts.proofs.frames.take_frame.Goals as goal
 use Rattle.rm_hl_hosts.proofs.frames.take_frame.Goals.{then-not-facts-via-then-not-facts, then-not-facts-via-else-not-facts+then-source-facts}
 

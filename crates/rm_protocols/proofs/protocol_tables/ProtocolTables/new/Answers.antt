@@ -1,0 +1,12 @@
+use Rattle.std.proofs.Common.{[]}
+use Rattle.rm_hl_hosts.specs.Collection.{host_collection}
+use Rattle.rm_protocols.specs.Group.{Stands}
+use Rattle.rm_protocols.proofs.protocol_tables.ProtocolTables.new.Goals as goal
+
+pub returns-clause-stands : goal.returns-clause-stands
+unfolding Stands host_collection
+returns-clause-stands c settings set = record {
+  first = record { first = c.new-directory.ensures; second = c.new.ensures.stands settings; tied = tt };
+  second = c.new-collecting.ensures.stands settings (c.by-shared.ensures settings [] set c.new-directory.ensures);
+  tied = tt;
+}

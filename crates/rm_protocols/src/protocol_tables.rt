@@ -1,0 +1,75 @@
+// The directory of protocols, and the tables that count by it.
+ghost use Rattle.std.specs.Prelude.{◌≡◌, ◌≤◌, [], ◌∷◌, ℕ, ℤ, Option, OnOk};
+ghost use Rattle.rm_model.specs.Counting.{Counting};
+ghost use Rattle.rm_model.specs.Journal.{Journal, last_moment, samples};
+ghost use Rattle.rm_protocols.specs.Group.{Stands, IsStocked, frames_given, last_given};
+
+use rm_collect::{Collecting, CollectingBeside};
+use rm_dir::Directory;
+use rm_dist::Distribution;
+use rm_group::{Both, sample_begins};
+use rm_hl_hosts::{HostPart, HostShared};
+use rm_settings::Settings;
+use rm_val::NoMemory;
+use std::alloc::Global;
+
+/// The directory, and beside it the distribution; and beside both the hosts of the network and application layer.
+pub(crate) type Groups = Both<Distributed, CollectingBeside<HostPart>>;
+
+/// The directory, and beside it the distribution.
+type Distributed = Both<Directory, Distribution>;
+
+/// The directory of the protocols that the probe knows, and what counts by it (RFC 2021, section 6): protocolDirTable with
+/// protocolDirLastChange; protocolDistControlTable with protocolDistStatsTable; hlHostControlTable with nlHostTable and alHostTable. A frame
+/// counts by the protocols that are active in the directory when it passes, and on for hosts.
+#[derive(Drop)]
+pub struct ProtocolTables {
+    pub(crate) groups: Groups,
+}
+
+impl ProtocolTables {
+    /// The tables of a probe that is set so, before the first frame: the built-in rows of the directory, and no row of the others. They have
+    /// no storage.
+    #[tactic(auto, unfolding(crate::specs::Group::Stands))]
+    pub fn new(settings: &Settings) -> ProtocolTables
+        ensures stands { (counting : Counting) → counting.upper ≡ settings.now.upper → Stands result counting [] }
+        ensures frames { frames_given result ≡ 0 }
+        ensures last { last_given result ≡ 0 }
+    {
+        let directory = Directory::new();
+        let shared = HostShared::by(&directory, settings.upper);
+        let collecting = Collecting::new(shared);
+        ProtocolTables {
+            groups: Both {
+                first: Both {
+                    first: directory,
+                    second: Distribution::new(),
+                },
+                second: CollectingBeside { collecting },
+            },
+        }
+    }
+
+    /// Takes the storage of one row of hlHostControl, which is needed before the first Set. No variable changes. NoMemory where there is
+    /// none.
+    pub fn reserve(&mut self, alloc: Global) -> Result<(), NoMemory>
+        ensures stands { (settings : Counting) (journal : Journal) → Stands self.old settings journal → Stands self.new settings journal }
+        ensures stocked { OnOk result (IsStocked self.new) }
+        ensures frames { frames_given self.new ≡ frames_given self.old }
+        ensures last { last_given self.new ≡ last_given self.old }
+    {
+        self.groups.second.collecting.reserve(alloc)
+    }
+
+    /// A law: the sample of an alarm at a moment in milliseconds, which isn't below that of the last act, makes no difference to the tables. It
+    /// does nothing.
+    pub fn sample_begins(&self, moment: u32)
+        ensures { (settings : Counting) (earlier : Journal) (alarm : ℕ) (reading : Option ℤ) → Stands self.now settings earlier
+            → last_moment earlier ≤ moment → Stands self.now settings (samples moment alarm reading ∷ earlier) }
+    {
+        let distributed = &self.groups.first;
+        sample_begins(&distributed.first, moment);
+        distributed.second.sample_begins(moment);
+        self.groups.second.collecting.sample_begins(moment);
+    }
+}
