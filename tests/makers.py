@@ -147,6 +147,9 @@ TABLES = {
     "protocolDir": (RMON + (11, 2, 1), 10, 10),
     "protocolDistControl": (RMON + (12, 1, 1), 6, 6),
     "protocolDistStats": (RMON + (12, 2, 1), 2, None),
+    "hlHostControl": (RMON + (14, 1, 1), 12, 12),
+    "nlHost": (RMON + (14, 2, 1), 8, None),
+    "alHost": (RMON + (16, 1, 1), 6, None),
 }
 PORT_8080 = (16, 0, 0, 0, 1, 0, 0, 8, 0, 0, 0, 0, 6, 0, 0, 31, 144, 4, 0, 0, 0, 0)
 CREATE_AND_GO = 4
@@ -188,7 +191,8 @@ def set_up(interval):
     made = [setting(status_of(it, rows[it], CREATE_REQUEST) + given(it, rows[it], columns[it])) for it in columns]
     made += [setting(status_of(it, rows[it], VALID)) for it in columns]
     directory = [(TABLES["protocolDir"][0] + (10,) + PORT_8080, integer(CREATE_AND_GO))]
-    return made + [setting(status_of("protocolDistControl", 1, CREATE_AND_GO)), setting(directory)]
+    layered = [setting(status_of(it, 1, CREATE_AND_GO)) for it in ("protocolDistControl", "hlHostControl")]
+    return made + layered + [setting(directory)]
 
 
 def walks():
@@ -199,6 +203,12 @@ def walks():
 ROW_NUMBERS = (1, 1, 1, 2, 2, 3, 16, 17, 0, 65_535, 65_536, 2**31, 2**32 - 1)
 
 
+def host_index(chosen):
+    """The index of a host of good_frame, or of a protocol of it, or the front of one."""
+    index = (1, chosen.choice((0, 1, 100, 101, 200, 2**32 - 1)), 2, 4, 10, 0, 0, chosen.randrange(9), chosen.choice((5, 6, 10, 15)))
+    return index[: chosen.choice((8, 8, 9, 9, chosen.randint(0, 9)))]
+
+
 def random_name(chosen):
     if chosen.random() < 0.1:
         return chosen.choice(((1, 3), (0, 0), (2, 2**32 - 81), RMON, INTERFACE, (1, 3, 6, 1, 2, 1, 1, 1, 0), (1, 3, 6, 1, 2, 1, 1, 3, 0)))
@@ -206,6 +216,8 @@ def random_name(chosen):
     numbers = entry + (chosen.randint(0, columns + 1),)
     if entry == TABLES["protocolDir"][0] and chosen.random() < 0.7:
         return numbers + PORT_8080
+    if entry in (TABLES["nlHost"][0], TABLES["alHost"][0]) and chosen.random() < 0.7:
+        return numbers + host_index(chosen)
     return numbers + tuple(chosen.choice(ROW_NUMBERS) for _ in range(chosen.choice((1, 1, 1, 1, 0, 2, 3, 8))))
 
 
