@@ -1,9 +1,9 @@
 """Writes a capture to standard output: so many records, so many milliseconds apart.
 
-    make_capture.py RECORDS APART [mixed]
+    make_capture.py RECORDS APART [mixed | datagrams]
 
 Each is one frame of 60 octets. With `mixed` the frames have 60 to 1514 octets and go to and fro among 64 hosts, the same ones
-each time.
+each time. With `datagrams` each is a datagram of UDP over IPv4 to the port of DNS, among 2048 addresses, the same ones each time.
 """
 
 import random
@@ -20,11 +20,16 @@ FILE_HEADER = struct.pack("<IHHiIII", 0xA1B2C3D4, 2, 4, 0, 0, 262_144, 1)
 # The EtherType for local experiments.
 TYPE = bytes.fromhex("88b5")
 
+# That of IPv4, and the addresses 10.0.0.1 and so on.
+IPV4 = bytes.fromhex("0800")
+NETWORK = 10 << 24
+ADDRESSES = 2048
 
-def frame(dest, source, octets):
-    """A frame from one host to another, with an empty payload."""
+
+def frame(dest, source, octets, kind=TYPE, payload=b""):
+    """A frame from one host to another, with an empty payload if none is given."""
     addresses = b"".join(bytes.fromhex("02") + host.to_bytes(5, "big") for host in (dest, source))
-    return (addresses + TYPE).ljust(octets, b"\0")
+    return (addresses + kind + payload).ljust(octets, b"\0")
 
 
 def mixed_frames():
@@ -33,6 +38,15 @@ def mixed_frames():
     while True:
         dest, source = chosen.sample(range(1, HOSTS + 1), 2)
         yield frame(dest, source, chosen.randint(LEAST, GREATEST))
+
+
+def datagrams():
+    """Datagrams of UDP among many addresses, the same ones each time."""
+    chosen = random.Random(1)
+    while True:
+        dest, source = chosen.sample(range(1, ADDRESSES + 1), 2)
+        header = struct.pack(">BBHHHBBHII", 0x45, 0, 46, 0, 0, 64, 17, 0, NETWORK + source, NETWORK + dest)
+        yield frame(dest, source, LEAST, IPV4, header + struct.pack(">HHHH", 40000, 53, 26, 0))
 
 
 def small_frames():
@@ -49,7 +63,7 @@ def packed_record(milliseconds, octets):
 
 def main():
     records, apart = map(int, sys.argv[1:3])
-    frames = mixed_frames() if sys.argv[3:] == ["mixed"] else small_frames()
+    frames = {"mixed": mixed_frames, "datagrams": datagrams}.get("".join(sys.argv[3:]), small_frames)()
     out = sys.stdout.buffer
     out.write(FILE_HEADER)
     for number in range(records):

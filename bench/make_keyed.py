@@ -2,8 +2,8 @@
 
     make_keyed.py ROWS TABLE..
 
-A table is `hosts` (hostControl), `matrix` (matrixControl) or `reports` (hostTopNControl, whose rows report the hosts of row 1 that sent
-most octets in REPORT seconds).
+A table is `hosts` (hostControl), `matrix` (matrixControl), `layers` (hlHostControl) or `reports` (hostTopNControl, whose rows report the hosts
+of row 1 that sent most octets in REPORT seconds).
 """
 
 import sys
@@ -11,11 +11,17 @@ import sys
 from make_requests import CREATE_REQUEST, RMON, ROWS, VALID, integer, set_status, setting
 
 MOMENT = 0
+CREATE_AND_GO = 4
 REPORT = 600
 OUT_OCTETS = 4
 
 # The entry of each table with the columns of its owner and of its status.
-TABLES = {"hosts": (RMON + (4, 1, 1), 5, 6), "matrix": (RMON + (6, 1, 1), 5, 6), "reports": (RMON + (5, 1, 1), 9, 10)}
+TABLES = {
+    "hosts": (RMON + (4, 1, 1), 5, 6),
+    "matrix": (RMON + (6, 1, 1), 5, 6),
+    "reports": (RMON + (5, 1, 1), 9, 10),
+    "layers": (RMON + (14, 1, 1), 11, 12),
+}
 
 # What the rows of a table are given before they become valid, by the numbers of the columns: hostTopNHostIndex, RateBase and
 # TimeRemaining.
@@ -25,6 +31,8 @@ GIVEN = {"reports": {2: 1, 3: OUT_OCTETS, 4: REPORT}}
 def made_valid(word, row):
     """The SetRequests that make a row of a table valid."""
     table = TABLES[word]
+    if word == "layers":
+        return [set_status(table, row, CREATE_AND_GO)]
     given = [(table[0] + (column, row), integer(number)) for column, number in GIVEN.get(word, {}).items()]
     return [set_status(table, row, CREATE_REQUEST)] + ([setting(given)] if given else []) + [set_status(table, row, VALID)]
 

@@ -17,7 +17,7 @@ use std::process::Abort;
 use std::test::Fail;
 
 /// The directory, and beside it the distribution.
-type ProtocolTables = Both<Directory, Distribution>;
+type Distributed = Both<Directory, Distribution>;
 
 /// A Set of at most four bindings.
 type Set = Assignments<'static, 4>;
@@ -73,7 +73,7 @@ impl Look for Unread {
 }
 
 // Judges a Set at a moment, and does it where nothing is wrong with it. A moment before the last one is a general error.
-fn apply(alloc: Global, protocols: &mut ProtocolTables, set: &Set, now: u32) -> Verdict {
+fn apply(alloc: Global, protocols: &mut Distributed, set: &Set, now: u32) -> Verdict {
     if now < protocols.second.last {
         return Verdict::Wrong {
             status: ErrorStatus::GenErr,
@@ -118,7 +118,7 @@ fn datagram(source: u16, dest: u16, moment: u32) -> Passing<'static> {
 }
 
 // The directory and the distribution before the first frame.
-fn before_all() -> ProtocolTables {
+fn before_all() -> Distributed {
     Both {
         first: Directory::new(),
         second: Distribution::new(),
@@ -126,7 +126,7 @@ fn before_all() -> ProtocolTables {
 }
 
 // A frame passes, where its moment isn't before the last one.
-fn count(protocols: &mut ProtocolTables, passing: &Passing<'_>) {
+fn count(protocols: &mut Distributed, passing: &Passing<'_>) {
     let held = &mut protocols.second;
     let later = held.last <= passing.moment;
     if later && held.frames < MOST_FRAMES && passing.facts.length <= MOST_OCTETS {
@@ -145,14 +145,14 @@ fn number_of(value: Option<Value<'_>>) -> Option<u32> {
 
 // What a cell shows at a moment, also to an alarm.
 fn shown(
-    protocols: &ProtocolTables,
+    protocols: &Distributed,
     column: &[u32],
     index: &[u32],
     now: u32,
 ) -> Result<Option<u32>, Fail> {
     let name = name_of(column, index)?;
     let number = number_of(protocols.cell(&name, now));
-    if number == number_of(protocols.value(&name, now)) && ProtocolTables::has_object(&name) {
+    if number == number_of(protocols.value(&name, now)) && Distributed::has_object(&name) {
         Ok(number)
     } else {
         Ok(None)

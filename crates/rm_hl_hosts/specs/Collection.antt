@@ -28,7 +28,8 @@ use Rattle.rm_hl_hosts.specs.HostSide.{locals_above_ip}
 use Rattle.rm_hl_hosts.specs.Standing.{AreOn, IsHosts, HasBegun}
 use Rattle.rm_hl_hosts.specs.HostCells.{host_cells}
 use Rattle.rm_hl_hosts.specs.ControlColumns.{IsInRange}
-use Rattle.rm_hl_hosts.specs.Kept.{is_up, host_with, application_with, kept_host_value, kept_application_value, kept_counter}
+use Rattle.rm_hl_hosts.specs.Held.{is_up}
+use Rattle.rm_hl_hosts.specs.Kept.{host_with, application_with, kept_host_value, kept_application_value, kept_counter}
 use Rattle.rm_hl_hosts.specs.declared.row.HostControlRow.{HostControlRow}
 use Rattle.rm_hl_hosts.specs.declared.part.HostPart.{HostPart}
 use Rattle.rm_hl_hosts.specs.declared.shared.HostShared.{HostShared}

@@ -13,9 +13,13 @@ use Rattle.rm_layer_events.specs.Side.{events}
 use Rattle.rm_hl_hosts.specs.Control.{control_state, room_for}
 use Rattle.rm_hl_hosts.specs.HostSide.{host_side}
 
--- A row whose last contribution came at a tick stands at each mark up to it (TimeFilter), once sysUpTime isn't 0 any more.
+-- the tables have rows once sysUpTime isn't 0 any more (RFC 2021, TimeFilter)
+abbrev pub is_up : (now : ℕ) → Bool
+is_up now = nat_lt 0 (now / 10)
+
+-- A row whose last contribution came at a tick stands then at each mark up to it.
 abbrev pub stands_at : (now mark last : ℕ) → Bool
-stands_at now mark last = nat_lt 0 (now / 10) && nat_le mark last
+stands_at now mark last = is_up now && nat_le mark last
 
 -- what contributions add up to
 abbrev pub sum_of : (NetworkCounts → ℕ) → List (Contribution NetworkCounts) → ℕ

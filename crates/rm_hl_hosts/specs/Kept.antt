@@ -1,5 +1,5 @@
 -- What is kept of the hosts of a row, by the indexes of nlHost and alHost behind the number of a control row.
-use Rattle.std.specs.Prelude.{ℕ, ◌-◌, ◌/◌, List, length, Bool, false, nat_eq, nat_le, nat_lt, if◌then◌else◌, Option, Some, None}
+use Rattle.std.specs.Prelude.{ℕ, ◌-◌, List, length, Bool, false, nat_eq, nat_le, if◌then◌else◌, Option, Some, None}
 use Rattle.std.specs.Option.{option_map_or}
 use Rattle.std.specs.Str.{bytes_eq}
 use Rattle.rm_val.specs.Val.{Val, null}
@@ -15,10 +15,6 @@ use Rattle.rm_hl_hosts.specs.declared.places.ApplicationPlace.{ApplicationPlace}
 use Rattle.rm_hl_hosts.specs.Places.{host_place, application_place}
 use Rattle.rm_hl_hosts.specs.Shown.{host_column, application_column}
 use Rattle.rm_hl_hosts.specs.Standing.{HostTable}
-
--- the tables have rows once sysUpTime isn't 0 any more (RFC 2021, TimeFilter)
-abbrev pub is_up : (now : ℕ) → Bool
-is_up now = nat_lt 0 (now / 10)
 
 -- what a host has counted, and a protocol of it
 abbrev pub host_counted : HostPart → (address : List ℕ) → Option (Counted NetworkCounts)

@@ -33,14 +33,14 @@ use Rattle.rm_upper.proofs.CellLemmas.{network-is, application-is}
 use Rattle.rm_hl_hosts.specs.Columns.{control_columns}
 use Rattle.rm_hl_hosts.specs.Control.{hl_host_control}
 use Rattle.rm_hl_hosts.specs.ControlColumns.{set_to, control_rows}
-use Rattle.rm_hl_hosts.specs.Held.{is_active, seen_events, room}
+use Rattle.rm_hl_hosts.specs.Held.{is_active, seen_events, room, is_up}
 use Rattle.rm_hl_hosts.specs.HlHostControl.{counter_of, control_other, control_table}
 use Rattle.rm_hl_hosts.specs.NlHost.{network_table}
 use Rattle.rm_hl_hosts.specs.AlHost.{application_table}
 use Rattle.rm_hl_hosts.specs.HostCells.{host_cells}
 use Rattle.rm_hl_hosts.specs.Shown.{host_column, application_column, at_mark, host_shown, application_shown}
 use Rattle.rm_hl_hosts.specs.Places.{host_place, application_place, host_cell, application_cell}
-use Rattle.rm_hl_hosts.specs.Kept.{is_up, host_counted, application_counted, lasts_to, host_at_place, application_at_place, host_with, application_with, kept_host_value, kept_application_value, kept_counter}
+use Rattle.rm_hl_hosts.specs.Kept.{host_counted, application_counted, lasts_to, host_at_place, application_at_place, host_with, application_with, kept_host_value, kept_application_value, kept_counter}
 use Rattle.rm_hl_hosts.specs.Collection.{IsPart, kept_other, networks_table, applications_table, host_collection}
 use Rattle.rm_hl_hosts.specs.CounterLaws.{counter_is}
 use Rattle.rm_hl_hosts.specs.Exact.{exact}

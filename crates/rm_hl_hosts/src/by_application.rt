@@ -3,7 +3,8 @@ ghost use Rattle.std.specs.Prelude.{refl};
 ghost use Rattle.std.proofs.Common.{rules};
 ghost use Rattle.rm_hl_hosts.specs.AlHost.{application_entry};
 ghost use Rattle.rm_hl_hosts.specs.Columns.{application_columns};
-ghost use Rattle.rm_hl_hosts.specs.Kept.{application_with, is_up, kept_application_value};
+ghost use Rattle.rm_hl_hosts.specs.Held.{is_up};
+ghost use Rattle.rm_hl_hosts.specs.Kept.{application_with, kept_application_value};
 
 use crate::part::HostPart;
 use crate::places::{ApplicationPlace, HostPlace, application_place, are_octets};

@@ -2,7 +2,8 @@
 ghost use Rattle.std.specs.Prelude.{refl};
 ghost use Rattle.std.proofs.Common.{rules};
 ghost use Rattle.rm_hl_hosts.specs.Columns.{network_columns};
-ghost use Rattle.rm_hl_hosts.specs.Kept.{host_with, is_up, kept_host_value};
+ghost use Rattle.rm_hl_hosts.specs.Held.{is_up};
+ghost use Rattle.rm_hl_hosts.specs.Kept.{host_with, kept_host_value};
 ghost use Rattle.rm_hl_hosts.specs.NlHost.{network_entry};
 
 use crate::part::HostPart;

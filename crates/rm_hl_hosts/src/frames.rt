@@ -17,7 +17,7 @@ use rm_upper::LayerTable;
 /// Takes a frame for a row of hlHostControl whose data source is the interface with a number. It counts where it is good, of that interface,
 /// and has IPv4 addresses. `path` has the local indexes of the protocols above ip on its path. The hosts then stand for the journal with that
 /// frame.
-pub fn take_frame(
+pub(crate) fn take_frame(
     hosts: &mut LayerTable<[u8; 4], NetworkCounts>,
     source: u32,
     facts: &Facts,

@@ -21,6 +21,6 @@ mod tests;
 mod turning;
 
 pub use locals::locals_above_ip;
-pub use part::{HostPart, MOST_HOSTS};
+pub use part::HostPart;
 pub use row::HostControlRow;
 pub use shared::HostShared;

@@ -14,7 +14,7 @@ use rm_path::ProtocolIdentifier;
 const IP: u16 = 0x0800;
 
 /// Whether ip is on for tables of hosts (RFC 2021, protocolDirHostConfig).
-pub fn is_ip_on(directory: &Directory) -> bool
+pub(crate) fn is_ip_on(directory: &Directory) -> bool
     ensures { (journal : Journal) → IsDirectory directory.now journal → result ≡ is_ip_on Hosts journal }
 {
     match directory.protocol(ProtocolIdentifier::Ether(IP)) {
@@ -24,7 +24,7 @@ pub fn is_ip_on(directory: &Directory) -> bool
 }
 
 /// The local indexes of the protocols above ip that are on for tables of hosts, each in a slot.
-pub fn protocols_on(directory: &Directory) -> [Option<u32>; 32]
+pub(crate) fn protocols_on(directory: &Directory) -> [Option<u32>; 32]
     ensures { (journal : Journal) → IsDirectory directory.now journal → AreOn result journal }
 {
     let protocols = directory.protocols();

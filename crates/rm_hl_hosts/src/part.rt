@@ -11,16 +11,16 @@ use rm_val::NoMemory;
 use std::alloc::Global;
 
 /// How many hosts a row has room for at most, whatever the probe was set to.
-pub const MOST_HOSTS: u32 = 1024;
+pub(crate) const MOST_HOSTS: u32 = 1024;
 
-/// The hosts that a row of hlHostControl has, in a part of a pool: storage for as many as any row has room for. It is taken before the row
-/// becomes active, so that neither a frame nor a Set asks for memory.
+/// The hosts that a row of hlHostControl has, in a part of a pool: storage for as many as any row has room for. It is taken as the Set that
+/// makes the row active is made ready for, so that neither a frame nor the doing of a Set asks for memory.
 #[derive(Drop)]
 pub struct HostPart {
     /// The interface whose frames it takes.
-    pub source: u32,
+    pub(crate) source: u32,
     /// The hosts.
-    pub hosts: LayerTable<[u8; 4], NetworkCounts>,
+    pub(crate) hosts: LayerTable<[u8; 4], NetworkCounts>,
     // The local indexes of the protocols above ip that are on, each in the slot that its rows have.
     pub(crate) slots: [Option<u32>; 32],
     ghost room: { hosts.layered.table.room ≡ 1024 },

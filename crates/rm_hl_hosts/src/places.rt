@@ -13,7 +13,7 @@ pub(crate) const ADDRESS_OCTETS: u32 = 4;
 
 /// A host at a mark.
 #[derive(Clone, Copy, PartialEq, Eq, Debug)]
-pub struct HostPlace {
+pub(crate) struct HostPlace {
     /// The mark.
     pub mark: u32,
     /// The address of the host.
@@ -24,7 +24,7 @@ impl HostPlace {
     ghost use Rattle.rm_hl_hosts.specs.Places.{host_index};
 
     /// Its index in nlHost, behind the number of a control row.
-    pub fn index(&self) -> Oid
+    pub(crate) fn index(&self) -> Oid
         ensures { result ≡ host_index self.now.mark self.now.address }
     {
         let mut index = Oid::new();
@@ -37,7 +37,7 @@ impl HostPlace {
 
 /// A protocol of a host at a mark.
 #[derive(Clone, Copy, PartialEq, Eq, Debug)]
-pub struct ApplicationPlace {
+pub(crate) struct ApplicationPlace {
     /// The host and the mark.
     pub host: HostPlace,
     /// The local index of the protocol.
@@ -48,7 +48,7 @@ impl ApplicationPlace {
     ghost use Rattle.rm_hl_hosts.specs.Places.{application_index};
 
     /// Its index in alHost, behind the number of a control row.
-    pub fn index(&self) -> Oid
+    pub(crate) fn index(&self) -> Oid
         ensures { result ≡ application_index self.now.host.mark self.now.host.address self.now.protocol }
     {
         let mut index = self.host.index();
@@ -58,7 +58,7 @@ impl ApplicationPlace {
 }
 
 /// The host that an index of nlHost names behind its first number, which is that of a control row. None where it can be none's.
-pub fn host_place(index: &Oid) -> Option<HostPlace>
+pub(crate) fn host_place(index: &Oid) -> Option<HostPlace>
     ensures { result ≡ host_place (drop 1 index.now) }
 {
     if index.len() != 8 {
@@ -68,7 +68,7 @@ pub fn host_place(index: &Oid) -> Option<HostPlace>
 }
 
 /// The protocol of a host that an index of alHost names behind its first number. None where it can be none's.
-pub fn application_place(index: &Oid) -> Option<ApplicationPlace>
+pub(crate) fn application_place(index: &Oid) -> Option<ApplicationPlace>
     ensures { result ≡ application_place (drop 1 index.now) }
 {
     if index.len() != 9 {

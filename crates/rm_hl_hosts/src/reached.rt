@@ -47,6 +47,17 @@ pub(crate) fn walk_place(numbers: &Oid) -> WalkPlace
     }
 }
 
+// The number at a place. None where there is none.
+fn number_at(numbers: &Oid, place: usize) -> Option<u32>
+    ensures { result ≡ slice_get numbers.now place }
+{
+    if place < numbers.len() {
+        Some(numbers.at(place))
+    } else {
+        None
+    }
+}
+
 // The greatest address whose numbers, behind a mark, aren't above these. None where there is none.
 fn address_reached(numbers: &Oid) -> Option<Reached>
     ensures { result ≡ address_reached numbers.now }
@@ -58,17 +69,6 @@ fn address_reached(numbers: &Oid) -> Option<Reached>
     let first = octet_reached(number_at(numbers, 3), 0, second);
     let counted = number_reached(number_at(numbers, 2), ADDRESS_OCTETS, first);
     number_reached(number_at(numbers, 1), IP_LOCAL, counted)
-}
-
-// The number at a place. None where there is none.
-fn number_at(numbers: &Oid, place: usize) -> Option<u32>
-    ensures { result ≡ slice_get numbers.now place }
-{
-    if place < numbers.len() {
-        Some(numbers.at(place))
-    } else {
-        None
-    }
 }
 
 // The same from a place in the address on, by the number there and by what is reached from the next place on.

@@ -17,7 +17,7 @@ use rm_layer_slots::settle;
 impl HostPart {
     /// Begins anew, as a row with these columns becomes active: with no host, and with ip and the protocols above it as they are before what
     /// the Set turns.
-    pub fn restart(&mut self, columns: &HostControlRow, shared: &HostShared)
+    pub(crate) fn restart(&mut self, columns: &HostControlRow, shared: &HostShared)
         requires in_range { IsInRange columns.now }
         ensures source { self.new.source ≡ columns.now.source }
         ensures next { self.new.hosts.next ≡ 0 }

@@ -97,7 +97,7 @@ impl HostControlRow {
     /// How many network rows the row has room for, where storage is reserved for so many: the least of that number, of
     /// hlHostControlNlMaxDesiredEntries, and of hlHostControlAlMaxDesiredEntries divided by the 32 application rows that a network row has
     /// room for.
-    pub fn room(&self, upper: u32) -> u32
+    pub(crate) fn room(&self, upper: u32) -> u32
         ensures value { result ≡ room_of upper self.now }
         ensures within { result ≤ upper }
         ensures some { 0 < upper → IsInRange self.now → 0 < result }

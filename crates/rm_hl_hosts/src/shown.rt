@@ -5,7 +5,8 @@ ghost use Rattle.rm_val.specs.Val.{Val, val_of};
 ghost use Rattle.rm_val.specs.Spellable.{HasSpelling};
 ghost use Rattle.rm_upper.specs.declared.counts.Counted.{Counted};
 ghost use Rattle.rm_hl_hosts.specs.Columns.{gauge_in, traffic_in};
-ghost use Rattle.rm_hl_hosts.specs.Kept.{is_up, kept_counter};
+ghost use Rattle.rm_hl_hosts.specs.Held.{is_up};
+ghost use Rattle.rm_hl_hosts.specs.Kept.{kept_counter};
 ghost use Rattle.rm_hl_hosts.specs.Shown.{host_column, application_column, up_to_tick};
 
 use rm_columns::counter_32;
@@ -16,7 +17,7 @@ use rm_val::Value;
 /// What a column of hlHostControl shows of the hosts of an active row, where it can't be set: how many were entered, and how many of these
 /// are gone, of hosts in the network layer and of protocols of theirs. No frame is dropped. Columns 8 and 9 are those of protocols, of
 /// which column 9 costs a step for each that there is.
-pub fn control_counter(hosts: &LayerTable<[u8; 4], NetworkCounts>, column: u32) -> u32
+pub(crate) fn control_counter(hosts: &LayerTable<[u8; 4], NetworkCounts>, column: u32) -> u32
     ensures { result ≡ kept_counter hosts.now column % 2 ^ 32 }
 {
     counter_32(count_in(hosts, column))
@@ -36,8 +37,8 @@ fn count_in(hosts: &LayerTable<[u8; 4], NetworkCounts>, column: u32) -> u64
     }
 }
 
-/// What a column shows of a row at a mark, where there is one, once sysUpTime isn't 0 any more: the row stands at each mark up to the tick of
-/// its last contribution (RFC 2021, TimeFilter).
+/// What a column shows of a row at a mark, where there is one: the row stands at each mark up to the tick of its last contribution (RFC 2021,
+/// TimeFilter). Whether the table has rows at all at a moment is what `is_up` says.
 pub(crate) fn up_to_tick<S: Shows>(
     counted: Option<Counted<S>>,
     mark: u32,

@@ -14,7 +14,7 @@ use rm_upper::LayerTable;
 
 /// Turns ip on or off for the hosts of a row, and the protocols above ip, by those that are on now in slots. A protocol that is on still has
 /// the slot that it had, and each other one is on from a stamp, which is that of the next frame.
-pub fn turn(
+pub(crate) fn turn(
     hosts: &mut LayerTable<[u8; 4], NetworkCounts>,
     on: bool,
     slots: &[Option<u32>; 32],

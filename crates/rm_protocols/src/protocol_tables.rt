@@ -21,7 +21,7 @@ type Distributed = Both<Directory, Distribution>;
 
 /// The directory of the protocols that the probe knows, and what counts by it (RFC 2021, section 6): protocolDirTable with
 /// protocolDirLastChange; protocolDistControlTable with protocolDistStatsTable; hlHostControlTable with nlHostTable and alHostTable. A frame
-/// counts by the protocols that are active in the directory when it passes, and on for hosts.
+/// counts by the protocols that are active in the directory when it passes, and for hosts by those of them that are on for hosts.
 #[derive(Drop)]
 pub struct ProtocolTables {
     pub(crate) groups: Groups,

@@ -1,4 +1,4 @@
-use Rattle.std.proofs.Common.{◌≤◌, arith}
+use Rattle.std.proofs.Common.{arith}
 use Rattle.rm_hl_hosts.specs.Collection.{host_collection}
 use Rattle.rm_hl_hosts.proofs.tests.ip_is_turned.Goals as goal
 
