@@ -30,6 +30,8 @@ pub struct Case {
     pub other: Option<Vec<u8>>,
     /// What comes and goes over the link.
     pub traffic: Traffic,
+    /// Whether each call on the outside fails in a run of its own.
+    pub each_call_fails: bool,
     /// The numbers of the puts of the output that fail.
     pub failing_puts: Vec<u64>,
     /// How the run ends.
@@ -59,6 +61,7 @@ impl Case {
             requests: Vec::new(alloc),
             other: None,
             traffic: Traffic::new(alloc),
+            each_call_fails: false,
             failing_puts: Vec::new(alloc),
             status: Status::Done,
             expected: Vec::new(alloc),
@@ -80,6 +83,7 @@ impl Case {
             "end" | "cut" => return self.expect(statement.line, text),
             "sent" => self.take_sent(statement.line, rest),
             "link" => self.traffic.fail(failing_call(rest)?),
+            "each" => self.take_each(rest),
             "output" => Ok(self.failing_puts.push(failing_call(rest)?)?),
             "setting" => self.given.take(self.alloc, rest),
             "words" => {
@@ -111,6 +115,20 @@ impl Case {
             None => Ok(()),
             Some(_) => Err(Trouble::Form("a datagram without an answer before this line")),
         }
+    }
+
+    /// The line of the file that says which line is written at a place, counted from 0.
+    pub fn line_of(&self, place: usize) -> usize {
+        self.expected.get(place).map_or(self.line, |line| line.line)
+    }
+
+    // `call fails`.
+    fn take_each(&mut self, text: &str) -> Result<(), Trouble> {
+        if text != "call fails" {
+            return Err(Trouble::Form("no call fails behind each"));
+        }
+        self.each_call_fails = true;
+        Ok(())
     }
 
     // The line that the run writes next.
@@ -153,7 +171,10 @@ impl Case {
         }
         let to = self.peer(rest)?;
         match self.expected.last() {
-            Some(last) => self.traffic.leave(line, to, last.text.as_str()),
+            Some(last) => {
+                let lines = self.expected.len();
+                self.traffic.leave(line, lines, to, last.text.as_str())
+            }
             None => Err(Trouble::Form("no line before what is sent")),
         }
     }

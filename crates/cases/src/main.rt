@@ -5,8 +5,10 @@
 
 mod case;
 mod difference;
+mod expected;
 mod given;
 mod outcome;
+mod outside;
 mod status;
 mod traffic;
 mod trial;

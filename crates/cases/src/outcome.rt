@@ -49,12 +49,17 @@ impl Outcome {
             }
             Outcome::Bad { title, difference } => {
                 let Difference {
+                    call,
                     line,
                     expected,
                     written,
                 } = difference;
+                let fault = match call {
+                    Some(call) => call.text(alloc)?,
+                    None => String::new(alloc),
+                };
                 format!(in alloc;
-                    "{name}, line {line}: {title}\n  expected {expected}\n  written  {written}"
+                    "{name}, line {line}: {title}{fault}\n  expected {expected}\n  written  {written}"
                 )
             }
         }

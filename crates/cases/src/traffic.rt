@@ -15,10 +15,11 @@ struct Arriving {
     octets: Vec<u8>,
 }
 
-// A datagram that is to be sent, and the line of the file that says so.
+// A datagram that is to be sent, the line of the file that says so, and how many lines are written up to it.
 #[derive(Drop)]
 struct Leaving {
     line: usize,
+    lines: usize,
     to: Peer,
     octets: Vec<u8>,
 }
@@ -55,10 +56,23 @@ impl Traffic {
         )
     }
 
-    /// Adds a datagram that is to be sent next: the message that an output line ends with.
-    pub fn leave(&mut self, line: usize, to: Peer, output: &str) -> Result<(), Trouble> {
+    /// Adds a datagram that is to be sent next: the message that an output line ends with, which is the last of so many lines.
+    pub fn leave(
+        &mut self,
+        line: usize,
+        lines: usize,
+        to: Peer,
+        output: &str,
+    ) -> Result<(), Trouble> {
         let octets = message_of(self.alloc, output)?;
-        Ok(self.leaving.push(Leaving { line, to, octets })?)
+        Ok(
+            self.leaving.push(Leaving {
+                line,
+                lines,
+                to,
+                octets,
+            })?,
+        )
     }
 
     /// Adds the number of a call of the link that fails.
@@ -88,18 +102,36 @@ impl Traffic {
         Ok(clock)
     }
 
-    /// The first datagram that was sent otherwise than it is expected. One that isn't expected is told of that line.
-    pub fn difference(&self, line: usize, link: &MemLink) -> Result<Option<Difference>, Trouble> {
-        for (place, datagram) in self.leaving.iter().enumerate() {
+    /// The first datagram that was sent otherwise than it is expected of so many lines. One that isn't expected is told of that line.
+    pub fn difference(
+        &self,
+        line: usize,
+        lines: usize,
+        link: &MemLink,
+    ) -> Result<Option<Difference>, Trouble> {
+        let leaving = self.leaving_by(lines);
+        for (place, datagram) in leaving.iter().enumerate() {
             let found = link.sent(place);
             if !datagram.is(found) {
                 let expected = sent_text(self.alloc, Some((datagram.to, &datagram.octets)))?;
                 return Ok(Some(self.difference_at(datagram.line, expected.as_str(), found)?));
             }
         }
-        match link.sent(self.leaving.len()) {
+        match link.sent(leaving.len()) {
             None => Ok(None),
             found => Ok(Some(self.difference_at(line, "no further datagram sent", found)?)),
+        }
+    }
+
+    // The datagrams that are sent once so many lines are written.
+    fn leaving_by(&self, lines: usize) -> &[Leaving] {
+        let later = self
+            .leaving
+            .iter()
+            .position(|datagram| datagram.lines > lines);
+        match later {
+            Some(later) => self.leaving.get(..later).unwrap_or(&self.leaving),
+            None => &self.leaving,
         }
     }
 

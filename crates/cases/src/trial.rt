@@ -1,22 +1,13 @@
-// What a run does with a case.
+// What runs do with a case.
 use crate::case::Case;
 use crate::difference::Difference;
+use crate::expected::Expected;
+use crate::outside::{FailingCall, Kind, Outside};
 use case_text::Trouble;
-use rm_cmd::{Status, run};
-use rm_edge::{MemLink, MemShelf, MemSink, Words};
-use rm_probe::replay;
-use std::alloc::{AllocError, Global};
+use std::alloc::Global;
 
-/// The octets of room in the output beyond those that are expected.
-const SPARE_ROOM: usize = 4096;
-
-// How a run ended, what it wrote, and the link that it leaves.
-#[derive(Drop)]
-struct Ended {
-    status: Status,
-    text: String,
-    link: MemLink,
-}
+/// The most calls of a kind that fail in turn.
+const MOST_CALLS: usize = 10_000;
 
 /// The first difference between a case and its runs, if there is one.
 pub fn try_case(alloc: Global, case: &Case) -> Result<Option<Difference>, Trouble> {
@@ -34,94 +25,64 @@ pub fn try_case(alloc: Global, case: &Case) -> Result<Option<Difference>, Troubl
     Ok(None)
 }
 
+// The run of the case, and those in which a call fails where it says that each does.
 fn difference_over(
     alloc: Global,
     case: &Case,
     capture: &[u8],
 ) -> Result<Option<Difference>, Trouble> {
     let text = case.text()?;
-    let ended = run_case(alloc, case, capture, text.len())?;
-    if ended.text.as_str() != text.as_str() {
-        return Ok(Some(text_difference(alloc, case, ended.text.as_str())?));
+    let mut outside = Outside::new(alloc, case, capture, text.len())?;
+    let status = outside.run(alloc, case)?;
+    let expected = Expected::whole(case, text.as_str());
+    let found = expected.difference(alloc, case, status, &outside)?;
+    if found.is_some() || !case.each_call_fails {
+        return Ok(found);
     }
-    if let Some(difference) = case.traffic.difference(case.line, &ended.link)? {
-        return Ok(Some(difference));
-    }
-    if ended.status == case.status {
-        return Ok(None);
-    }
-    Ok(Some(Difference {
-        line: case.line,
-        expected: case.status.to_string(alloc)?,
-        written: ended.status.to_string(alloc)?,
-    }))
-}
-
-// The first line that differs, or else the end of the last one.
-fn text_difference(alloc: Global, case: &Case, text: &str) -> Result<Difference, AllocError> {
-    let mut written = text.lines();
-    for line in &case.expected {
-        let expected = line.text.as_str();
-        let found = written.next().unwrap_or("no line");
-        if found != expected {
-            return Difference::new(alloc, line.line, expected, found);
+    for kind in [Kind::Read, Kind::Put, Kind::Link] {
+        if let Some(difference) = difference_by(alloc, case, capture, text.as_str(), kind)? {
+            return Ok(Some(difference));
         }
     }
-    match written.next() {
-        Some(found) => Difference::new(alloc, case.line, "no further line", found),
-        None => Difference::new(
-            alloc,
-            case.line,
-            "LF after each line",
-            "another end of a line",
-        ),
-    }
+    Ok(None)
 }
 
-// Runs a case over files in memory, by `replay` where it gives settings, and else by `run`.
-fn run_case(alloc: Global, case: &Case, capture: &[u8], expected: usize) -> Result<Ended, Trouble> {
-    let mut shelf = MemShelf::new(alloc);
-    shelf.add("capture", capture)?;
-    shelf.add("requests", &case.requests)?;
-    if let Some(other) = &case.other {
-        shelf.add("other", other)?;
-    }
-    let mut out = MemSink::new(alloc);
-    out.reserve(expected.saturating_add(SPARE_ROOM))?;
-    for put in &case.failing_puts {
-        out.fail(*put, 0)?;
-    }
-    let mut link = case.traffic.link()?;
-    let status = if case.given.is_any {
-        if case.words.is_some() {
-            return Err(Trouble::Form("words beside settings before this line"));
+// The runs in which call 1 of a kind fails, call 2, and so on, up to the first run that ends before its call.
+fn difference_by(
+    alloc: Global,
+    case: &Case,
+    capture: &[u8],
+    text: &str,
+    kind: Kind,
+) -> Result<Option<Difference>, Trouble> {
+    for number in 1..=MOST_CALLS {
+        let call = FailingCall { kind, number };
+        let (is_last, found) = run_failing(alloc, case, capture, text, call)?;
+        if is_last || found.is_some() {
+            return Ok(found);
         }
-        let settings = case.given.settings()?;
-        let lead = case.given.lead;
-        replay(
-            alloc, settings, lead, "capture", "requests", &mut shelf, &mut out,
-        )
+    }
+    Err(Trouble::Form("too many calls before this line"))
+}
+
+// A run in which a call fails. It is the last one, and as the case says, where it ends before that call: then a call behind the run is
+// the one that fails.
+fn run_failing(
+    alloc: Global,
+    case: &Case,
+    capture: &[u8],
+    text: &str,
+    call: FailingCall,
+) -> Result<(bool, Option<Difference>), Trouble> {
+    let mut outside = Outside::new(alloc, case, capture, text.len())?;
+    outside.fail(call)?;
+    let status = outside.run(alloc, case)?;
+    let is_last = outside.fails_at(call.kind);
+    let expected = if is_last {
+        Expected::whole(case, text)
     } else {
-        let words = words_of(alloc, case)?;
-        let mut clock = case.traffic.clock()?;
-        run(alloc, &words, &mut shelf, &mut out, &mut link, &mut clock)
+        Expected::failing(call, text, outside.text()?)
     };
-    let text = match str::from_utf8(out.bytes()) {
-        Ok(text) => String::from_str(alloc, text)?,
-        Err(_) => return Err(Trouble::Form("the output isn't text")),
-    };
-    Ok(Ended { status, text, link })
-}
-
-// The words of the command. "" stands for an empty one.
-fn words_of(alloc: Global, case: &Case) -> Result<Words, Trouble> {
-    let mut words = Words::new(alloc);
-    let text = match &case.words {
-        Some(text) => text.as_str(),
-        None => "replay capture requests",
-    };
-    for word in text.split_whitespace() {
-        words.add(if word == "\"\"" { "" } else { word })?;
-    }
-    Ok(words)
+    let found = expected.difference(alloc, case, status, &outside)?;
+    Ok((is_last, found))
 }

@@ -1,0 +1,159 @@
+// The outside of a run of a case, in memory.
+use crate::case::Case;
+use case_text::Trouble;
+use rm_cmd::{Status, run};
+use rm_edge::{Link, MemLink, MemShelf, MemSink, Shelf, Sink, Words};
+use rm_probe::replay;
+use std::alloc::{AllocError, Global};
+
+/// The octets of room in the output beyond those that are expected.
+const SPARE_ROOM: usize = 4096;
+
+/// How many octets of its piece a put lets through that is to fail.
+pub const LET_THROUGH: usize = 3;
+
+/// A kind of the calls of a run on its outside.
+#[derive(Clone, Copy, PartialEq, Eq)]
+pub enum Kind {
+    /// A read of a file.
+    Read,
+    /// A put of the output.
+    Put,
+    /// A bind, a receive or a send of the link.
+    Link,
+}
+
+impl Kind {
+    /// How a run ends in which such a call fails.
+    pub fn status(self) -> Status {
+        match self {
+            Kind::Read => Status::ReadFault,
+            Kind::Put => Status::WriteFault,
+            Kind::Link => Status::LinkFault,
+        }
+    }
+
+    fn word(self) -> &'static str {
+        match self {
+            Kind::Read => "read",
+            Kind::Put => "put",
+            Kind::Link => "link call",
+        }
+    }
+}
+
+/// A call that is to fail: the one of its kind with that number, from 1.
+#[derive(Clone, Copy)]
+pub struct FailingCall {
+    pub kind: Kind,
+    pub number: usize,
+}
+
+impl FailingCall {
+    /// What is told of it behind the title of a case.
+    pub fn text(&self, alloc: Global) -> Result<String, AllocError> {
+        let word = self.kind.word();
+        let number = self.number;
+        format!(in alloc; ", {word} {number} fails")
+    }
+}
+
+/// The files of a case, its output and its link.
+#[derive(Drop)]
+pub struct Outside {
+    shelf: MemShelf,
+    out: MemSink,
+    pub link: MemLink,
+}
+
+impl Outside {
+    /// As it is before a run over these octets of the capture, with room for so many octets that are expected.
+    pub fn new(
+        alloc: Global,
+        case: &Case,
+        capture: &[u8],
+        expected: usize,
+    ) -> Result<Outside, Trouble> {
+        let mut shelf = MemShelf::new(alloc);
+        shelf.add("capture", capture)?;
+        shelf.add("requests", &case.requests)?;
+        if let Some(other) = &case.other {
+            shelf.add("other", other)?;
+        }
+        let mut out = MemSink::new(alloc);
+        out.reserve(expected.saturating_add(SPARE_ROOM))?;
+        for put in &case.failing_puts {
+            out.fail(*put, 0)?;
+        }
+        let link = case.traffic.link()?;
+        Ok(Outside { shelf, out, link })
+    }
+
+    /// Lists a call that is to fail.
+    pub fn fail(&mut self, call: FailingCall) -> Result<(), Trouble> {
+        let number = call.number as u64;
+        match call.kind {
+            Kind::Read => self.shelf.fail(number)?,
+            Kind::Put => self.out.fail(number, LET_THROUGH)?,
+            Kind::Link => self.link.fail(number)?,
+        }
+        Ok(())
+    }
+
+    /// Calls the outside, and tells whether that failed. Nothing is put or sent.
+    pub fn fails_at(&mut self, kind: Kind) -> bool {
+        match kind {
+            Kind::Read => self.shelf.read("capture", 0, &mut [0]).is_err(),
+            Kind::Put => self.out.put(b"").is_err(),
+            Kind::Link => self.link.bind(0).is_err(),
+        }
+    }
+
+    /// What was written.
+    pub fn text(&self) -> Result<&str, Trouble> {
+        str::from_utf8(self.out.bytes()).map_err(|_| Trouble::Form("the output isn't text"))
+    }
+
+    /// Runs the case, by `replay` where it gives settings, and else by `run`.
+    pub fn run(&mut self, alloc: Global, case: &Case) -> Result<Status, Trouble> {
+        if !case.given.is_any {
+            let words = words_of(alloc, case)?;
+            let mut clock = case.traffic.clock()?;
+            return Ok(run(
+                alloc,
+                &words,
+                &mut self.shelf,
+                &mut self.out,
+                &mut self.link,
+                &mut clock,
+            ));
+        }
+        if case.words.is_some() {
+            return Err(Trouble::Form("words beside settings before this line"));
+        }
+        let settings = case.given.settings()?;
+        let lead = case.given.lead;
+        Ok(replay(
+            alloc,
+            settings,
+            lead,
+            "capture",
+            "requests",
+            &mut self.shelf,
+            &mut self.out,
+        ))
+    }
+}
+
+// The words of the command. "" stands for an empty one.
+fn words_of(alloc: Global, case: &Case) -> Result<Words, Trouble> {
+    let mut words = Words::new(alloc);
+    let text = match &case.words {
+        Some(text) => text.as_str(),
+        None => "replay capture requests",
+    };
+    for word in text.split_whitespace() {
+        words.add(if word == "\"\"" { "" } else { word })?;
+    }
+    Ok(words)
+}
