@@ -9,7 +9,7 @@ use Rattle.rm_group.specs.Listed.{ListedTable}
 use Rattle.rm_acts.specs.Buffers.{buffer_entry}
 use Rattle.rm_acts.specs.Shown.{buffers_shown}
 use Rattle.rm_collect.specs.Collection.{Collection}
-use Rattle.rm_collect.specs.declared.sampled.Sampled.TheVariants.{ControlTable}
+use Rattle.rm_collect.specs.declared.sampled_tables.SampledTables.TheVariants.{ControlTable}
 use Rattle.rm_filter.specs.declared.accepted.Accepted.{Accepted}
 use Rattle.rm_capture.specs.declared.buffer.Buffer.{Buffer}
 use Rattle.rm_capture.specs.declared.buffer_row.BufferRow.{BufferRow}
@@ -45,7 +45,7 @@ buffer_collection = record {
   others = λ rows. kept_other;
   inner = λ rows buffers now. cells_of (packets_shown rows buffers);
   cells = λ settings journal now. buffer_cells settings journal;
-  sampled = ControlTable;
+  sampled_tables = ControlTable;
   sampleable = λ settings journal now. cells_of (buffers_shown settings journal);
   tables = buffer_tables;
   inner_alone = packets_alone;

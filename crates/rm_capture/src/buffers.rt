@@ -5,7 +5,7 @@ use crate::buffer::Buffer;
 use crate::buffer_row::{BUFFER_OBJECTS, BufferRow};
 use crate::packets::{PACKET_OBJECTS, Packets, other_of};
 use crate::taking::JudgedFrame;
-use rm_collect::{ByItself, Collected, Collecting, RowColumns, Sampled};
+use rm_collect::{ByItself, Collected, Collecting, RowColumns, SampledTables};
 use rm_filter::Accepted;
 use rm_group::{Assigns, Passing, TableObjects, judge_read_only};
 use rm_model::Verdict;
@@ -77,8 +77,8 @@ impl Collected for Buffer {
         PACKET_OBJECTS.entry
     }
 
-    fn sampled() -> Sampled {
-        Sampled::ControlTable
+    fn sampled_tables() -> SampledTables {
+        SampledTables::ControlTable
     }
 
     fn judge_inner<A: Assigns>(set: &A) -> Verdict {

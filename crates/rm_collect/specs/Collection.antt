@@ -22,8 +22,8 @@ use Rattle.rm_status.specs.RowsAfter.{AreRowsAfter}
 use Rattle.rm_pool.specs.declared.slot.Slot.{Slot}
 use Rattle.rm_pool.specs.Slots.{part_in}
 use Rattle.rm_collect.specs.Passed.{Passed, frame_passed}
-use Rattle.rm_collect.specs.declared.sampled.Sampled.{Sampled}
-use Rattle.rm_collect.specs.declared.sampled.Sampled.TheVariants.{AllTables, ControlTable, NoTable}
+use Rattle.rm_collect.specs.declared.sampled_tables.SampledTables.{SampledTables}
+use Rattle.rm_collect.specs.declared.sampled_tables.SampledTables.TheVariants.{AllTables, ControlTable, NoTable}
 use Rattle.rm_collect.specs.Rows.{GoesOn, IsKept}
 
 -- What the valid rows of a control table with columns `C` collect, each in a part `P` of its own, beside what they share, `S`. A frame
@@ -51,7 +51,7 @@ pub record Collection (C P S J : Type 0) : Type 1 where
   -- what all tables have after a journal
   pub cells : Counting → Journal → (now : ℕ) → Cells
   -- which of the tables alarms may sample, and what they may sample after a journal
-  pub sampled : Sampled
+  pub sampled_tables : SampledTables
   pub sampleable : Counting → Journal → (now : ℕ) → Cells
   -- the tables, and what is wrong with a binding alone that isn't of the control table
   pub tables : List ListedTable
@@ -69,13 +69,13 @@ module _ {C P S J : Type 0} (form : RowForm C) (collection : Collection C P S J)
   abbrev pub kept : List (Row C) → List (Slot P) → (now : ℕ) → Cells
   kept rows parts now name = option_or (control_kept rows parts name) (collection.inner rows parts now name)
 
-  abbrev pub sampled_of : Sampled → List (Row C) → List (Slot P) → (now : ℕ) → Cells
+  abbrev pub sampled_of : SampledTables → List (Row C) → List (Slot P) → (now : ℕ) → Cells
   sampled_of AllTables rows parts now name = kept rows parts now name
   sampled_of ControlTable rows parts now name = control_kept rows parts name
   sampled_of NoTable rows parts now name = None
 
   abbrev pub sampled : List (Row C) → List (Slot P) → (now : ℕ) → Cells
-  sampled = sampled_of collection.sampled
+  sampled = sampled_of collection.sampled_tables
 
   -- what is wrong with a binding alone
   abbrev pub alone : List ℕ → Val → Option ErrorStatus

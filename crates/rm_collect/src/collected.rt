@@ -23,7 +23,7 @@ ghost use Rattle.rm_collect.specs.Rows.{IsFresh};
 ghost use Rattle.rm_collect.specs.Collection.{Collection, IsLawful};
 
 use crate::row_columns::RowColumns;
-use crate::sampled::Sampled;
+use crate::sampled_tables::SampledTables;
 use rm_columns::ControlRow;
 use rm_group::{Assigns, Passing, TableObjects};
 use rm_model::Verdict;
@@ -107,8 +107,8 @@ pub trait Collected: Part {
         ensures fits { length result.now ≤ 128 };
 
     /// Which of the tables alarms may sample.
-    fn sampled() -> Sampled
-        ensures { result ≡ collection.sampled };
+    fn sampled_tables() -> SampledTables
+        ensures { result ≡ collection.sampled_tables };
 
     /// The first pass of a Set: each binding alone that isn't of the control table.
     fn judge_inner<A: Assigns>(set: &A) -> Verdict

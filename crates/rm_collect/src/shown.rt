@@ -9,7 +9,7 @@ ghost use Rattle.rm_collect.specs.Collection.{control_kept, kept, sampled};
 
 use crate::collected::Collected;
 use crate::collecting::Collecting;
-use crate::sampled::Sampled;
+use crate::sampled_tables::SampledTables;
 use rm_group::{choose_nearer, is_under};
 use rm_pool::Pool;
 use rm_status::{OtherColumns, Row};
@@ -47,10 +47,10 @@ impl<P: Collected> Collecting<P> {
     pub(crate) fn sampled_at(&self, name: &Oid, now: u32) -> Option<Value<'_>>
         ensures { option_map val_of result ≡ sampled P.Columns.form P.collection self.now.rows self.now.parts now name.now }
     {
-        match P::sampled() {
-            Sampled::AllTables => self.shown_at(name, now),
-            Sampled::ControlTable => self.control_at(name),
-            Sampled::NoTable => None,
+        match P::sampled_tables() {
+            SampledTables::AllTables => self.shown_at(name, now),
+            SampledTables::ControlTable => self.control_at(name),
+            SampledTables::NoTable => None,
         }
     }
 

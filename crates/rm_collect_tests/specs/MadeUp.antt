@@ -21,7 +21,7 @@ use Rattle.rm_status.specs.RowsShown.{with_index}
 use Rattle.rm_pool.specs.declared.slot.Slot.{Slot}
 use Rattle.rm_pool.specs.Slots.{part_in}
 use Rattle.rm_collect.specs.Collection.{Collection}
-use Rattle.rm_collect.specs.declared.sampled.Sampled.TheVariants.{AllTables}
+use Rattle.rm_collect.specs.declared.sampled_tables.SampledTables.TheVariants.{AllTables}
 
 -- the frames of an interface that a row has counted, beside a number that all rows share and the moment at which it began
 pub record Tallied : Type 0 where
@@ -97,7 +97,7 @@ made_up_collection = record {
   others = λ rows. count_kept;
   inner = λ rows parts now name. None;
   cells = λ settings journal now. cells_of (made_up_table journal);
-  sampled = AllTables;
+  sampled_tables = AllTables;
   sampleable = λ settings journal now. cells_of (made_up_table journal);
   tables = record { entry = made_up_entry; columns = made_up_columns } ∷ [];
   inner_alone = λ name value. None;

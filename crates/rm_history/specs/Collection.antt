@@ -9,7 +9,7 @@ use Rattle.rm_model.specs.Cells.{Cells, cells_of, is_of_column}
 use Rattle.rm_group.specs.Alone.{read_only}
 use Rattle.rm_group.specs.Listed.{ListedTable}
 use Rattle.rm_collect.specs.Collection.{Collection}
-use Rattle.rm_collect.specs.declared.sampled.Sampled.TheVariants.{AllTables}
+use Rattle.rm_collect.specs.declared.sampled_tables.SampledTables.TheVariants.{AllTables}
 use Rattle.rm_history.specs.declared.control_columns.ControlColumns.{ControlColumns}
 use Rattle.rm_history.specs.declared.run.Run.{Run}
 use Rattle.rm_history.specs.Columns.{control_columns, sample_columns}
@@ -48,7 +48,7 @@ history_collection = record {
   others = λ rows runs. kept_other rows;
   inner = λ rows runs now. cells_of (runs_table runs now);
   cells = history_cells;
-  sampled = AllTables;
+  sampled_tables = AllTables;
   sampleable = history_cells;
   tables = history_tables;
   inner_alone = samples_alone;

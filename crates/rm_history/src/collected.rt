@@ -8,7 +8,7 @@ use crate::counted_frame::CountedFrame;
 use crate::plan::Plan;
 use crate::run::{MOST_BUCKETS, Run};
 use crate::samples::{SAMPLE_OBJECTS, Samples};
-use rm_collect::{ByFacts, ByItself, Collected, RowColumns, Sampled};
+use rm_collect::{ByFacts, ByItself, Collected, RowColumns, SampledTables};
 use rm_ether::Adding;
 use rm_group::{Assigns, Passing, TableObjects, judge_read_only};
 use rm_model::{State, Verdict};
@@ -75,8 +75,8 @@ impl Collected for Run {
         SAMPLE_OBJECTS.entry
     }
 
-    fn sampled() -> Sampled {
-        Sampled::AllTables
+    fn sampled_tables() -> SampledTables {
+        SampledTables::AllTables
     }
 
     fn judge_inner<A: Assigns>(set: &A) -> Verdict {

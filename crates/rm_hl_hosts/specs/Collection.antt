@@ -19,7 +19,7 @@ use Rattle.rm_status.specs.Rows.{row_number}
 use Rattle.rm_keyed.specs.PartRows.{parts_table}
 use Rattle.rm_keyed.specs.TwoTables.{cells_of_two, alone_of_two}
 use Rattle.rm_collect.specs.Collection.{Collection}
-use Rattle.rm_collect.specs.declared.sampled.Sampled.TheVariants.{NoTable}
+use Rattle.rm_collect.specs.declared.sampled_tables.SampledTables.TheVariants.{NoTable}
 use Rattle.rm_hl_hosts.specs.Control.{control_entry, control_set}
 use Rattle.rm_hl_hosts.specs.Columns.{control_columns, network_columns, application_columns}
 use Rattle.rm_hl_hosts.specs.NlHost.{network_entry, network_listed}
@@ -97,7 +97,7 @@ host_collection = record {
   others = λ rows parts. kept_other parts;
   inner = λ rows parts now. inner_shown parts now;
   cells = host_cells;
-  sampled = NoTable;
+  sampled_tables = NoTable;
   sampleable = λ settings journal now name. None;
   tables = host_tables;
   inner_alone = alone_of_two network_listed application_listed;

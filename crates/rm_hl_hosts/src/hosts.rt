@@ -9,7 +9,7 @@ use crate::row::{CONTROL_OBJECTS, HostControlRow};
 use crate::shared::HostShared;
 use crate::shown::control_counter;
 use crate::turning::turn;
-use rm_collect::{ByOther, Collected, RowColumns, Sampled, Turned};
+use rm_collect::{ByOther, Collected, RowColumns, SampledTables, Turned};
 use rm_group::{Assigns, Passing, TableObjects};
 use rm_keyed::{PartRows, cell_of_two, judge_two, next_of_two};
 use rm_layer_slots::{HasDirectory, settle};
@@ -89,8 +89,8 @@ impl Collected for HostPart {
         NETWORK_OBJECTS.entry
     }
 
-    fn sampled() -> Sampled {
-        Sampled::NoTable
+    fn sampled_tables() -> SampledTables {
+        SampledTables::NoTable
     }
 
     fn judge_inner<A: Assigns>(set: &A) -> Verdict {

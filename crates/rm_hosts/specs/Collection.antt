@@ -4,7 +4,7 @@ use Rattle.std.proofs.Props.{props}
 use Rattle.rm_group.specs.Listed.{ListedTable}
 use Rattle.rm_keyed.specs.TwoTables.{alone_of_two}
 use Rattle.rm_collect.specs.Collection.{Collection}
-use Rattle.rm_collect.specs.declared.sampled.Sampled.TheVariants.{AllTables}
+use Rattle.rm_collect.specs.declared.sampled_tables.SampledTables.TheVariants.{AllTables}
 use Rattle.rm_hosts.specs.declared.host_room.HostRoom.{HostRoom}
 use Rattle.rm_hosts.specs.declared.host_table.HostTable.{HostTable}
 use Rattle.rm_hosts.specs.Columns.{control_columns}
@@ -38,7 +38,7 @@ host_collection = record {
   others = λ rows tables. kept_other tables;
   inner = λ rows tables now. inner_shown tables;
   cells = λ settings journal now. host_cells settings journal;
-  sampled = AllTables;
+  sampled_tables = AllTables;
   sampleable = λ settings journal now. host_cells settings journal;
   tables = host_tables;
   inner_alone = alone_of_two host_listed time_listed;

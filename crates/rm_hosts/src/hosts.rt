@@ -7,7 +7,7 @@ use crate::counted_frame::CountedFrame;
 use crate::host_control::{CONTROL_OBJECTS, ControlColumns};
 use crate::host_room::HostRoom;
 use crate::host_table::HostTable;
-use rm_collect::{ByFacts, ByItself, Collected, Collecting, RowColumns, Sampled};
+use rm_collect::{ByFacts, ByItself, Collected, Collecting, RowColumns, SampledTables};
 use rm_group::{Assigns, Passing, TableObjects};
 use rm_keyed::{PartRows, cell_of_two, judge_two, next_of_two, source_value};
 use rm_model::Verdict;
@@ -93,8 +93,8 @@ impl Collected for HostTable {
         HOST_OBJECTS.entry
     }
 
-    fn sampled() -> Sampled {
-        Sampled::AllTables
+    fn sampled_tables() -> SampledTables {
+        SampledTables::AllTables
     }
 
     fn judge_inner<A: Assigns>(set: &A) -> Verdict {

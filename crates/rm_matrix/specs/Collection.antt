@@ -4,7 +4,7 @@ use Rattle.std.proofs.Props.{props}
 use Rattle.rm_group.specs.Listed.{ListedTable}
 use Rattle.rm_keyed.specs.TwoTables.{alone_of_two}
 use Rattle.rm_collect.specs.Collection.{Collection}
-use Rattle.rm_collect.specs.declared.sampled.Sampled.TheVariants.{AllTables}
+use Rattle.rm_collect.specs.declared.sampled_tables.SampledTables.TheVariants.{AllTables}
 use Rattle.rm_matrix.specs.declared.matrix_room.MatrixRoom.{MatrixRoom}
 use Rattle.rm_matrix.specs.declared.matrix_table.MatrixTable.{MatrixTable}
 use Rattle.rm_matrix.specs.Columns.{control_columns}
@@ -38,7 +38,7 @@ matrix_collection = record {
   others = λ rows tables. kept_other tables;
   inner = λ rows tables now. inner_shown tables;
   cells = λ settings journal now. matrix_cells settings journal;
-  sampled = AllTables;
+  sampled_tables = AllTables;
   sampleable = λ settings journal now. matrix_cells settings journal;
   tables = matrix_tables;
   inner_alone = alone_of_two source_listed destination_listed;

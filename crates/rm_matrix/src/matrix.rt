@@ -7,7 +7,7 @@ use crate::counted_frame::CountedFrame;
 use crate::matrix_control::{CONTROL_OBJECTS, ControlColumns};
 use crate::matrix_room::MatrixRoom;
 use crate::matrix_table::MatrixTable;
-use rm_collect::{ByFacts, ByItself, Collected, Collecting, RowColumns, Sampled};
+use rm_collect::{ByFacts, ByItself, Collected, Collecting, RowColumns, SampledTables};
 use rm_group::{Assigns, Passing, TableObjects};
 use rm_keyed::{PartRows, cell_of_two, judge_two, next_of_two, source_value};
 use rm_model::Verdict;
@@ -92,8 +92,8 @@ impl Collected for MatrixTable {
         SOURCE_OBJECTS.entry
     }
 
-    fn sampled() -> Sampled {
-        Sampled::AllTables
+    fn sampled_tables() -> SampledTables {
+        SampledTables::AllTables
     }
 
     fn judge_inner<A: Assigns>(set: &A) -> Verdict {

@@ -1,6 +1,6 @@
 // A made-up control table: each valid row counts the frames of an interface. Its entry is 1.3.6.1.4.1.9.6; column 2 is the interface, 1 to 9,
 // column 3 the count, and column 4 the status.
-use rm_collect::{ByFacts, ByItself, Collected, RowColumns, Sampled};
+use rm_collect::{ByFacts, ByItself, Collected, RowColumns, SampledTables};
 use rm_columns::{ControlRow, ControlSheet, OneNumber, short_in};
 use rm_group::{Assigns, MOST_FRAMES, Passing, TableObjects};
 use rm_model::Setting::Number;
@@ -189,8 +189,8 @@ impl Collected for Tally {
         &[]
     }
 
-    fn sampled() -> Sampled {
-        Sampled::AllTables
+    fn sampled_tables() -> SampledTables {
+        SampledTables::AllTables
     }
 
     fn judge_inner<A: Assigns>(_set: &A) -> Verdict {
