@@ -34,8 +34,8 @@ module _ {C P S : Type 0} (form : RowForm C) where
   IsReleased held = length held.parts ≤ max 1 (count_valid form.table (rows_before form.table form.set_to held.rows))
 
 module _ {C P S J : Type 0} (form : RowForm C) (collection : Collection C P S J) where
-  -- It stands for a journal: what the rows share is what the probe was set to, it was given the frames of the journal, its rows are those
-  -- after it, and exactly the valid ones have what they have collected.
+  -- It stands for a journal: what the rows share is what the probe was set to and what another group makes of the journal, it was given as
+  -- many frames as the journal has, its rows are those after it, and exactly the valid ones have what they have collected.
   pub record Stands (held : Held C P S) (settings : Counting) (journal : Journal) : Type 0 where
     pub suits : collection.suits held.shared settings journal
     pub given : held.frames ≡ length (frames_in journal)
