@@ -197,13 +197,14 @@ impl<K: Key, N: LayerCounts> NetworkRows<K, N> {
     }
 
     /// The next instance of an application row, by mark, key and protocol, above a mark, maybe a key and maybe a protocol. Each row stands
-    /// at each mark up to the tick of its last contribution (RFC 2021, TimeFilter). None where there is none.
+    /// at each mark up to the tick of its last contribution (RFC 2021, TimeFilter). It skips network rows that have no application row at
+    /// the mark, and what is kept of a protocol from before it was last turned on. None where there is none.
     pub fn application_after(
         &self,
         mark: u32,
         from: Option<(K, Option<u32>)>,
     ) -> Option<(u32, (K, u32))>
-        ensures shown { IsNextInstance (pair_cmp K.cmp nat_cmp) (ShowsApplication K.eq self.now) mark (IsAboveApplication K.cmp from) result }
+        ensures kept { IsNextInstance (pair_cmp K.cmp nat_cmp) (ShowsApplication K.eq self.now) mark (IsAboveApplication K.cmp from) result }
         ensures stands { (events : List (Event K N)) → AreTuned (protocols self.now.slots) events → StandsFor N.tally K.eq events self.now
             → IsNextInstance (pair_cmp K.cmp nat_cmp) (ApplicationLasts K.eq self.now.table.capacity events) mark (IsAboveApplication K.cmp from) result }
     {

@@ -9,24 +9,24 @@ use Rattle.rm_upper.proofs.network_rows.NetworkRows.application_after.Goals as g
 
 pub returns-in-Some : goal.returns-in-Some
 returns-in-Some g c =
-    let shown = instance_here (pair_cmp g.K.Ord.cmp nat_cmp) (ShowsApplication g.K.PartialEq.eq c.args.self.now) c.args.mark (IsAboveApplication g.K.Ord.cmp c.args.from) c.in-Some.found c.in-Some.ensures.least in
+    let kept = instance_here (pair_cmp g.K.Ord.cmp nat_cmp) (ShowsApplication g.K.PartialEq.eq c.args.self.now) c.args.mark (IsAboveApplication g.K.Ord.cmp c.args.from) c.in-Some.found c.in-Some.ensures.least in
     record {
-      shown = shown;
-      stands = λ r tuned stands. application_instance g.N.Counts.tally g.K.PartialEq.eq (exact_key g.K.PartialEq.eq g.K.Ord.cmp g.met.K.Eq.laws g.met.K.Ord.matches_eq g.met.K.Key.exact) g.K.Ord.cmp c.args.self.now r tuned stands c.args.mark (IsAboveApplication g.K.Ord.cmp c.args.from) (Some (c.args.mark, c.in-Some.found)) shown;
+      kept = kept;
+      stands = λ r tuned stands. application_instance g.N.Counts.tally g.K.PartialEq.eq (exact_key g.K.PartialEq.eq g.K.Ord.cmp g.met.K.Eq.laws g.met.K.Ord.matches_eq g.met.K.Key.exact) g.K.Ord.cmp c.args.self.now r tuned stands c.args.mark (IsAboveApplication g.K.Ord.cmp c.args.from) (Some (c.args.mark, c.in-Some.found)) kept;
     }
 
 pub returns-in-Some-next_at : goal.returns-in-Some-next_at
 returns-in-Some-next_at g c =
-    let shown = instance_next (pair_cmp g.K.Ord.cmp nat_cmp) (ShowsApplication g.K.PartialEq.eq c.args.self.now) c.args.mark (IsAboveApplication g.K.Ord.cmp c.args.from) c.in-Some-next_at.found c.in_default.ensures.least c.in-Some-next_at.ensures.least in
+    let kept = instance_next (pair_cmp g.K.Ord.cmp nat_cmp) (ShowsApplication g.K.PartialEq.eq c.args.self.now) c.args.mark (IsAboveApplication g.K.Ord.cmp c.args.from) c.in-Some-next_at.found c.in_default.ensures.least c.in-Some-next_at.ensures.least in
     record {
-      shown = shown;
-      stands = λ r tuned stands. application_instance g.N.Counts.tally g.K.PartialEq.eq (exact_key g.K.PartialEq.eq g.K.Ord.cmp g.met.K.Eq.laws g.met.K.Ord.matches_eq g.met.K.Key.exact) g.K.Ord.cmp c.args.self.now r tuned stands c.args.mark (IsAboveApplication g.K.Ord.cmp c.args.from) (Some (c.args.mark + 1, c.in-Some-next_at.found)) shown;
+      kept = kept;
+      stands = λ r tuned stands. application_instance g.N.Counts.tally g.K.PartialEq.eq (exact_key g.K.PartialEq.eq g.K.Ord.cmp g.met.K.Eq.laws g.met.K.Ord.matches_eq g.met.K.Key.exact) g.K.Ord.cmp c.args.self.now r tuned stands c.args.mark (IsAboveApplication g.K.Ord.cmp c.args.from) (Some (c.args.mark + 1, c.in-Some-next_at.found)) kept;
     }
 
 pub returns-in-None : goal.returns-in-None
 returns-in-None g c =
-    let shown = instance_none (pair_cmp g.K.Ord.cmp nat_cmp) (ShowsApplication g.K.PartialEq.eq c.args.self.now) c.args.mark (IsAboveApplication g.K.Ord.cmp c.args.from) c.in_default.ensures.least c.in-None.ensures.least in
+    let kept = instance_none (pair_cmp g.K.Ord.cmp nat_cmp) (ShowsApplication g.K.PartialEq.eq c.args.self.now) c.args.mark (IsAboveApplication g.K.Ord.cmp c.args.from) c.in_default.ensures.least c.in-None.ensures.least in
     record {
-      shown = shown;
-      stands = λ r tuned stands. application_instance g.N.Counts.tally g.K.PartialEq.eq (exact_key g.K.PartialEq.eq g.K.Ord.cmp g.met.K.Eq.laws g.met.K.Ord.matches_eq g.met.K.Key.exact) g.K.Ord.cmp c.args.self.now r tuned stands c.args.mark (IsAboveApplication g.K.Ord.cmp c.args.from) None shown;
+      kept = kept;
+      stands = λ r tuned stands. application_instance g.N.Counts.tally g.K.PartialEq.eq (exact_key g.K.PartialEq.eq g.K.Ord.cmp g.met.K.Eq.laws g.met.K.Ord.matches_eq g.met.K.Key.exact) g.K.Ord.cmp c.args.self.now r tuned stands c.args.mark (IsAboveApplication g.K.Ord.cmp c.args.from) None kept;
     }
