@@ -1,25 +1,20 @@
 -- A side by the directory of protocols is one, and its events turn what the slots have.
-use Rattle.std.proofs.Common.{◌≡◌, true, List, [], ◌∷◌, ◌++◌, nat_eq, Option, refl, sym, ap, ◌∙◌}
+use Rattle.std.proofs.Common.{◌≡◌, true, [], ◌∷◌, ◌++◌, nat_eq, refl, sym, ap, ◌∙◌}
 use Rattle.std.specs.List.{list_any}
 use Rattle.rm_model.specs.Journal.{Act, Journal}
-use Rattle.rm_path.specs.declared.protocol.Protocol.{Protocol}
-use Rattle.rm_path.specs.Slots.{HaveSlots}
-use Rattle.rm_dir.specs.Paths.{AreActiveAfter}
 use Rattle.rm_layers.specs.Applications.{Slots, has_slot}
 use Rattle.rm_layers.specs.Upper.{AreTuned}
 use Rattle.rm_layers.specs.Turning.{IsChange}
-use Rattle.rm_layer_events.specs.Side.{Side, IsSide, events, next_stamp, turned, besides}
-use Rattle.rm_layer_events.proofs.SideLemmas.{on_after, one_change, besides_after, set_on}
+use Rattle.rm_layer_events.specs.Side.{Side, IsSide, next_stamp, turned, besides}
+use Rattle.rm_layer_events.proofs.SideLemmas.{one_change, besides_after, set_on}
 use Rattle.rm_layer_slots.specs.declared.slots.TableKind.{TableKind}
 use Rattle.rm_layer_slots.specs.declared.slots.TableKind.TheVariants.{Hosts, Matrices}
-use Rattle.rm_layer_slots.specs.On.{slots_on, is_ip_on, CountsBy}
+use Rattle.rm_layer_slots.specs.On.{is_ip_on, CountsBy}
 use Rattle.rm_layer_slots.specs.Settled.{AreSettled}
 use Rattle.rm_layer_slots.proofs.SteadyLemmas.{on_steady, ip_steady}
-use Rattle.rm_layer_slots.proofs.OnLemmas.{tuned_after}
-use Rattle.rm_layer_slots.proofs.ApartLemmas.{apart_on}
 use Rattle.rm_layer_slots.proofs.MovedLemmas.{all_new}
 
-pub ip_first : (kind : TableKind) → is_ip_on kind [] ≡ true
+ip_first : (kind : TableKind) → is_ip_on kind [] ≡ true
 ip_first Hosts = refl
 ip_first Matrices = refl
 
@@ -31,18 +26,6 @@ module _ {K G : Type 0} (kind : TableKind) (side : Side K G) (counts : CountsBy 
     ip_first = counts.ip [] ∙ ip_first kind;
     ip_steady = λ act earlier is. counts.ip (act ∷ earlier) ∙ ip_steady kind act earlier is ∙ sym (counts.ip earlier);
     steady = λ p act earlier is. counts.on p (act ∷ earlier) ∙ on_steady kind p act earlier is ∙ sym (counts.on p earlier);
-  }
-
-  pub tuned_events : (journal : Journal) (slots : List (Option Protocol)) → AreActiveAfter journal slots → HaveSlots slots → AreTuned (slots_on kind slots) (events side journal)
-  tuned_events journal slots active have = record {
-    tuned = λ p. tuned_after kind journal slots active p ∙ sym (counts.on p journal) ∙ sym (on_after side is_side p journal);
-    apart = apart_on kind journal slots active.known have.apart;
-  }
-
-  pub tuned_besides : (act : Act) (earlier : Journal) (slots : List (Option Protocol)) → AreActiveAfter earlier slots → HaveSlots slots → AreTuned (slots_on kind slots) (besides side act earlier)
-  tuned_besides act earlier slots active have = record {
-    tuned = λ p. tuned_after kind earlier slots active p ∙ sym (counts.on p earlier) ∙ sym ((besides_after side is_side act earlier).1 p);
-    apart = apart_on kind earlier slots active.known have.apart;
   }
 
   pub change_on : (act : Act) (earlier : Journal) (old slots : Slots) → AreTuned old (besides side act earlier) → AreTuned slots (turned side act earlier ++ besides side act earlier) → AreSettled old slots

@@ -3,13 +3,11 @@
 #![tactic(auto)]
 
 mod has_directory;
-mod laws;
 mod settling;
 mod slots;
 #[cfg(test)]
 mod tests;
 
 pub use has_directory::HasDirectory;
-pub use laws::{moved, sides, tuned};
 pub use settling::settle;
 pub use slots::{TableKind, slots_on};
