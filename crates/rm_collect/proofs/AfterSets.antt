@@ -10,7 +10,7 @@ use Rattle.rm_model.specs.Journal.{Assignments, Journal, assigns, last_moment, v
 use Rattle.rm_model.specs.ControlTable.{row_index}
 use Rattle.rm_model.specs.ControlRows.{no_rows, cell_name, value_ask, set_ask, next_state, is_absent, is_valid, state_of, set_value, stays_valid, activated}
 use Rattle.rm_model.specs.Judgement.{Bindings, second_pass}
-use Rattle.rm_model.specs.declared.row.State.TheVariants.{Absent, Valid}
+use Rattle.rm_model.specs.declared.row.State.TheVariants.{Valid}
 use Rattle.rm_acts.specs.Seen.{with_act, seen_since}
 use Rattle.rm_columns.specs.RowForm.{RowForm}
 use Rattle.rm_status.specs.declared.row.Row.{Row}

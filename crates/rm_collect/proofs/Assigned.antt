@@ -1,5 +1,5 @@
 -- What is held after a Set with which nothing is wrong.
-use Rattle.std.proofs.Common.{◌≡◌, ℕ, ◌≤◌, List, ◌∷◌, true, None}
+use Rattle.std.proofs.Common.{◌≡◌, ℕ, ◌≤◌, List, true, None}
 use Rattle.rm_model.specs.Counting.{Counting}
 use Rattle.rm_model.specs.Journal.{Assignments, Journal, assigns, last_moment, value_given}
 use Rattle.rm_model.specs.ControlRows.{no_rows}

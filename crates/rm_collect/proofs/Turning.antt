@@ -1,5 +1,5 @@
 -- A Set that was begun is whole where nothing is to be turned by it, and once what is has been turned.
-use Rattle.std.proofs.Common.{◌≡◌, ℕ, List, [], ◌∷◌, Option, Some, None, sym, ◌∙◌}
+use Rattle.std.proofs.Common.{ℕ, List, [], ◌∷◌, Option, Some, None, sym, ◌∙◌}
 use Rattle.rm_model.specs.Counting.{Counting}
 use Rattle.rm_model.specs.Journal.{Act, Assignments, Journal, passes, assigns, samples}
 use Rattle.rm_columns.specs.RowForm.{RowForm}

@@ -8,7 +8,6 @@ use Rattle.rm_val.specs.Contents.{natural_in}
 use Rattle.rm_collect.specs.Rows.{IsFresh}
 use Rattle.rm_ether.specs.declared.counter.Counter.{Counter}
 use Rattle.rm_history.specs.declared.control_columns.ControlColumns.{ControlColumns}
-use Rattle.rm_history.specs.declared.plan.Plan.{Plan}
 use Rattle.rm_history.specs.declared.run.Run.{Run}
 use Rattle.rm_history.specs.Buckets.{bucket_sum, end_of}
 use Rattle.rm_history.specs.ControlColumns.{control_rows}

@@ -1,9 +1,9 @@
 -- A slot that has another protocol than before has one that was turned.
-use Rattle.std.proofs.Common.{◌≡◌, ℕ, Bool, true, false, List, [], ◌∷◌, ◌++◌, Option, Some, None, ◌||◌, refl, sym, ap, ◌∙◌, arith, nat_eq}
+use Rattle.std.proofs.Common.{◌≡◌, ℕ, Bool, true, false, [], ◌∷◌, Some, None, ◌||◌, refl, arith, nat_eq}
 use Rattle.std.proofs.lemmas.Bool.Decides.{nat_tests}
 use Rattle.rm_model.specs.Journal.{Act, Journal}
 use Rattle.rm_layers.specs.Applications.{Slots, has_slot, is_in}
-use Rattle.rm_layers.specs.Turning.{is_turned, AreNew}
+use Rattle.rm_layers.specs.Turning.{AreNew}
 use Rattle.rm_layer_events.specs.Side.{Side, IsSide, turned}
 use Rattle.rm_layer_events.proofs.SideLemmas.{turned_on}
 use Rattle.rm_layer_slots.specs.Settled.{AreSettledBy}

@@ -1,14 +1,14 @@
 -- A protocol that has a row is one of those that a journal names.
 use Rattle.std.proofs.Common.{◌≡◌, ℕ, Bool, true, false, cond, List, [], ◌∷◌, ◌++◌, map, Contains, Option, Some, None, refl, sym, ap, subst, ◌∙◌, inl, inr}
-use Rattle.std.specs.Prelude.{find, option_and_then}
+use Rattle.std.specs.Prelude.{find}
 use Rattle.std.specs.Option.{option_map, option_map_or, is_some}
 use Rattle.std.specs.Str.{bytes_eq}
 use Rattle.std.proofs.lemmas.Bool.{cases_Bool, true≢false}
 use Rattle.std.proofs.lemmas.List.Elements.{Contains-append_left, Contains-append_right}
 use Rattle.std.proofs.lemmas.Slice.Eq.{bytes_eq-Decides}
 use Rattle.rm_model.proofs.Members.{each, here, there, in_map, none_in}
-use Rattle.rm_model.specs.Journal.{Act, Assignment, Assignments, Journal, passes, assigns, samples, value_given}
-use Rattle.rm_model.specs.ControlRows.{cell_name, is_absent, next_state, number_ask, set_ask, value_ask}
+use Rattle.rm_model.specs.Journal.{Assignment, Assignments, Journal, passes, assigns, samples, value_given}
+use Rattle.rm_model.specs.ControlRows.{cell_name, is_absent, next_state, set_ask, value_ask}
 use Rattle.rm_model.specs.declared.row.State.{State}
 use Rattle.rm_model.specs.declared.row.State.TheVariants.{Absent, UnderCreation, Valid}
 use Rattle.rm_model.specs.declared.row.StatusKind.TheVariants.{RowStatus}

@@ -1,5 +1,5 @@
 -- Slots that protocols keep as long as they are on.
-use Rattle.std.specs.Prelude.{◌≡◌, ℕ, ⊤, Bool, false, List, [], ◌∷◌, if◌then◌else◌, Option, Some, None}
+use Rattle.std.specs.Prelude.{◌≡◌, ℕ, ⊤, Bool, false, [], ◌∷◌, if◌then◌else◌, Option, Some, None}
 use Rattle.rm_layers.specs.Applications.{Slots, has_slot, is_same}
 
 -- a slot has what it had, or a protocol that had none

@@ -1,6 +1,6 @@
 use Rattle.rm_collect.specs.Held.{Held}
 use Rattle.rm_collect.specs.Group.{HasBegun}
-use Rattle.rm_collect.proofs.Turning.{well_turned, stands_turned}
+use Rattle.rm_collect.proofs.Turning.{stands_turned}
 use Rattle.rm_collect.proofs.turned.complete.Goals as goal
 
 pub returns-clause-stands : goal.returns-clause-stands

@@ -1,4 +1,4 @@
-use Rattle.std.proofs.Common.{◌≡◌, ℕ, ◌+◌, ◌<◌, length, None, arith, ◌∙◌}
+use Rattle.std.proofs.Common.{◌≡◌, None, arith, ◌∙◌}
 use Rattle.rm_layer_slots.specs.Settled.{kept_in}
 use Rattle.rm_layer_slots.proofs.FillLemmas.{next_slot, all_slots}
 use Rattle.rm_layer_slots.proofs.settling.kept.Goals as goal

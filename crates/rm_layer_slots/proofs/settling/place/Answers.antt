@@ -1,5 +1,4 @@
-use Rattle.std.proofs.Common.{◌≡◌, sym, ap, ◌∙◌, Some, None}
-use Rattle.rm_layer_slots.specs.Settled.{put_first, placed}
+use Rattle.std.proofs.Common.{sym, ap, ◌∙◌}
 use Rattle.rm_layer_slots.proofs.SettledLemmas.{put_at, put_where}
 use Rattle.rm_layer_slots.proofs.settling.place.Goals as goal
 

@@ -1,4 +1,4 @@
-use Rattle.std.proofs.Common.{◌≡◌, ℕ, ◌+◌, suc, arith, ◌∙◌, sym, ap, subst, Some}
+use Rattle.std.proofs.Common.{◌≡◌, ◌+◌, suc, arith, ◌∙◌, sym, ap, subst, Some}
 use Rattle.std.proofs.lemmas.List.{take_all}
 use Rattle.rm_layer_slots.proofs.SettledLemmas.{begins, skips, places, ends, got, IsSettling}
 use Rattle.rm_layer_slots.proofs.settling.settle.Goals as goal
