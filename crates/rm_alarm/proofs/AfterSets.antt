@@ -1,8 +1,8 @@
 -- The alarms after a Set with which nothing is wrong.
 use Rattle.std.proofs.Common.{◌≡◌, ℕ, ◌+◌, ◌*◌, ◌<◌, List, [], ◌∷◌, length, true, false, cond, ◌&&◌, Option, Some, None, refl, sym, ap, subst, ◌∙◌, nat_eq, option_map, arith}
-use Rattle.std.specs.Prelude.{pos, negsuc, unwrap_or}
+use Rattle.std.specs.Prelude.{pos, unwrap_or}
 use Rattle.std.specs.Option.{option_or}
-use Rattle.rm_val.specs.Val.{Val, int, octets, null, name, ip, counter, gauge, ticks, opaque_octets, big, no_object, no_instance, end_of_view}
+use Rattle.rm_val.specs.Val.{Val, name, counter}
 use Rattle.rm_model.specs.Counting.{Counting}
 use Rattle.rm_model.specs.Journal.{Act, Assignments, Journal, assigns, value_given}
 use Rattle.rm_model.specs.ControlTable.{default_of}

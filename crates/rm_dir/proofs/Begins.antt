@@ -21,7 +21,7 @@ use Rattle.rm_path.proofs.Identifiers.{same_number, same_is, is_itself}
 use Rattle.rm_dir.specs.declared.row.DirectoryRow.{DirectoryRow}
 use Rattle.rm_dir.specs.Support.{support_number}
 use Rattle.rm_dir.specs.BuiltIn.{BuiltIn, built_in_rows, built_in, is_built_in, is_countable, built_in_local}
-use Rattle.rm_dir.specs.DirectoryIndex.{directory_index, directory_number, is_directory_row, identified, indexed, index_with, may_have_row, row_protocol, protocol_of, protocol_is, of_number, row_of}
+use Rattle.rm_dir.specs.DirectoryIndex.{directory_index, is_directory_row, identified, indexed, index_with, may_have_row, row_protocol, protocol_of, protocol_is, row_of}
 use Rattle.rm_dir.specs.DirectoryIndex as index
 use Rattle.rm_dir.specs.DirectoryRows.{set_to}
 use Rattle.rm_dir.specs.ProtocolDir.{protocol_dir, directory_beginning, built_in_set, first_config}

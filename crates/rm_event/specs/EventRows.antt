@@ -1,5 +1,5 @@
 -- What is kept of the columns of a row of eventTable.
-use Rattle.std.specs.Prelude.{ℕ, [], nat_eq, if◌then◌else◌, Option, Some, None, refl}
+use Rattle.std.specs.Prelude.{ℕ, [], nat_eq, if◌then◌else◌, Option, None, refl}
 use Rattle.rm_val.specs.Val.{Val}
 use Rattle.rm_model.specs.ControlTable.{text_column, owner_column}
 use Rattle.rm_acts.specs.Events.{type_column}

@@ -4,7 +4,7 @@ use Rattle.std.specs.List.{slice_get}
 use Rattle.rm_model.specs.Journal.{Frame, Journal, passes}
 use Rattle.rm_pcap.specs.Records.{Stop}
 use Rattle.rm_pdu.specs.Message.{Message, message_octets}
-use Rattle.rm_pdu.specs.Parse.{Parse, message, IsParse}
+use Rattle.rm_pdu.specs.Parse.{Parse, message}
 use Rattle.rm_settings.specs.declared.settings.Settings.{Settings}
 use Rattle.rm_agent.specs.declared.answer.Reason.{Reason}
 use Rattle.rm_agent.specs.Answers.{reason_for, IsReplyAfter}

@@ -1,5 +1,5 @@
 -- What is said, one after the other.
-use Rattle.std.proofs.Common.{List, [], ◌++◌, map, ap, subst, sym, ◌∙◌, append_assoc}
+use Rattle.std.proofs.Common.{List, [], ◌++◌, map, subst, sym, append_assoc}
 use Rattle.std.proofs.lemmas.List.{append-nil}
 use mathlib.Core.List.{map-append}
 use Rattle.rm_probe.specs.Notes.{Note}

@@ -15,7 +15,7 @@ use Rattle.rm_probe.specs.Events.{Event, Asks, comings, frames_after, is_by}
 use Rattle.rm_requests.specs.Lines.{TimedDatagram}
 use Rattle.rm_probe.specs.Notes.{Note}
 use Rattle.rm_probe.specs.Said.{Response, Said, Notified, Responded, Last, stop_by, stop_before}
-use Rattle.rm_probe.specs.Probe.{settings_of, Stands}
+use Rattle.rm_probe.specs.Probe.{settings_of}
 use Rattle.rm_probe.specs.Steps.{HasBegun, Advanced, Answers, FailsBy, IsForeign, IsLastLine, IsLastSaid, IsNextSaid, IsOfCapture, IsResponse, Leaves, SaysFrom, SaysNext, told_by}
 use Rattle.rm_probe.specs.declared.status.Status.{Status}
 use Rattle.rm_probe.specs.declared.status.Status.TheVariants.{Done, Usage, BadCapture, BadRequests, ReadFault, WriteFault, NoMemory, LinkFault, TooLong}

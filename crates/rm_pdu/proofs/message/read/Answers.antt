@@ -1,6 +1,5 @@
-use Rattle.std.proofs.Common.{◌≤◌, ℕ, List, Bool, Result, Ok, Err, length, refl, subst, arith}
+use Rattle.std.proofs.Common.{◌≤◌, ℕ, List, Bool, Ok, Err, length, refl, subst, arith}
 use Rattle.rm_pdu.specs.declared.places.Offsets.{Offsets}
-use Rattle.rm_pdu.specs.declared.message.Message.{Message as Told}
 use Rattle.rm_pdu.specs.declared.message.Fault.{Fault}
 use Rattle.rm_pdu.specs.declared.message.Fault.TheVariants.{TooLong, Malformed, Version, NotRequest}
 use Rattle.rm_pdu.specs.Parse.{Parse, message, IsParse}
