@@ -1,5 +1,5 @@
 -- What is reached by some numbers is what they are above.
-use Rattle.std.proofs.Common.{◌≡◌, ℕ, zero, suc, ◌-◌, ◌<◌, ◌≤◌, ◌^◌, ◌⊎◌, ◌↔◌, min, nat_le, nat_lt, List, [], ◌∷◌, ◌++◌, length, drop, true, false, Option, Some, None, IfSome, refl, sym, ap, ◌∙◌, arith, subst, inl, inr}
+use Rattle.std.proofs.Common.{◌≡◌, ℕ, suc, ◌-◌, ◌<◌, ◌≤◌, ◌^◌, ◌⊎◌, ◌↔◌, min, nat_le, nat_lt, List, [], ◌∷◌, ◌++◌, length, drop, true, false, Option, Some, None, IfSome, refl, sym, ◌∙◌, arith, subst, inl, inr}
 use Rattle.std.specs.Prelude.{slice_get, ⊤}
 use Rattle.std.specs.Option.{option_map}
 use Rattle.std.specs.Ordering.{ordering_then, nat_cmp}

@@ -1,8 +1,8 @@
 -- The test of whether numbers are within bounds tells it.
-use Rattle.std.proofs.Common.{◌≡◌, ℕ, suc, ◌≤◌, ◌↔◌, Bool, true, false, ◌&&◌, nat_le, List, [], ◌∷◌, length, refl, ap, arith}
+use Rattle.std.proofs.Common.{◌≡◌, ℕ, suc, ◌↔◌, Bool, true, false, ◌&&◌, nat_le, List, [], ◌∷◌, length, refl, ap}
 use Rattle.std.proofs.lemmas.Bool.{and_parts, leb-true, le-leb}
 use Rattle.rm_walk_places.specs.declared.places.Bounds.{Bounds}
-use Rattle.rm_walk_places.specs.Within.{AreBounds, AreWithin, are_within}
+use Rattle.rm_walk_places.specs.Within.{AreWithin, are_within}
 
 and_both : (a b : Bool) → a ≡ true → b ≡ true → (a && b) ≡ true
 and_both true b first second = second

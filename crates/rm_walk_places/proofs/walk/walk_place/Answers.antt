@@ -1,4 +1,3 @@
-use Rattle.std.proofs.Common.{drop}
 use Rattle.rm_walk_places.proofs.ReachedLemmas.{first_place, walk_place_is}
 use Rattle.rm_walk_places.proofs.walk.walk_place.Goals as goal
 
