@@ -1,0 +1,4 @@
+pub mod Order
+pub mod WithinLaws
+pub mod ReachedLemmas
+pub mod LoweredLemmas

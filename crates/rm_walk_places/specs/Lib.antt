@@ -1,0 +1,4 @@
+pub mod Within
+pub mod WalkPlaces
+pub mod Lowered
+pub mod Numbers
