@@ -12,8 +12,7 @@ use Rattle.rm_dir.specs.DirectoryIndex.{index_with}
 use Rattle.rm_dir.specs.ProtocolDir.{directory_entry}
 use Rattle.rm_layer_slots.specs.On.{protocols_named}
 use Rattle.rm_hl_hosts.specs.Control.{control_entry}
-use Rattle.rm_hl_hosts.specs.NlHost.{network_entry}
-use Rattle.rm_hl_hosts.specs.AlHost.{application_entry}
+use Rattle.rm_hl_hosts.specs.Hosts.{network_entry, application_entry}
 use Rattle.rm_hl_hosts.specs.HostCells.{host_cells}
 
 -- an address of IP, and a frame with a datagram of UDP from one host to another, by the low octets of its ports

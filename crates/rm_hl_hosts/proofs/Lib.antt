@@ -1,7 +1,1 @@
-pub mod PathLemmas
-pub mod OnLemmas
-pub mod TurnLemmas
-pub mod PlaceLemmas
-pub mod ReachedLemmas
-pub mod WalkLemmas
 pub mod Examples

@@ -1,12 +1,7 @@
--- The columns of hlHostControl, nlHost and alHost (RFC 2021, section 6).
+-- The columns of nlHost and alHost (RFC 2021, section 6).
 use Rattle.std.specs.Prelude.{ℕ, ◌-◌, List, [], ◌∷◌, nat_eq, if◌then◌else◌}
 use Rattle.rm_layer_hosts.specs.declared.counts.NetworkCounts.{NetworkCounts}
 use Rattle.rm_layer_hosts.specs.declared.counts.Traffic.{Traffic}
-
--- the columns of hlHostControl that are answered: the data source, dropped frames, rows that were entered and rows that are gone, and the
--- most desired rows, of the network layer and of the application layer, the owner and the status
-abbrev pub control_columns : List ℕ
-control_columns = 2 ∷ 3 ∷ 4 ∷ 5 ∷ 6 ∷ 7 ∷ 8 ∷ 9 ∷ 10 ∷ 11 ∷ 12 ∷ []
 
 -- those of nlHost: packets and octets in and out, packets out to more than one host, and the time of creation
 abbrev pub network_columns : List ℕ

@@ -1,14 +1,18 @@
 // A frame comes to the hosts of a row of hlHostControl.
 ghost use Rattle.std.specs.Prelude.{◌≡◌, ℕ, ◌+◌, ◌/◌, ◌<◌, ◌≤◌, ◌^◌, ◌∷◌};
+ghost use Rattle.std.specs.Str.{bytes_eq};
 ghost use Rattle.rm_val.specs.Val.{name};
 ghost use Rattle.rm_model.specs.Counting.{Counting};
 ghost use Rattle.rm_model.specs.FrameFacts.{frame_facts};
 ghost use Rattle.rm_model.specs.Interfaces.{interface_name};
 ghost use Rattle.rm_model.specs.Journal.{Frame, Journal, passes};
 ghost use Rattle.rm_layer_events.specs.Side.{next_stamp};
-ghost use Rattle.rm_hl_hosts.specs.Control.{control_set};
-ghost use Rattle.rm_hl_hosts.specs.HostSide.{locals_above_ip};
-ghost use Rattle.rm_hl_hosts.specs.Standing.{IsHosts};
+ghost use Rattle.rm_layer_hosts.specs.Counts.{host_tally};
+ghost use Rattle.rm_layer_tables.specs.Control.{control_set};
+ghost use Rattle.rm_layer_tables.specs.Layer.{locals_above_ip};
+ghost use Rattle.rm_layer_tables.specs.Standing.{IsHeld};
+ghost use Rattle.rm_hl_hosts.specs.Control.{control_entry};
+ghost use Rattle.rm_hl_hosts.specs.Hosts.{host_layer};
 
 use rm_layer_hosts::{Named, NetworkCounts, pass, received, sent};
 use rm_proto::Facts;
@@ -36,8 +40,8 @@ pub(crate) fn take_frame(
     ensures latest { hosts.new.latest ≤ tick }
     ensures stands { (settings : Counting) (row : ℕ) (journal : Journal) (frame : Frame) → facts.now ≡ frame_facts settings frame
         → stamp ≡ next_stamp journal → tick ≡ frame.moment / 10
-        → name (interface_name source) ≡ control_set journal row 2 → path.now ≡ locals_above_ip journal facts.now
-        → IsHosts settings journal row hosts.old → IsHosts settings (passes frame ∷ journal) row hosts.new }
+        → name (interface_name source) ≡ control_set control_entry journal row 2 → path.now ≡ locals_above_ip journal facts.now
+        → IsHeld host_layer host_tally bytes_eq settings journal row hosts.old → IsHeld host_layer host_tally bytes_eq settings (passes frame ∷ journal) row hosts.new }
 {
     if !facts.good || source != facts.interface {
         return;

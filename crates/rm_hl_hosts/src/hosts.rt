@@ -1,36 +1,33 @@
 // What the rows of hlHostControl collect.
 ghost use Rattle.std.specs.Prelude.{◌≡◌};
 
-use crate::by_application::{APPLICATION_OBJECTS, ByApplication};
-use crate::by_host::{ByHost, NETWORK_OBJECTS};
+use crate::control::{CONTROL_OBJECTS, HostColumns};
 use crate::counted_frame::CountedFrame;
 use crate::part::HostPart;
-use crate::row::{CONTROL_OBJECTS, HostControlRow};
-use crate::shared::HostShared;
-use crate::shown::control_counter;
-use crate::turning::turn;
+use crate::view::{APPLICATION_OBJECTS, HostView, NETWORK_OBJECTS};
 use rm_collect::{ByOther, Collected, RowColumns, SampledTables, Turned};
 use rm_group::{Assigns, Passing, TableObjects};
 use rm_keyed::{PartRows, cell_of_two, judge_two, next_of_two};
-use rm_layer_slots::{HasDirectory, settle};
+use rm_layer_slots::{HasDirectory, TableKind};
+use rm_layer_tables::{ByApplication, ByNetwork, LayerShared, control_counter};
 use rm_model::Verdict;
 use rm_pool::Pool;
 use rm_status::Row;
 use rm_val::{Oid, Value};
 
 /// nlHostTable and alHostTable, as they are shown.
-type Hosts<'a> = PartRows<'a, ByHost>;
+type Hosts<'a> = PartRows<'a, ByNetwork<HostView>>;
 
-type Applications<'a> = PartRows<'a, ByApplication>;
+type Applications<'a> = PartRows<'a, ByApplication<HostView>>;
 
 /// The tables, the control table first.
 const OBJECTS: &[TableObjects] = &[CONTROL_OBJECTS, NETWORK_OBJECTS, APPLICATION_OBJECTS];
 
-#[tactic(auto, unfolding(crate::specs::Collection::host_collection))]
+#[tactic(auto, unfolding(crate::specs::Collection::host_collection, rm_layer_tables::specs::ControlColumns::layer_rows))]
 impl Collected for HostPart {
-    type Columns = HostControlRow;
+    type Columns = HostColumns;
 
-    type Shared = HostShared;
+    type Shared = LayerShared;
 
     type Judged = u32;
 
@@ -39,8 +36,9 @@ impl Collected for HostPart {
 
     ghost collection = { host_collection };
 
-    fn begin(&mut self, columns: &HostControlRow, shared: &HostShared, _now: u32) {
-        self.restart(columns, shared);
+    fn begin(&mut self, columns: &HostColumns, shared: &LayerShared, _now: u32) {
+        self.hosts.begin(columns, shared);
+        self.source = columns.source;
     }
 
     // A frame has two stamps, for its two references.
@@ -57,16 +55,16 @@ impl Collected for HostPart {
     fn other(
         parts: &Pool<HostPart>,
         index: u32,
-        _row: &Row<HostControlRow>,
+        _row: &Row<HostColumns>,
         column: u32,
     ) -> Value<'static> {
         match parts.get(index) {
-            Some(part) => Value::Counter(control_counter(&part.hosts, column)),
+            Some(part) => Value::Counter(control_counter(&part.hosts.table, column)),
             None => Value::Counter(0),
         }
     }
 
-    fn inner_cell<'a, R: RowColumns<HostControlRow>>(
+    fn inner_cell<'a, R: RowColumns<HostColumns>>(
         _rows: &'a R,
         parts: &'a Pool<HostPart>,
         name: &Oid,
@@ -75,7 +73,7 @@ impl Collected for HostPart {
         cell_of_two(&Hosts { parts }, &Applications { parts }, name, now)
     }
 
-    fn inner_after<'a, R: RowColumns<HostControlRow>>(
+    fn inner_after<'a, R: RowColumns<HostColumns>>(
         _rows: &'a R,
         parts: &'a Pool<HostPart>,
         name: &Oid,
@@ -112,17 +110,15 @@ impl Collected for HostPart {
 
 #[tactic(auto, unfolding(crate::specs::Collection::host_collection))]
 impl Turned for HostPart {
-    fn turn(&mut self, shared: &HostShared, given: u32) {
+    fn turn(&mut self, shared: &LayerShared, given: u32) {
         let stamp = 2 * u64::from(given);
-        let slots = settle(&self.slots, &shared.slots);
-        turn(&mut self.hosts, shared.on, &slots, stamp);
-        self.slots = slots;
+        self.hosts.turn(shared, stamp);
     }
 }
 
 #[tactic(auto, unfolding(crate::specs::Collection::host_collection))]
 impl<G: HasDirectory> ByOther<G> for HostPart {
-    fn shared_by(before: &HostShared, other: &G) -> HostShared {
-        HostShared::by(other.directory(), before.upper)
+    fn shared_by(before: &LayerShared, other: &G) -> LayerShared {
+        LayerShared::by(TableKind::Hosts, other.directory(), before.upper)
     }
 }

@@ -1,16 +1,16 @@
 // What a manager sees of the hosts of a row, worked out from frames. They have 60 octets without the check sequence.
 ghost use Rattle.std.specs.Prelude.{◌≡◌, ◌+◌, ◌<◌, ◌≤◌, ◌^◌};
 
-use crate::by_application::ByApplication;
-use crate::by_host::ByHost;
 use crate::frames::take_frame;
-use crate::shown::control_counter;
-use crate::{HostControlRow, HostPart, HostShared, locals_above_ip};
-use rm_collect::Turned;
+use crate::view::HostView;
+use crate::{HostColumns, HostPart};
+use rm_collect::{Collected, Turned};
 use rm_columns::ControlRow;
 use rm_dir::Directory;
 use rm_keyed::KeyTable;
 use rm_layer_hosts::NetworkCounts;
+use rm_layer_slots::TableKind;
+use rm_layer_tables::{ByApplication, ByNetwork, LayerShared, control_counter, locals_above_ip};
 use rm_pool::Part;
 use rm_proto::{Cast, Facts, IpPair, Ports};
 use rm_upper::LayerTable;
@@ -92,7 +92,7 @@ fn host_value(
     last: u32,
     column: u32,
 ) -> Result<Option<u32>, Fail> {
-    shown::<ByHost>(part, now, &[1, mark, 2, 4, 10, 0, 0, last], column)
+    shown::<ByNetwork<HostView>>(part, now, &[1, mark, 2, 4, 10, 0, 0, last], column)
 }
 
 // And one of alHost of a protocol of it.
@@ -105,23 +105,23 @@ fn application_value(
     column: u32,
 ) -> Result<Option<u32>, Fail> {
     let index = [1, mark, 2, 4, 10, 0, 0, last, protocol];
-    shown::<ByApplication>(part, now, &index, column)
+    shown::<ByApplication<HostView>>(part, now, &index, column)
 }
 
 // The hosts share what is on by the directory.
-fn shared(directory: &Directory) -> HostShared {
-    HostShared::by(directory, 1024)
+fn shared(directory: &Directory) -> LayerShared {
+    LayerShared::by(TableKind::Hosts, directory, 1024)
 }
 
 // Two frames of three hosts, of which the row has room for two: the second evicts the host that was named least recently.
 #[test]
 fn hosts_give_way(rt: HostRuntime) -> Result<(), Fail> {
     let mut part = HostPart::spare(rt.alloc())?;
-    let mut columns = HostControlRow::blank(1);
+    let mut columns = HostColumns::blank(1);
     columns.network = 2;
-    part.restart(&columns, &shared(&Directory::new()));
-    pass(&mut part.hosts, 0, 100, &query(1, 2));
-    pass(&mut part.hosts, 1, 150, &query(1, 3));
+    part.begin(&columns, &shared(&Directory::new()), 1000);
+    pass(&mut part.hosts.table, 0, 100, &query(1, 2));
+    pass(&mut part.hosts.table, 1, 150, &query(1, 3));
     assert_eq!(rt; host_value(&part, 2000, 0, 1, 4)?, Some(2));
     assert_eq!(rt; host_value(&part, 2000, 150, 1, 6)?, Some(128));
     assert_eq!(rt; host_value(&part, 2000, 151, 1, 4)?, None);
@@ -130,10 +130,10 @@ fn hosts_give_way(rt: HostRuntime) -> Result<(), Fail> {
     assert_eq!(rt; host_value(&part, 2000, 0, 1, 8)?, Some(100));
     assert_eq!(rt; application_value(&part, 2000, 0, 3, DOMAIN, 2)?, Some(1));
     assert_eq!(rt; application_value(&part, 2000, 0, 3, DOMAIN, 6)?, Some(150));
-    assert_eq!(rt; control_counter(&part.hosts, 4), 3);
-    assert_eq!(rt; control_counter(&part.hosts, 5), 1);
-    assert_eq!(rt; control_counter(&part.hosts, 8), 6);
-    assert_eq!(rt; control_counter(&part.hosts, 9), 2);
+    assert_eq!(rt; control_counter(&part.hosts.table, 4), 3);
+    assert_eq!(rt; control_counter(&part.hosts.table, 5), 1);
+    assert_eq!(rt; control_counter(&part.hosts.table, 8), 6);
+    assert_eq!(rt; control_counter(&part.hosts.table, 9), 2);
     Ok(())
 }
 
@@ -143,20 +143,20 @@ fn ip_is_turned(rt: HostRuntime) -> Result<(), Fail> {
     let mut part = HostPart::spare(rt.alloc())?;
     let directory = Directory::new();
     let mut shared = shared(&directory);
-    part.restart(&HostControlRow::blank(1), &shared);
-    pass(&mut part.hosts, 0, 100, &query(1, 2));
+    part.begin(&HostColumns::blank(1), &shared, 1000);
+    pass(&mut part.hosts.table, 0, 100, &query(1, 2));
     shared.on = false;
     part.turn(&shared, 1);
-    assert_eq!(rt; control_counter(&part.hosts, 5), 2);
+    assert_eq!(rt; control_counter(&part.hosts.table, 5), 2);
     shared.on = true;
     shared.slots = [None; 32];
     part.turn(&shared, 1);
     let mut bad = query(1, 2);
     bad.good = false;
-    pass(&mut part.hosts, 1, 200, &bad);
-    pass(&mut part.hosts, 2, 300, &query(1, 2));
+    pass(&mut part.hosts.table, 1, 200, &bad);
+    pass(&mut part.hosts.table, 2, 300, &query(1, 2));
     assert_eq!(rt; host_value(&part, 4000, 0, 2, 3)?, Some(1));
     assert_eq!(rt; application_value(&part, 4000, 0, 2, UDP, 2)?, None);
-    assert_eq!(rt; control_counter(&part.hosts, 4), 4);
+    assert_eq!(rt; control_counter(&part.hosts.table, 4), 4);
     Ok(())
 }

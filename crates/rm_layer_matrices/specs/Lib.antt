@@ -2,5 +2,3 @@ pub mod AddressPairs
 pub mod PairLaws
 pub mod PairCounts
 pub mod PairRow
-pub mod Renamed
-pub mod Passing

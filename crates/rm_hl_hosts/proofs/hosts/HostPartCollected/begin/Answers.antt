@@ -1,12 +1,15 @@
 use Rattle.std.proofs.Common.{◌∙◌, ap}
 use Rattle.rm_val.specs.Val.{name}
 use Rattle.rm_model.specs.Interfaces.{interface_name}
+use Rattle.rm_model.specs.Journal.{assigns}
+use Rattle.rm_layer_tables.specs.ControlColumns.{layer_rows}
 use Rattle.rm_hl_hosts.specs.Collection.{host_collection}
+use Rattle.rm_hl_hosts.specs.Hosts.{host_layer}
 use Rattle.rm_hl_hosts.proofs.hosts.HostPartCollected.begin.Goals as goal
 
 pub returns-clause-begun : goal.returns-clause-begun
-unfolding host_collection
+unfolding host_collection layer_rows
 returns-clause-begun c settings values earlier row shared idle valid fresh = record {
-  source = ap (λ number. name (interface_name number)) c.restart.ensures.source ∙ fresh.columns_are.0.shown;
-  hosts = c.restart.ensures.begun settings row c.args._now values earlier shared fresh.columns_are.1.0.shown fresh.columns_are.1.1.0.shown idle valid;
+  source = fresh.columns_are.0.shown;
+  hosts = c.begin.ensures.begun host_layer settings row (assigns c.args._now values) earlier shared fresh.columns_are.1.0.shown fresh.columns_are.1.1.0.shown idle valid;
 }

@@ -1,0 +1,10 @@
+pub mod Columns
+pub mod Control
+pub mod Pairs
+pub mod PairCells
+pub mod PairLaws
+pub mod Collection
+pub mod Going
+pub mod SameCells
+pub mod Listing
+pub mod Lawful

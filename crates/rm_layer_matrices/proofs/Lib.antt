@@ -1,4 +1,0 @@
-pub mod RenamedKeys
-pub mod RenamedEvents
-pub mod RenamedRows
-pub mod RenamedSides

@@ -1,0 +1,5 @@
+pub mod PathLemmas
+pub mod OnLemmas
+pub mod TurnLemmas
+pub mod PlaceLemmas
+pub mod WalkLemmas
