@@ -10,4 +10,4 @@ sources_askable keeps moment asked = asked.1.1.0
 -- so they may be while these stay the same
 pub still_askable : (keeps then : Groups) (moment : ℕ) → collectors_of then ≡ collectors_of keeps → all_groups.askable keeps moment → all_groups.askable then moment
 still_askable keeps then moment same asked =
-    (tt, (tt, (((tt, subst (λ (held : Collectors). IsAskable held moment) (sym same) asked.1.1.0.0.1), (((tt, tt), tt), (tt, tt))), tt)))
+    (tt, (tt, (((tt, subst (λ (held : Collectors). IsAskable held moment) (sym same) asked.1.1.0.0.1), ((((tt, tt), tt), tt), (tt, tt))), tt)))

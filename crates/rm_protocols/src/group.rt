@@ -3,7 +3,7 @@ use crate::protocol_tables::{Groups, ProtocolTables};
 use rm_group::{
     Assigns, Commits, Denied, Group, Look, NeverDue, Objects, Passing, Readable, Steps, Unfired,
 };
-use rm_hl_hosts::locals_above_ip;
+use rm_layer_tables::locals_above_ip;
 use rm_model::Verdict;
 use rm_val::{Oid, Value};
 use std::alloc::Global;
@@ -17,7 +17,7 @@ impl Group for ProtocolTables {
 
     ghost clock = { last_given };
 
-    ghost askable = { λ s moment. (Unit {0} × Unit {0}) × Unit {0} };
+    ghost askable = { λ s moment. ((Unit {0} × Unit {0}) × Unit {0}) × Unit {0} };
 
     ghost frames = { frames_given };
 
@@ -110,11 +110,11 @@ impl Readable for ProtocolTables {
     ghost shown = { λ s now. shown s };
 
     fn value(&self, name: &Oid, now: u32) -> Option<Value<'_>> {
-        self.groups.first.value(name, now)
+        self.groups.first.first.value(name, now)
     }
 
     fn shows(&self, now: u32) {
-        self.groups.first.shows(now);
+        self.groups.first.first.shows(now);
     }
 
     ghost recurring = { all_recurring };
@@ -125,17 +125,20 @@ impl Readable for ProtocolTables {
 impl Unfired for ProtocolTables {
     fn take_frame(&mut self, passing: &Passing<'_>) {
         let facts = &passing.facts;
-        let distributed = &mut self.groups.first;
+        let distributed = &mut self.groups.first.first;
         let above_ip = locals_above_ip(&distributed.first, facts);
         distributed
             .second
             .frame(&distributed.first, facts, passing.moment);
         distributed.first.pass(passing);
-        let hosts = &mut self.groups.second.collecting;
-        hosts.take_judged(above_ip.as_slice(), passing);
+        let path = above_ip.as_slice();
+        let hosts = &mut self.groups.first.second.collecting;
+        hosts.take_judged(path, passing);
+        let pairs = &mut self.groups.second.collecting;
+        pairs.take_judged(path, passing);
     }
 }
 
 impl NeverDue for ProtocolTables {
-    ghost always_asked = { λ s moment. ((tt, tt), tt) };
+    ghost always_asked = { λ s moment. (((tt, tt), tt), tt) };
 }

@@ -8,20 +8,28 @@ use rm_collect::{Collecting, CollectingBeside};
 use rm_dir::Directory;
 use rm_dist::Distribution;
 use rm_group::{Both, sample_begins};
-use rm_hl_hosts::{HostPart, HostShared};
+use rm_hl_hosts::HostPart;
+use rm_hl_matrices::PairPart;
+use rm_layer_slots::TableKind;
+use rm_layer_tables::LayerShared;
 use rm_settings::Settings;
 use rm_val::NoMemory;
 use std::alloc::Global;
 
-/// The directory, and beside it the distribution; and beside both the hosts of the network and application layer.
-pub(crate) type Groups = Both<Distributed, CollectingBeside<HostPart>>;
+/// The directory, with the distribution and the hosts; and beside all of these the pairs of hosts of the network and application layer.
+pub(crate) type Groups = Both<WithHosts, CollectingBeside<PairPart>>;
+
+/// The directory and the distribution, and beside both the hosts of the network and application layer.
+type WithHosts = Both<Distributed, CollectingBeside<HostPart>>;
 
 /// The directory, and beside it the distribution.
 type Distributed = Both<Directory, Distribution>;
 
 /// The directory of the protocols that the probe knows, and what counts by it (RFC 2021, section 6): protocolDirTable with
-/// protocolDirLastChange; protocolDistControlTable with protocolDistStatsTable; hlHostControlTable with nlHostTable and alHostTable. A frame
-/// counts by the protocols that are active in the directory when it passes, and for hosts by those of them that are on for hosts.
+/// protocolDirLastChange; protocolDistControlTable with protocolDistStatsTable; hlHostControlTable with nlHostTable and alHostTable;
+/// hlMatrixControlTable with nlMatrixSDTable, nlMatrixDSTable, alMatrixSDTable and alMatrixDSTable. A frame counts by the protocols that are
+/// active in the directory when it passes: for hosts by those of them that are on for hosts, and for pairs of hosts by those that are on for
+/// these.
 #[derive(Drop)]
 pub struct ProtocolTables {
     pub(crate) groups: Groups,
@@ -37,27 +45,33 @@ impl ProtocolTables {
         ensures last { last_given result ≡ 0 }
     {
         let directory = Directory::new();
-        let shared = HostShared::by(&directory, settings.upper);
-        let collecting = Collecting::new(shared);
+        let host_shared = LayerShared::by(TableKind::Hosts, &directory, settings.upper);
+        let pair_shared = LayerShared::by(TableKind::Matrices, &directory, settings.upper);
+        let hosts = Collecting::new(host_shared);
+        let pairs = Collecting::new(pair_shared);
         ProtocolTables {
             groups: Both {
                 first: Both {
-                    first: directory,
-                    second: Distribution::new(),
+                    first: Both {
+                        first: directory,
+                        second: Distribution::new(),
+                    },
+                    second: CollectingBeside { collecting: hosts },
                 },
-                second: CollectingBeside { collecting },
+                second: CollectingBeside { collecting: pairs },
             },
         }
     }
 
-    /// Takes the storage of one row of hlHostControl, which is needed before the first Set. No variable changes. NoMemory where there is
-    /// none.
+    /// Takes the storage of one row of hlHostControl, and then that of one row of hlMatrixControl, which are needed before the first Set. No
+    /// variable changes. NoMemory where there is none for one of them; what was taken before that stays.
     pub fn reserve(&mut self, alloc: Global) -> Result<(), NoMemory>
         ensures stands { (settings : Counting) (journal : Journal) → Stands self.old settings journal → Stands self.new settings journal }
         ensures stocked { OnOk result (IsStocked self.new) }
         ensures frames { frames_given self.new ≡ frames_given self.old }
         ensures last { last_given self.new ≡ last_given self.old }
     {
+        self.groups.first.second.collecting.reserve(alloc)?;
         self.groups.second.collecting.reserve(alloc)
     }
 
@@ -67,9 +81,11 @@ impl ProtocolTables {
         ensures { (settings : Counting) (earlier : Journal) (alarm : ℕ) (reading : Option ℤ) → Stands self.now settings earlier
             → last_moment earlier ≤ moment → Stands self.now settings (samples moment alarm reading ∷ earlier) }
     {
-        let distributed = &self.groups.first;
+        let with_hosts = &self.groups.first;
+        let distributed = &with_hosts.first;
         sample_begins(&distributed.first, moment);
         distributed.second.sample_begins(moment);
+        with_hosts.second.collecting.sample_begins(moment);
         self.groups.second.collecting.sample_begins(moment);
     }
 }

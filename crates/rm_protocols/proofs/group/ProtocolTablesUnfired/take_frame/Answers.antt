@@ -1,6 +1,7 @@
 use Rattle.std.proofs.Common.{rules, sym, ap, ◌∙◌}
 use Rattle.rm_hl_hosts.specs.Collection.{host_collection}
-use Rattle.rm_hl_hosts.specs.HostSide.{locals_above_ip}
+use Rattle.rm_hl_matrices.specs.Collection.{pair_collection}
+use Rattle.rm_layer_tables.specs.Layer.{locals_above_ip}
 use Rattle.rm_protocols.specs.Group.{Stands}
 use Rattle.rm_protocols.proofs.group.ProtocolTablesUnfired.take_frame.Goals as goal
 
@@ -8,14 +9,23 @@ pub take_judged-requires : goal.take_judged-requires
 unfolding host_collection
 take_judged-requires c = (search rules, (search rules, (search rules, (search rules, tt))))
 
+pub take_judged-requires-2 : goal.take_judged-requires-2
+unfolding pair_collection
+take_judged-requires-2 c = (search rules, (search rules, (search rules, (search rules, tt))))
+
 pub returns-clause-stands : goal.returns-clause-stands
-unfolding Stands host_collection
-returns-clause-stands c settings earlier frame is stands later asked = record {
-  first = record {
-    first = c.pass.ensures.begins settings earlier frame is stands.first.first later tt;
-    second = c.frame.ensures.stands settings earlier frame stands.first.first stands.first.second is.known (sym is.at);
-    tied = tt;
-  };
-  second = c.take_judged.ensures.stands settings earlier frame stands.second is (c.as_slice.ensures.value ∙ c.locals_above_ip-above_ip.ensures earlier stands.first.first ∙ ap (locals_above_ip earlier) is.known);
-  tied = tt;
-}
+unfolding Stands host_collection pair_collection
+returns-clause-stands c settings earlier frame is stands later asked =
+    let path = c.as_slice-path.ensures.value ∙ c.locals_above_ip-above_ip.ensures earlier stands.first.first.first ∙ ap (locals_above_ip earlier) is.known in record {
+      first = record {
+        first = record {
+          first = c.pass.ensures.begins settings earlier frame is stands.first.first.first later tt;
+          second = c.frame.ensures.stands settings earlier frame stands.first.first.first stands.first.first.second is.known (sym is.at);
+          tied = tt;
+        };
+        second = c.take_judged.ensures.stands settings earlier frame stands.first.second is path;
+        tied = tt;
+      };
+      second = c.take_judged-2.ensures.stands settings earlier frame stands.second is path;
+      tied = tt;
+    }

@@ -5,10 +5,14 @@ pub returns : goal.returns
 unfolding Stands
 returns c settings earlier alarm reading stands later = record {
   first = record {
-    first = c.sample_begins.ensures settings earlier alarm reading stands.first.first later tt;
-    second = c.sample_begins-2.ensures settings earlier alarm reading stands.first.second;
+    first = record {
+      first = c.sample_begins.ensures settings earlier alarm reading stands.first.first.first later tt;
+      second = c.sample_begins-2.ensures settings earlier alarm reading stands.first.first.second;
+      tied = tt;
+    };
+    second = c.sample_begins-3.ensures settings earlier alarm reading stands.first.second later;
     tied = tt;
   };
-  second = c.sample_begins-3.ensures settings earlier alarm reading stands.second later;
+  second = c.sample_begins-4.ensures settings earlier alarm reading stands.second later;
   tied = tt;
 }
