@@ -2,8 +2,8 @@
 
     make_keyed.py ROWS TABLE..
 
-A table is `hosts` (hostControl), `matrix` (matrixControl), `layers` (hlHostControl) or `reports` (hostTopNControl, whose rows report the hosts
-of row 1 that sent most octets in REPORT seconds).
+A table is `hosts` (hostControl), `matrix` (matrixControl), `layers` (hlHostControl), `layer_pairs` (hlMatrixControl) or `reports`
+(hostTopNControl, whose rows report the hosts of row 1 that sent most octets in REPORT seconds).
 """
 
 import sys
@@ -21,6 +21,7 @@ TABLES = {
     "matrix": (RMON + (6, 1, 1), 5, 6),
     "reports": (RMON + (5, 1, 1), 9, 10),
     "layers": (RMON + (14, 1, 1), 11, 12),
+    "layer_pairs": (RMON + (15, 1, 1), 11, 12),
 }
 
 # What the rows of a table are given before they become valid, by the numbers of the columns: hostTopNHostIndex, RateBase and
@@ -31,7 +32,7 @@ GIVEN = {"reports": {2: 1, 3: OUT_OCTETS, 4: REPORT}}
 def made_valid(word, row):
     """The SetRequests that make a row of a table valid."""
     table = TABLES[word]
-    if word == "layers":
+    if word in ("layers", "layer_pairs"):
         return [set_status(table, row, CREATE_AND_GO)]
     given = [(table[0] + (column, row), integer(number)) for column, number in GIVEN.get(word, {}).items()]
     return [set_status(table, row, CREATE_REQUEST)] + ([setting(given)] if given else []) + [set_status(table, row, VALID)]
