@@ -4,7 +4,6 @@ ghost use Rattle.std.specs.Prelude.{◌≡◌, ◌+◌, ◌<◌, ◌≤◌, ◌^
 use crate::frames::take_frame;
 use crate::view::HostView;
 use crate::{HostColumns, HostPart};
-use rm_collect::{Collected, Turned};
 use rm_columns::ControlRow;
 use rm_dir::Directory;
 use rm_keyed::KeyTable;
@@ -115,11 +114,12 @@ fn shared(directory: &Directory) -> LayerShared {
 
 // Two frames of three hosts, of which the row has room for two: the second evicts the host that was named least recently.
 #[test]
+#[tactic(auto, unfolding(rm_layer_tables::specs::ControlColumns::layer_rows))]
 fn hosts_give_way(rt: HostRuntime) -> Result<(), Fail> {
     let mut part = HostPart::spare(rt.alloc())?;
     let mut columns = HostColumns::blank(1);
     columns.network = 2;
-    part.begin(&columns, &shared(&Directory::new()), 1000);
+    part.hosts.begin(&columns, &shared(&Directory::new()));
     pass(&mut part.hosts.table, 0, 100, &query(1, 2));
     pass(&mut part.hosts.table, 1, 150, &query(1, 3));
     assert_eq!(rt; host_value(&part, 2000, 0, 1, 4)?, Some(2));
@@ -139,18 +139,19 @@ fn hosts_give_way(rt: HostRuntime) -> Result<(), Fail> {
 
 // Once ip is off no host is left, and what is turned off counts nothing.
 #[test]
+#[tactic(auto, unfolding(rm_layer_tables::specs::ControlColumns::layer_rows))]
 fn ip_is_turned(rt: HostRuntime) -> Result<(), Fail> {
     let mut part = HostPart::spare(rt.alloc())?;
     let directory = Directory::new();
     let mut shared = shared(&directory);
-    part.begin(&HostColumns::blank(1), &shared, 1000);
+    part.hosts.begin(&HostColumns::blank(1), &shared);
     pass(&mut part.hosts.table, 0, 100, &query(1, 2));
     shared.on = false;
-    part.turn(&shared, 1);
+    part.hosts.turn(&shared, 2);
     assert_eq!(rt; control_counter(&part.hosts.table, 5), 2);
     shared.on = true;
     shared.slots = [None; 32];
-    part.turn(&shared, 1);
+    part.hosts.turn(&shared, 2);
     let mut bad = query(1, 2);
     bad.good = false;
     pass(&mut part.hosts.table, 1, 200, &bad);
