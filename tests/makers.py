@@ -149,7 +149,12 @@ TABLES = {
     "protocolDistStats": (RMON + (12, 2, 1), 2, None),
     "hlHostControl": (RMON + (14, 1, 1), 12, 12),
     "nlHost": (RMON + (14, 2, 1), 8, None),
+    "hlMatrixControl": (RMON + (15, 1, 1), 12, 12),
+    "nlMatrixSD": (RMON + (15, 2, 1), 6, None),
+    "nlMatrixDS": (RMON + (15, 3, 1), 6, None),
     "alHost": (RMON + (16, 1, 1), 6, None),
+    "alMatrixSD": (RMON + (17, 1, 1), 4, None),
+    "alMatrixDS": (RMON + (17, 2, 1), 4, None),
 }
 PORT_8080 = (16, 0, 0, 0, 1, 0, 0, 8, 0, 0, 0, 0, 6, 0, 0, 31, 144, 4, 0, 0, 0, 0)
 CREATE_AND_GO = 4
@@ -191,7 +196,7 @@ def set_up(interval):
     made = [setting(status_of(it, rows[it], CREATE_REQUEST) + given(it, rows[it], columns[it])) for it in columns]
     made += [setting(status_of(it, rows[it], VALID)) for it in columns]
     directory = [(TABLES["protocolDir"][0] + (10,) + PORT_8080, integer(CREATE_AND_GO))]
-    layered = [setting(status_of(it, 1, CREATE_AND_GO)) for it in ("protocolDistControl", "hlHostControl")]
+    layered = [setting(status_of(it, 1, CREATE_AND_GO)) for it in ("protocolDistControl", "hlHostControl", "hlMatrixControl")]
     return made + layered + [setting(directory)]
 
 
@@ -203,21 +208,35 @@ def walks():
 ROW_NUMBERS = (1, 1, 1, 2, 2, 3, 16, 17, 0, 65_535, 65_536, 2**31, 2**32 - 1)
 
 
-def host_index(chosen):
-    """The index of a host of good_frame, or of a protocol of it, or the front of one."""
-    index = (1, chosen.choice((0, 1, 100, 101, 200, 2**32 - 1)), 2, 4, 10, 0, 0, chosen.randrange(9), chosen.choice((5, 6, 10, 15)))
-    return index[: chosen.choice((8, 8, 9, 9, chosen.randint(0, 9)))]
+def address(chosen):
+    """An IPv4 address of good_frame, behind its number of octets."""
+    return 4, 10, 0, 0, chosen.randrange(9)
+
+
+def layer_index(chosen, addresses):
+    """The index of a host or a pair of good_frame, which has so many addresses, or of a protocol of it, or the front of one."""
+    index = (1, chosen.choice((0, 1, 100, 101, 200, 2**32 - 1)), 2)
+    for _ in range(addresses):
+        index += address(chosen)
+    whole = len(index)
+    index += (chosen.choice((5, 6, 10, 15)),)
+    return index[: chosen.choice((whole, whole, whole + 1, whole + 1, chosen.randint(0, whole + 1)))]
+
+
+# How many addresses the index of a table has.
+ADDRESSES = {"nlHost": 1, "nlMatrixSD": 2, "nlMatrixDS": 2, "alHost": 1, "alMatrixSD": 2, "alMatrixDS": 2}
 
 
 def random_name(chosen):
     if chosen.random() < 0.1:
         return chosen.choice(((1, 3), (0, 0), (2, 2**32 - 81), RMON, INTERFACE, (1, 3, 6, 1, 2, 1, 1, 1, 0), (1, 3, 6, 1, 2, 1, 1, 3, 0)))
-    entry, columns, _ = chosen.choice(list(TABLES.values()))
+    table = chosen.choice(list(TABLES))
+    entry, columns, _ = TABLES[table]
     numbers = entry + (chosen.randint(0, columns + 1),)
-    if entry == TABLES["protocolDir"][0] and chosen.random() < 0.7:
+    if table == "protocolDir" and chosen.random() < 0.7:
         return numbers + PORT_8080
-    if entry in (TABLES["nlHost"][0], TABLES["alHost"][0]) and chosen.random() < 0.7:
-        return numbers + host_index(chosen)
+    if table in ADDRESSES and chosen.random() < 0.7:
+        return numbers + layer_index(chosen, ADDRESSES[table])
     return numbers + tuple(chosen.choice(ROW_NUMBERS) for _ in range(chosen.choice((1, 1, 1, 1, 0, 2, 3, 8))))
 
 
