@@ -15,3 +15,6 @@ returns-in-Some-clause-under_way c d settings act earlier some at under =
     let all = append_assoc some one more ∙ ap (λ (asked : List Firing). some ++ asked) (sym (asked_more earlier first rest) ∙ sym (ap (firings_asked earlier) d.in-Some.ensures.cases.0)) in
     subst (AreUnderWay d.fire_each.new.groups settings act earlier) all
     (d.fire_each.ensures.under_way settings act earlier (some ++ one) at (d.fire_one.ensures.under_way settings act earlier some at under))
+
+pub returns-in-Some-clause-stocked : goal.returns-in-Some-clause-stocked
+returns-in-Some-clause-stocked c d stocked = d.fire_each.ensures.stocked (d.fire_one.ensures.stocked stocked)
