@@ -1,5 +1,5 @@
 // What a valid alarm keeps of its samples.
-ghost use Rattle.std.specs.Prelude.{◌≡◌, ◌+◌, ◌*◌, ℤ, List, ◌∷◌, Option};
+ghost use Rattle.std.specs.Prelude.{◌≡◌, ◌+◌, ◌*◌, ℤ, List, ◌∷◌};
 ghost use Rattle.rm_acts.specs.Alarms.{difference};
 ghost use Rattle.rm_acts.specs.Crossings.{crossing};
 ghost use Rattle.rm_alarm.specs.Kept.{bounds_in, starting, value_read, Keeps};

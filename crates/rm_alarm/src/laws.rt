@@ -1,5 +1,5 @@
 // Laws of crossings, of what alarms read, and of alarms while frames pass. The bodies are empty.
-ghost use Rattle.std.specs.Prelude.{◌≡◌, ◌↔◌, ℤ, List, ◌∷◌, Bool, true, false};
+ghost use Rattle.std.specs.Prelude.{◌≡◌, ◌↔◌, ℤ, List, ◌∷◌, true, false};
 ghost use Rattle.rm_model.specs.Counting.{Counting};
 ghost use Rattle.rm_model.specs.Journal.{Journal, Frame, passes};
 ghost use Rattle.rm_alarm.specs.declared.alarms.Alarms.{Alarms};

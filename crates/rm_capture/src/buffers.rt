@@ -1,5 +1,4 @@
 // What the rows of bufferControlTable collect.
-ghost use Rattle.std.specs.Prelude.{◌≡◌};
 
 use crate::buffer::Buffer;
 use crate::buffer_row::{BUFFER_OBJECTS, BufferRow};

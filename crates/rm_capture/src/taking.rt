@@ -1,5 +1,5 @@
 // What frames and rows make of a buffer.
-ghost use Rattle.std.specs.Prelude.{◌≡◌, ℕ, ◌<◌, ◌≤◌, [], length};
+ghost use Rattle.std.specs.Prelude.{◌≡◌, ◌<◌, ◌≤◌, [], length};
 ghost use Rattle.rm_val.specs.Val.{int};
 ghost use Rattle.rm_model.specs.Counting.{Counting};
 ghost use Rattle.rm_group.specs.declared.bounds.TheConstants.{MOST_FRAMES};

@@ -9,7 +9,7 @@ ghost use Rattle.rm_words.specs.Told.{command_of, options_of};
 ghost use Rattle.rm_probe.specs.Ends.{IsComplete, IsExact};
 ghost use Rattle.rm_probe.specs.Serving.{IsIdle, ServesExactly};
 ghost use Rattle.rm_probe.specs.declared.status.Status.TheVariants.{Done, LinkFault, NoMemory, ReadFault, Usage};
-ghost use Rattle.rm_cmd.specs.Commands.{AreSet, AreUnused, Decodes, Does, EndsWith, HasPort, HavePort, IsFileOf, OfDecode, OfReplay, OfServe, OfSummary, Reads, ServesWith, Summarizes};
+ghost use Rattle.rm_cmd.specs.Commands.{AreUnused, Decodes, Does, EndsWith, HasPort, HavePort, IsFileOf, OfDecode, OfReplay, OfServe, OfSummary, Reads, ServesWith, Summarizes};
 
 use rm_decode::Unwritten;
 use rm_edge::{Clock, Link, Shelf, Sink, Words};

@@ -1,8 +1,7 @@
 // The lines of a text.
-ghost use Rattle.std.specs.Prelude.{◌≡◌, ◌++◌, ◌≤◌, OnOk, codes, decimal, flat_map, length};
+ghost use Rattle.std.specs.Prelude.{◌≡◌, ◌++◌, OnOk, codes};
 ghost use Rattle.rm_val.specs.Val.{val_of};
 ghost use Rattle.rm_pdu.specs.Answers.{parse_of};
-ghost use Rattle.rm_pdu.specs.Message.{Binding};
 ghost use Rattle.rm_decode.specs.Text.{kind_word, hex_or_dash, dot_and, dotted, value_text, binding_line, text_of};
 
 use itoa::{Buffer, Integer};

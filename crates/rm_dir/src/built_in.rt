@@ -1,5 +1,5 @@
 // The rows that the directory has from the beginning.
-ghost use Rattle.std.specs.Prelude.{◌≡◌, ◌∷◌, [], find, map, length, ◌+◌, ◌<◌, ◌^◌};
+ghost use Rattle.std.specs.Prelude.{◌≡◌, find, map, length, ◌+◌, ◌<◌, ◌^◌};
 ghost use Rattle.std.specs.List.{position_from};
 ghost use Rattle.std.specs.Option.{option_map, option_copied};
 ghost use Rattle.rm_path.specs.Identifier.{is_same};

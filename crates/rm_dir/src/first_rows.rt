@@ -2,7 +2,6 @@
 ghost use Rattle.std.specs.Prelude.{◌≡◌, ℕ, [], ◌≤◌, length, map, IsTrue, Some};
 ghost use Rattle.rm_status.specs.Rows.{row_in};
 ghost use Rattle.rm_dir.specs.BuiltInRows.{row_of};
-ghost use Rattle.rm_dir.specs.DirectoryIndex.{may_have_row};
 ghost use Rattle.rm_dir.specs.FirstRows.{columns_of, first_in, are_sound};
 ghost use Rattle.rm_dir.specs.DirectoryRows.{support_at_first};
 

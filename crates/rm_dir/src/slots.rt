@@ -1,5 +1,5 @@
 // The slots of the protocols that are active, as the rows change.
-ghost use Rattle.std.specs.Prelude.{◌≡◌, ◌<◌, ℕ, true, length, option_and_then, option_map, Some, slice_set};
+ghost use Rattle.std.specs.Prelude.{◌≡◌, ◌<◌, ℕ, true, length, option_and_then, Some, slice_set};
 ghost use Rattle.rm_path.specs.Identifier.{number_of};
 ghost use Rattle.rm_path.specs.Slots.{protocol_in, is_active, HaveSlots};
 ghost use Rattle.rm_path.specs.declared.identifier.ProtocolIdentifier.{ProtocolIdentifier as Identifier};

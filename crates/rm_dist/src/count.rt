@@ -12,7 +12,7 @@ pub struct Count {
 }
 
 impl Count {
-    ghost use Rattle.std.specs.Prelude.{◌≡◌, ◌≤◌};
+    ghost use Rattle.std.specs.Prelude.{◌≡◌};
     ghost use Rattle.rm_dist.specs.Counts.{first_frame, with_frame};
 
     /// The count of a first frame, by how many octets it has.

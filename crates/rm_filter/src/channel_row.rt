@@ -1,5 +1,5 @@
 // The columns of a row of channelTable.
-ghost use Rattle.std.specs.Prelude.{◌≡◌, refl};
+ghost use Rattle.std.specs.Prelude.{refl};
 ghost use Rattle.rm_filter.specs.ChannelRows.{channel_rows};
 
 use crate::accept_type::AcceptType;

@@ -1,5 +1,4 @@
 // filterTable, as a group of objects.
-ghost use Rattle.std.specs.Prelude.{◌≡◌};
 
 use crate::filter_row::{FILTER_OBJECTS, FilterRow};
 use rm_group::{Assigns, Commits, Denied, Group, Look, Readable, TableObjects, Tables};

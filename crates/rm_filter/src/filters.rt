@@ -1,5 +1,5 @@
 // The group filter.
-ghost use Rattle.std.specs.Prelude.{◌≡◌, ◌≤◌, [], List, length};
+ghost use Rattle.std.specs.Prelude.{◌≤◌, [], List, length};
 ghost use Rattle.rm_model.specs.Counting.{Counting};
 ghost use Rattle.rm_model.specs.Journal.{Frame, Journal, passes};
 ghost use Rattle.rm_acts.specs.declared.firing.Firing.{Firing};

@@ -13,17 +13,18 @@ use Rattle.rm_layer_tables.specs.Indexes.{network_place, application_place}
 use Rattle.rm_layer_tables.specs.Tables.{marked_table}
 use Rattle.rm_hl_hosts.specs.Hosts.{host_layer, nl_host, al_host}
 
--- after a journal
+-- hlHostControl after a journal
 abbrev pub control_table : Counting → Journal → Table
 control_table settings journal = layer_table host_layer bytes_eq settings journal
 
--- and at a moment in milliseconds
+-- nlHost, and alHost, at a moment in milliseconds
 abbrev pub network_table : Counting → Journal → (now : ℕ) → Table
 network_table settings journal now = marked_table nl_host (network_place address_form) (network_rows host_layer bytes_eq settings journal) now
 
 abbrev pub application_table : Counting → Journal → (now : ℕ) → Table
 application_table settings journal now = marked_table al_host (application_place address_form) (application_rows host_layer bytes_eq settings journal) now
 
+-- and all three tables
 abbrev pub host_cells : Counting → Journal → (now : ℕ) → Cells
 host_cells settings journal now name =
     option_or (cells_of (control_table settings journal) name) (cells_of_two (network_table settings journal now) (application_table settings journal now) name)

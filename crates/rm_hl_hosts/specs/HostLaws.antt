@@ -5,7 +5,7 @@ use Rattle.std.proofs.lemmas.Slice.Eq.{bytes_eq-Decides}
 use Rattle.rm_evicting.specs.Held.{IsExact}
 use Rattle.rm_layer_hosts.specs.declared.counts.NetworkCounts.{NetworkCounts}
 use Rattle.rm_layer_hosts.specs.declared.counts.Traffic.{Traffic}
-use Rattle.rm_layer_hosts.specs.Counts.{no_counts, no_traffic, plus, with_gain, more_traffic, host_tally}
+use Rattle.rm_layer_hosts.specs.Counts.{no_counts, no_traffic, plus, more_traffic, host_tally}
 use Rattle.rm_layer_tables.specs.Layer.{NamesFew}
 use Rattle.rm_layer_tables.specs.Shown.{AddsUp}
 use Rattle.rm_layer_tables.specs.Tables.{CanShow}

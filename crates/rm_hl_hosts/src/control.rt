@@ -1,5 +1,4 @@
 // hlHostControl.
-ghost use Rattle.std.specs.Prelude.{◌≡◌};
 
 use rm_group::TableObjects;
 use rm_layer_tables::{LAYER_NUMBERS, LayerColumns, LayerControl};

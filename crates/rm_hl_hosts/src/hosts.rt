@@ -1,5 +1,4 @@
 // What the rows of hlHostControl collect.
-ghost use Rattle.std.specs.Prelude.{◌≡◌};
 
 use crate::control::{CONTROL_OBJECTS, HostColumns};
 use crate::counted_frame::CountedFrame;

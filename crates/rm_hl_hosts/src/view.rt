@@ -1,5 +1,5 @@
 // How nlHost and alHost show hosts.
-ghost use Rattle.std.specs.Prelude.{◌≡◌, ℕ};
+ghost use Rattle.std.specs.Prelude.{◌≡◌};
 ghost use Rattle.rm_hl_hosts.specs.Columns.{gauge_in, traffic_in};
 ghost use Rattle.rm_hl_hosts.specs.Hosts.{nl_host, al_host};
 

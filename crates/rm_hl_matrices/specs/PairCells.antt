@@ -20,7 +20,7 @@ use Rattle.rm_hl_matrices.specs.Pairs.{Pair, source_layer, destination_layer, nl
 abbrev pub same_pair : Pair → Pair → Bool
 same_pair = pair_eq bytes_eq
 
--- hlMatrixControl after a journal. Each frame enters one pair in either order, so both orders have as many
+-- hlMatrixControl after a journal. Each frame refers to one pair in either order, so both orders enter as many
 abbrev pub control_table : Counting → Journal → Table
 control_table settings journal = layer_table source_layer same_pair settings journal
 

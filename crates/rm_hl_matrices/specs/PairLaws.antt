@@ -10,7 +10,7 @@ use Rattle.rm_layer_tables.specs.Layer.{NamesFew}
 use Rattle.rm_layer_tables.specs.Shown.{AddsUp}
 use Rattle.rm_layer_tables.specs.Tables.{CanShow}
 use Rattle.rm_hl_matrices.specs.Columns.{count_in, network_count, application_count}
-use Rattle.rm_hl_matrices.specs.Pairs.{Pair, source_layer, destination_layer, nl_matrix_sd, nl_matrix_ds, al_matrix_sd, al_matrix_ds}
+use Rattle.rm_hl_matrices.specs.Pairs.{source_layer, destination_layer, nl_matrix_sd, nl_matrix_ds, al_matrix_sd, al_matrix_ds}
 use Rattle.rm_hl_matrices.specs.PairCells.{same_pair}
 
 pub source_named : NamesFew source_layer

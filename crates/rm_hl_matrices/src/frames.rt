@@ -1,7 +1,6 @@
 // A frame comes to the pairs of hosts of a row of hlMatrixControl.
-ghost use Rattle.std.specs.Prelude.{◌≡◌, ℕ, ◌+◌, ◌/◌, ◌<◌, ◌≤◌, ◌^◌, List, [], ◌∷◌};
+ghost use Rattle.std.specs.Prelude.{◌≡◌, ℕ, ◌+◌, ◌/◌, ◌<◌, ◌≤◌, ◌^◌, [], ◌∷◌};
 ghost use Rattle.rm_model.specs.Counting.{Counting};
-ghost use Rattle.rm_model.specs.FrameFacts.{frame_facts};
 ghost use Rattle.rm_model.specs.Journal.{Frame, Journal, passes};
 ghost use Rattle.rm_layer_events.specs.Side.{next_stamp};
 ghost use Rattle.rm_layer_matrices.specs.declared.pair_counts.PairCounts.{PairCounts as Counted};
@@ -17,8 +16,8 @@ use rm_layer_matrices::{AddressPair, PairCounts};
 use rm_proto::Facts;
 use rm_upper::LayerTable;
 
-/// Takes a frame for a row of hlMatrixControl, as the part has its pairs. It counts where it is good, of the row's data source, and has IPv4
-/// addresses. `path` has the local indexes of the protocols above ip on its path.
+/// Takes a frame for the row of hlMatrixControl whose pairs the part has. It counts where it is good, of the row's data source, and has IPv4
+/// addresses. `path` has the local indexes of the protocols above ip on its path, and `stamp` is the first of the frame's two stamps.
 pub(crate) fn take_frame(part: &mut PairPart, facts: &Facts, path: &[u32], stamp: u64, moment: u32)
     requires ready { MayTake stamp moment part.old }
     requires fits { stamp + 1 < 2 ^ 58 }

@@ -1,5 +1,4 @@
 // What the rows of hlMatrixControl collect.
-ghost use Rattle.std.specs.Prelude.{◌≡◌};
 
 use crate::control::{CONTROL_OBJECTS, MatrixColumns};
 use crate::counted_frame::CountedFrame;

@@ -1,6 +1,6 @@
 // Pairs in both orders, with room for some of them. What they show was worked out by hand from RFC 2021, section 6. Each frame has 64
 // octets.
-ghost use Rattle.std.specs.Prelude.{◌≡◌, ◌+◌, ◌<◌, ◌≤◌, ◌^◌};
+ghost use Rattle.std.specs.Prelude.{◌+◌, ◌<◌, ◌^◌};
 ghost use Rattle.rm_hl_matrices.specs.Collection.{MayTake};
 
 use crate::frames::take_frame;

@@ -1,5 +1,5 @@
 // How the tables of pairs show them, in either order.
-ghost use Rattle.std.specs.Prelude.{◌≡◌, ℕ};
+ghost use Rattle.std.specs.Prelude.{◌≡◌};
 ghost use Rattle.rm_hl_matrices.specs.Columns.{network_count, application_count};
 ghost use Rattle.rm_hl_matrices.specs.Pairs.{nl_matrix_sd, nl_matrix_ds, al_matrix_sd, al_matrix_ds};
 

@@ -1,5 +1,5 @@
 // The hosts by their addresses.
-ghost use Rattle.std.specs.Prelude.{◌≤◌, refl, true};
+ghost use Rattle.std.specs.Prelude.{refl, true};
 ghost use Rattle.rm_hosts.specs.Columns.{host_columns};
 ghost use Rattle.rm_hosts.specs.Host.{host_entry};
 ghost use Rattle.rm_hosts.specs.Shown.{kept_value, with_address, no_empty_address};

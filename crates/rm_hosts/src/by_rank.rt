@@ -1,5 +1,5 @@
 // The hosts by their ranks in the order of entry.
-ghost use Rattle.std.specs.Prelude.{◌≤◌, refl, true};
+ghost use Rattle.std.specs.Prelude.{refl, true};
 ghost use Rattle.rm_hosts.specs.Columns.{host_columns};
 ghost use Rattle.rm_hosts.specs.HostTime.{time_entry};
 ghost use Rattle.rm_hosts.specs.Shown.{kept_value, with_rank};

@@ -1,5 +1,4 @@
 // hostControl.
-ghost use Rattle.std.specs.Prelude.{◌≡◌};
 
 use rm_group::TableObjects;
 use rm_keyed::{SOURCE_NUMBERS, SourceColumns, SourceTable};

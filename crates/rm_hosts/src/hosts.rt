@@ -1,5 +1,4 @@
 // What the rows of hostControl collect.
-ghost use Rattle.std.specs.Prelude.{◌≡◌};
 
 use crate::by_address::{ByAddress, HOST_OBJECTS};
 use crate::by_rank::{ByRank, TIME_OBJECTS};

@@ -1,5 +1,5 @@
 // The rows of a table by the keys of frames.
-ghost use Rattle.std.specs.Prelude.{◌≡◌, ℕ, ◌+◌, ◌<◌, ◌≤◌, ◌^◌, List, [], ◌∷◌};
+ghost use Rattle.std.specs.Prelude.{◌≡◌, ◌+◌, ◌<◌, ◌≤◌, ◌^◌, List, [], ◌∷◌};
 ghost use Rattle.rm_evicting.specs.Mention.{Mention, refers, strays};
 ghost use Rattle.rm_evicting.specs.Row.{credited};
 ghost use Rattle.rm_keyed.specs.declared.keyed.TheConstants.{MOST_ROWS};

@@ -1,5 +1,5 @@
 // The columns of control tables whose rows ask for what frames of a data source enter.
-ghost use Rattle.std.specs.Prelude.{◌≡◌, refl};
+ghost use Rattle.std.specs.Prelude.{◌≡◌};
 ghost use Rattle.rm_keyed.specs.SourceControl.{TableEntry};
 
 use arrayvec::ArrayVec;

@@ -1,7 +1,7 @@
 //! The events that one control row of the network and application layer tables (RFC 2021, section 6) sees of the journal.
 #![tactic(auto)]
 
-ghost use Rattle.std.specs.Prelude.{◌≡◌, ℕ, true, false, List, [], ◌∷◌, ◌++◌, is_some};
+ghost use Rattle.std.specs.Prelude.{◌≡◌, ℕ, true, false, [], ◌∷◌, is_some};
 ghost use Rattle.rm_model.specs.Journal.{Act, Journal};
 ghost use Rattle.rm_layers.specs.Event.{on_since, is_ip_on, AreUpTo, AreRising};
 ghost use Rattle.rm_layers.specs.Applications.{Slots};

@@ -1,6 +1,6 @@
 // What is counted of hosts.
 
-ghost use Rattle.std.specs.Prelude.{◌≡◌, ℕ};
+ghost use Rattle.std.specs.Prelude.{◌≡◌};
 ghost use Rattle.rm_layer_hosts.specs.Counts.{no_traffic, no_counts, more_traffic, plus};
 
 /// Packets and octets, in and out.

@@ -1,6 +1,6 @@
 // What a good frame adds to the counts of its ends.
 
-ghost use Rattle.std.specs.Prelude.{◌≡◌, ℕ};
+ghost use Rattle.std.specs.Prelude.{◌≡◌};
 ghost use Rattle.rm_layer_hosts.specs.Gains.{sent, received, is_to_many};
 
 use crate::counts::{NetworkCounts, Traffic};

@@ -1,6 +1,5 @@
 // The network row of a host.
 
-ghost use Rattle.std.specs.Prelude.{◌≡◌};
 ghost use Rattle.rm_layer_hosts.specs.Counts.{host_tally};
 ghost use Rattle.rm_layer_hosts.specs.HostRow.{blank_host, seen_host, starts_blank};
 

@@ -1,6 +1,5 @@
 // The network row of a pair of addresses.
 
-ghost use Rattle.std.specs.Prelude.{◌≡◌};
 ghost use Rattle.rm_layer_matrices.specs.PairCounts.{pair_tally};
 ghost use Rattle.rm_layer_matrices.specs.PairRow.{blank_pair, seen_pair, starts_blank};
 

@@ -1,6 +1,6 @@
 // The protocols above ip that are on, in the slots that they have in the directory.
 
-ghost use Rattle.std.specs.Prelude.{◌≡◌, ℕ};
+ghost use Rattle.std.specs.Prelude.{◌≡◌};
 ghost use Rattle.rm_layer_slots.specs.On.{counts, local_on, slots_on};
 
 use rm_path::{Protocol, Protocols};
@@ -13,8 +13,8 @@ pub enum TableKind {
 }
 
 impl TableKind {
-    // Whether these tables count what a protocol carries.
-    fn counts(self, protocol: &Protocol) -> bool
+    /// Whether these tables count what a protocol carries (RFC 2021, protocolDirHostConfig and protocolDirMatrixConfig).
+    pub fn counts(self, protocol: &Protocol) -> bool
         ensures { result ≡ counts self protocol.now }
     {
         match self {

@@ -1,5 +1,5 @@
 -- What is on after a journal is on by the events that a row sees.
-use Rattle.std.proofs.Common.{◌≡◌, ℕ, List, ◌∷◌, ◌++◌, Option, sym, ◌∙◌}
+use Rattle.std.proofs.Common.{ℕ, List, ◌∷◌, ◌++◌, Option, sym, ◌∙◌}
 use Rattle.rm_model.specs.Counting.{Counting}
 use Rattle.rm_model.specs.Journal.{Act, Journal}
 use Rattle.rm_path.specs.declared.protocol.Protocol.{Protocol}

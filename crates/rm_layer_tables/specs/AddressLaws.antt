@@ -1,11 +1,11 @@
 -- The numbers of addresses, and of pairs of them, are their own.
-use Rattle.std.proofs.Common.{◌≡◌, ℕ, ◌<◌, ◌≤◌, ◌+◌, Bool, true, false, cond, ◌&&◌, nat_eq, nat_lt, List, [], ◌∷◌, ◌++◌, length, take, drop, Option, Some, None, refl, sym, ap, ◌∙◌, subst, arith}
+use Rattle.std.proofs.Common.{◌≡◌, ℕ, ◌≤◌, ◌+◌, Bool, true, false, cond, ◌&&◌, nat_eq, nat_lt, List, [], ◌∷◌, ◌++◌, length, take, drop, Option, Some, None, refl, sym, ap, ◌∙◌, subst, arith}
 use Rattle.std.specs.Prelude.{is_some}
 use Rattle.std.specs.List.{list_all}
 use Rattle.std.specs.Ordering.{nat_cmp, ordering_then}
 use Rattle.std.specs.declared.cmp.Ordering.{Ordering}
 use Rattle.std.specs.Cmp.Lexicographic.{slice_cmp}
-use Rattle.std.proofs.lemmas.Bool.{and_parts}
+use Rattle.std.proofs.lemmas.Bool.{and_parts, eqb-true}
 use Rattle.std.proofs.lemmas.Bool.Decides.{nat_tests}
 use Rattle.std.proofs.lemmas.List.{length-append, take-append-drop}
 use Rattle.std.proofs.lemmas.Option.{none-some, same_Some}
@@ -18,9 +18,6 @@ use Rattle.rm_layer_tables.specs.Addresses.{octet_bounds, address_bounds, addres
 
 abbrev cmp : List ℕ → List ℕ → Ordering
 cmp = slice_cmp nat_cmp
-
-same_number : (m n : ℕ) → nat_eq m n ≡ true → m ≡ n
-same_number m n e = grind (arith, nat_tests)
 
 -- numbers that are an address
 record IsOne (numbers address : List ℕ) : Type 0 where
@@ -35,12 +32,12 @@ address_is (count ∷ octets) address e = by_test (nat_eq count 4 && is_address 
     by_test false f none = absurd (none-some address none)
     by_test true f some =
         let parts = and_parts (nat_eq count 4) (is_address octets) f in
-        let four : count ≡ 4 = same_number count 4 parts.0 in
+        let four : count ≡ 4 = eqb-true count 4 parts.0 in
         let same : octets ≡ address = same_Some octets address some in
         record { named = λ d. four d ∷ same d; octets = subst (λ (some : List ℕ). is_address some ≡ true) same parts.1 }
 
 four : (address : List ℕ) → is_address address ≡ true → length address ≡ 4
-four address is = same_number (length address) 4 (and_parts (nat_eq (length address) 4) (list_all (λ number. nat_lt number 256) address) is).0
+four address is = eqb-true (length address) 4 (and_parts (nat_eq (length address) 4) (list_all (λ number. nat_lt number 256) address) is).0
 
 -- an address has four octets
 octets_within : (address : List ℕ) → is_address address ≡ true → AreWithin (octet_bounds ∷ octet_bounds ∷ octet_bounds ∷ octet_bounds ∷ []) address

@@ -1,5 +1,5 @@
 -- That the cells of the tables of the network and application layer are finitely many.
-use Rattle.std.proofs.Common.{◌≡◌, ℕ, ◌+◌, ◌/◌, ◌≤◌, Bool, true, false, not, ◌&&◌, nat_eq, nat_le, nat_lt, List, [], ◌∷◌, ◌++◌, filter, Contains, Option, Some, None, refl, sym, ap, ◌∙◌, inl, inr, subst, arith}
+use Rattle.std.proofs.Common.{◌≡◌, ℕ, ◌+◌, ◌/◌, ◌≤◌, Bool, true, false, not, nat_eq, nat_le, nat_lt, List, [], ◌∷◌, ◌++◌, filter, Contains, Option, Some, None, refl, sym, ap, ◌∙◌, inl, inr, subst, arith}
 use Rattle.std.specs.List.{AllByRecursion}
 use Rattle.std.specs.Option.{is_some, option_map_or}
 use Rattle.std.specs.declared.cmp.Ordering.{Ordering}
@@ -15,7 +15,7 @@ use Rattle.rm_nested.proofs.Finite.{rows_of, in_rows, nested, in_nested}
 use Rattle.rm_evicting.specs.Mention.{Mention, refers, strays}
 use Rattle.rm_evicting.specs.Held.{last_tick}
 use Rattle.rm_layers.specs.Event.{Contribution, Event, names, turns, turns_ip, begins, on_since, span}
-use Rattle.rm_layers.specs.Network.{counts_for, is_held, is_some_list, newest_tick, contributions, application_contributions}
+use Rattle.rm_layers.specs.Network.{counts_for, is_held, is_some_list, newest_tick, contributions}
 use Rattle.rm_layers.proofs.Made.{filter_off}
 use Rattle.rm_layers.proofs.Spans.{EachGain, each-shares}
 use Rattle.rm_walk_places.specs.declared.places.Bounds.{Bounds}
@@ -24,7 +24,7 @@ use Rattle.rm_walk_places.specs.Numbers.{lists_within, in_lists}
 use Rattle.rm_walk_places.proofs.WithinLaws.{test}
 use Rattle.rm_layer_tables.specs.Control.{layer_control, control_state, is_active}
 use Rattle.rm_layer_tables.specs.ControlCells.{control_table}
-use Rattle.rm_layer_tables.specs.Held.{is_on_now, room, seen_events, stands_at, has_row, network_rows, application_rows}
+use Rattle.rm_layer_tables.specs.Held.{is_active_now, room, seen_events, stands_at, has_row, network_rows, application_rows}
 use Rattle.rm_layer_tables.specs.Indexes.{ip_bounds, KeyForm, IsForm, network_place, application_place}
 use Rattle.rm_layer_tables.specs.Layer.{Layer}
 use Rattle.rm_layer_tables.specs.PlaceLaws.{key_named, protocol_named}
@@ -131,7 +131,7 @@ module _ {K G : Type 0} (layer : Layer K G) (eq : K → K → Bool) (settings : 
     network_in row numbers None e none = absurd (true≢false (sym none))
     network_in row numbers (Some place) e has =
         let there = and_parts ((network_rows layer eq settings journal row).is_there place.1) (stands_at now place.0 ((network_rows layer eq settings journal row).last place.1)) has in
-        let active = and_parts (is_on_now layer eq settings journal row) (is_held eq (room layer eq settings journal row) place.1 (seen_events layer eq settings journal row)) there.0 in
+        let active = and_parts (is_active_now layer eq settings journal row) (is_held eq (room layer eq settings journal row) place.1 (seen_events layer eq settings journal row)) there.0 in
         let it = key_named form numbers place e in
         let mark : place.0 ≤ last_mark row = marked_within now place.0 ((network_rows layer eq settings journal row).last place.1) (last_mark row) there.1 (last_within eq place.1 (span (seen_events layer eq settings journal row))) in (row_of row active.0, subst (AreWithin (network_bounds row)) (sym it.named) (omega arith, mark, (omega arith, omega arith, laws.within it.rest place.1 it.is)))
 
@@ -154,7 +154,7 @@ module _ {K G : Type 0} (layer : Layer K G) (eq : K → K → Bool) (settings : 
     application_in row numbers (Some place) e has =
         let rows = application_rows layer eq settings journal row in
         let there = and_parts (rows.is_there place.1) (stands_at now place.0 (rows.last place.1)) has in
-        let active = and_parts (is_on_now layer eq settings journal row) _ there.0 in
+        let active = and_parts (is_active_now layer eq settings journal row) _ there.0 in
         let some = and_parts (is_held eq (room layer eq settings journal row) place.1.0 (seen_events layer eq settings journal row)) (is_some_list (rows.contributions place.1)) active.1 in
         let low : place.1.1 ≤ last_local row = on_within place.1.1 (seen_events layer eq settings journal row)
         (counting_on place.1.1 (on_since place.1.1 (seen_events layer eq settings journal row)) (contributions eq (room layer eq settings journal row) place.1.0 (seen_events layer eq settings journal row)) some.1) in

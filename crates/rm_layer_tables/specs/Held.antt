@@ -35,8 +35,9 @@ abbrev pub has_row : {X G : Type 0} → MarkedRows X G → (now mark : ℕ) → 
 has_row rows now mark x = rows.is_there x && stands_at now mark (rows.last x)
 
 module _ {K G : Type 0} (layer : Layer K G) (eq : K → K → Bool) (settings : Counting) (journal : Journal) (row : ℕ) where
-  abbrev pub is_on_now : Bool
-  is_on_now = is_active layer.control journal row
+  -- whether the control row is active after the journal
+  abbrev pub is_active_now : Bool
+  is_active_now = is_active layer.control journal row
 
   abbrev pub seen_events : List (Event K G)
   seen_events = events (side_of layer settings row) journal
@@ -47,7 +48,7 @@ module _ {K G : Type 0} (layer : Layer K G) (eq : K → K → Bool) (settings : 
   -- the network rows, by their keys
   abbrev pub network_rows : MarkedRows K G
   network_rows = record {
-    is_there = λ key. is_on_now && is_held eq room key seen_events;
+    is_there = λ key. is_active_now && is_held eq room key seen_events;
     contributions = λ key. contributions eq room key seen_events;
     created = λ key. entry_tick eq room key seen_events;
     last = λ key. last_tick eq key (span seen_events);
@@ -56,7 +57,7 @@ module _ {K G : Type 0} (layer : Layer K G) (eq : K → K → Bool) (settings : 
   -- the application rows, by their keys and the local indexes of their protocols
   abbrev pub application_rows : MarkedRows (K × ℕ) G
   application_rows = record {
-    is_there = λ x. is_on_now && exists eq room x.0 x.1 seen_events;
+    is_there = λ x. is_active_now && exists eq room x.0 x.1 seen_events;
     contributions = λ x. application_contributions eq room x.0 x.1 seen_events;
     created = λ x. first_tick (application_contributions eq room x.0 x.1 seen_events);
     last = λ x. newest_tick (application_contributions eq room x.0 x.1 seen_events);
@@ -64,7 +65,7 @@ module _ {K G : Type 0} (layer : Layer K G) (eq : K → K → Bool) (settings : 
 
   -- how many rows were entered since the control row became active, and how many of these are gone; 0 where it isn't active
   abbrev pub if_active : ℕ → ℕ
-  if_active number = if is_on_now then number else 0
+  if_active number = if is_active_now then number else 0
 
   abbrev pub networks_entered : ℕ
   networks_entered = if_active (network_inserts eq room seen_events)

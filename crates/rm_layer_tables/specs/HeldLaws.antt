@@ -1,5 +1,5 @@
 -- What the rows of a control row that is active show is what the journal gives, and what its counters count.
-use Rattle.std.proofs.Common.{◌≡◌, ℕ, ◌-◌, Bool, true, false, cond, ◌&&◌, nat_eq, List, length, refl, sym, ap, ◌∙◌}
+use Rattle.std.proofs.Common.{◌≡◌, ℕ, ◌-◌, Bool, true, false, cond, nat_eq, length, refl, sym, ap, ◌∙◌}
 use Rattle.std.proofs.lemmas.List.{length-map}
 use Rattle.rm_model.specs.Counting.{Counting}
 use Rattle.rm_model.specs.Journal.{Journal}
@@ -15,7 +15,7 @@ use Rattle.rm_upper.specs.Tally.{Tally}
 use Rattle.rm_upper.proofs.CellLemmas.{network-is, application-is}
 use Rattle.rm_upper.proofs.CountLemmas.{deletes-are}
 use Rattle.rm_layer_tables.specs.ControlCells.{counter_of}
-use Rattle.rm_layer_tables.specs.Held.{is_on_now, room, seen_events, network_rows, application_rows}
+use Rattle.rm_layer_tables.specs.Held.{is_active_now, room, seen_events, network_rows, application_rows}
 use Rattle.rm_layer_tables.specs.Kept.{network_counted, application_counted, kept_counter}
 use Rattle.rm_layer_tables.specs.Layer.{Layer, NamesFew}
 use Rattle.rm_layer_tables.specs.Shown.{AddsUp, column_of, at_mark, row_shown}
@@ -25,7 +25,7 @@ use Rattle.rm_layer_tables.specs.Tables.{MarkedTable}
 use Rattle.rm_layer_tables.specs.Tuned.{tuned_for}
 
 module _ {K N A : Type 0} (layer : Layer K N) (few : NamesFew layer) (tally : Tally N A) (eq : K → K → Bool) (exact : IsExact eq) (settings : Counting) (journal : Journal) (row : ℕ)
-    (table : LayerTable K N A) (active : is_on_now layer eq settings journal row ≡ true) (is : IsHeld layer tally eq settings journal row table) where
+    (table : LayerTable K N A) (active : is_active_now layer eq settings journal row ≡ true) (is : IsHeld layer tally eq settings journal row table) where
   tuned : AreTuned (protocols table.layered.slots) (seen_events layer eq settings journal row)
   tuned = tuned_for layer few eq settings row journal (protocols table.layered.slots) is.slots
 
@@ -75,7 +75,7 @@ module _ {K N A : Type 0} (layer : Layer K N) (few : NamesFew layer) (tally : Ta
           ∙ ap (λ capacity. application_deletes eq capacity (seen_events layer eq settings journal row)) is.capacity
 
 -- a control row that isn't active has none, and counts nothing
-module _ {K G : Type 0} (layer : Layer K G) (eq : K → K → Bool) (settings : Counting) (journal : Journal) (row : ℕ) (idle : is_on_now layer eq settings journal row ≡ false) where
+module _ {K G : Type 0} (layer : Layer K G) (eq : K → K → Bool) (settings : Counting) (journal : Journal) (row : ℕ) (idle : is_active_now layer eq settings journal row ≡ false) where
   pub no_network : (key : K) → (network_rows layer eq settings journal row).is_there key ≡ false
   no_network key = rw idle refl
 

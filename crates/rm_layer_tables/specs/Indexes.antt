@@ -41,12 +41,12 @@ pub record KeyForm (K : Type 0) : Type 0 where
   pub bounds : List Bounds
 
 module _ {K : Type 0} (form : KeyForm K) where
-  abbrev pub at_mark : (mark : ℕ) → Option K → Option (ℕ × K)
-  at_mark mark key = option_map (λ one. (mark, one)) key
+  abbrev pub with_mark : (mark : ℕ) → Option K → Option (ℕ × K)
+  with_mark mark key = option_map (λ one. (mark, one)) key
 
   -- the mark and the key that numbers name
   abbrev pub network_place : List ℕ → Option (ℕ × K)
-  network_place (mark ∷ protocol ∷ numbers) = if nat_eq protocol ip_local then at_mark mark (form.key_of numbers) else None
+  network_place (mark ∷ protocol ∷ numbers) = if nat_eq protocol ip_local then with_mark mark (form.key_of numbers) else None
   network_place numbers = None
 
   abbrev pub with_protocol : (mark : ℕ) → Option K → List ℕ → Option (ℕ × (K × ℕ))

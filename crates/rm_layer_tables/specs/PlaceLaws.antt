@@ -1,13 +1,10 @@
 -- The indexes that name rows, and the rows that indexes name.
-use Rattle.std.proofs.Common.{◌≡◌, ℕ, suc, ◌+◌, ◌≤◌, Bool, true, false, cond, nat_eq, List, [], ◌∷◌, ◌++◌, length, take, drop, Option, Some, None, refl, sym, ap, ◌∙◌, arith}
-use Rattle.std.proofs.lemmas.Bool.Decides.{nat_tests}
+use Rattle.std.proofs.Common.{◌≡◌, ℕ, ◌+◌, ◌≤◌, Bool, true, false, cond, nat_eq, List, [], ◌∷◌, ◌++◌, length, take, drop, Option, Some, None, refl, sym, ap, ◌∙◌, arith}
+use Rattle.std.proofs.lemmas.Bool.{eqb-true}
 use Rattle.std.proofs.lemmas.List.{take_all, drop_all, take-append-le, drop-append-le, take-append-drop}
 use Rattle.std.proofs.lemmas.Option.{none-some, same_Some}
 use Rattle.std.specs.declared.cmp.Ordering.{Ordering}
-use Rattle.rm_layer_tables.specs.Indexes.{ip_local, KeyForm, IsForm, at_mark, network_place, with_protocol, application_place, network_index, application_index}
-
-same_number : (m n : ℕ) → nat_eq m n ≡ true → m ≡ n
-same_number m n e = grind (arith, nat_tests)
+use Rattle.rm_layer_tables.specs.Indexes.{ip_local, KeyForm, IsForm, with_mark, network_place, with_protocol, application_place, network_index, application_index}
 
 module _ {K : Type 0} (form : KeyForm K) where
   -- the numbers of an index that names a key at a mark
@@ -27,12 +24,12 @@ module _ {K : Type 0} (form : KeyForm K) where
   key_named (mark ∷ []) place e = absurd (none-some place e)
   key_named (mark ∷ protocol ∷ rest) place e = by_ip (nat_eq protocol ip_local) refl (form.key_of rest) refl e
     where
-      by_ip : (t : Bool) → nat_eq protocol ip_local ≡ t → (o : Option K) → form.key_of rest ≡ o → cond t (at_mark form mark o) None ≡ Some place → NamesKey (mark ∷ protocol ∷ rest) place
+      by_ip : (t : Bool) → nat_eq protocol ip_local ≡ t → (o : Option K) → form.key_of rest ≡ o → cond t (with_mark form mark o) None ≡ Some place → NamesKey (mark ∷ protocol ∷ rest) place
       by_ip false f o g none = absurd (none-some place none)
       by_ip true f None g none = absurd (none-some place none)
       by_ip true f (Some key) g some =
           let same : (mark, key) ≡ place = same_Some _ _ some in
-          let ip : protocol ≡ ip_local = same_number protocol ip_local f in
+          let ip : protocol ≡ ip_local = eqb-true protocol ip_local f in
           record { rest = rest; named = λ d. (same d).0 ∷ ip d ∷ rest; is = g ∙ ap (λ (at : ℕ × K). Some at.1) same }
 
   pub protocol_named : (numbers : List ℕ) (place : ℕ × (K × ℕ)) → application_place form numbers ≡ Some place → NamesProtocol numbers place
@@ -49,7 +46,7 @@ module _ {K : Type 0} (form : KeyForm K) where
       by_ip true f (Some key) g (local ∷ next ∷ more) h none = absurd (none-some place none)
       by_ip true f (Some key) g (local ∷ []) h some =
           let same : (mark, (key, local)) ≡ place = same_Some _ _ some in
-          let ip : protocol ≡ ip_local = same_number protocol ip_local f in
+          let ip : protocol ≡ ip_local = eqb-true protocol ip_local f in
           let whole : numbers ≡ take form.count numbers ++ local ∷ [] = sym (take-append-drop form.count numbers) ∙ ap (λ more. take form.count numbers ++ more) h in
           record {
             rest = take form.count numbers;
@@ -59,7 +56,7 @@ module _ {K : Type 0} (form : KeyForm K) where
 
   -- the indexes of a key that has numbers name it
   pub key_at : (mark : ℕ) (key : K) → form.key_of (form.numbers key) ≡ Some key → network_place form (network_index form mark key) ≡ Some (mark, key)
-  key_at mark key is = ap (at_mark form mark) is
+  key_at mark key is = ap (with_mark form mark) is
 
   module _ {cmp : K → K → Ordering} (laws : IsForm form cmp) where
     pub protocol_at : (mark : ℕ) (key : K) (protocol : ℕ) → form.key_of (form.numbers key) ≡ Some key → application_place form (application_index form mark (key, protocol)) ≡ Some (mark, (key, protocol))

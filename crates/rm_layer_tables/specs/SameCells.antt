@@ -1,5 +1,5 @@
 -- What rows and parts show is what the tables show after the journal.
-use Rattle.std.proofs.Common.{◌≡◌, ℕ, ◌%◌, ◌^◌, Bool, true, cond, nat_eq, List, [], ◌∷◌, Option, Some, None, sym, ap}
+use Rattle.std.proofs.Common.{◌≡◌, ℕ, ◌%◌, ◌^◌, Bool, cond, nat_eq, List, [], ◌∷◌, Option, Some, None, sym, ap}
 use Rattle.std.specs.Prelude.{pos}
 use Rattle.std.specs.Option.{option_map_or}
 use Rattle.rm_val.specs.Val.{int, counter}

@@ -1,5 +1,5 @@
 -- What all rows of a control table share.
-use Rattle.std.specs.Prelude.{◌≡◌, ℕ}
+use Rattle.std.specs.Prelude.{◌≡◌}
 use Rattle.rm_model.specs.Counting.{Counting}
 use Rattle.rm_model.specs.Journal.{Journal}
 use Rattle.rm_layer_slots.specs.declared.slots.TableKind.{TableKind}

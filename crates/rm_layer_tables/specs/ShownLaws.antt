@@ -1,6 +1,6 @@
 -- What rows of the network and application layer show by the events is what the tables show.
 use Rattle.std.proofs.Common.{◌≡◌, ℕ, ◌%◌, ◌^◌, Bool, true, false, cond, ◌&&◌, nat_eq, List, [], ◌∷◌, Some, None, refl, ap}
-use Rattle.rm_val.specs.Val.{Val, gauge, ticks}
+use Rattle.rm_val.specs.Val.{gauge, ticks}
 use Rattle.rm_model.specs.Counting.{Counting}
 use Rattle.rm_model.specs.Journal.{Journal}
 use Rattle.rm_evicting.specs.Held.{last_tick}
@@ -13,7 +13,7 @@ use Rattle.rm_upper.specs.declared.counts.Counted.{Counted}
 use Rattle.rm_upper.specs.Cells.{counted, network_row, application_row}
 use Rattle.rm_upper.specs.Tally.{Tally}
 use Rattle.rm_layer_tables.specs.Layer.{Layer}
-use Rattle.rm_layer_tables.specs.Held.{is_on_now, room, seen_events, stands_at, sum_of, network_rows, application_rows}
+use Rattle.rm_layer_tables.specs.Held.{is_active_now, room, seen_events, stands_at, sum_of, network_rows, application_rows}
 use Rattle.rm_layer_tables.specs.Tables.{MarkedTable}
 use Rattle.rm_layer_tables.specs.Shown.{column_of, AddsUp, at_mark, row_shown}
 
@@ -35,7 +35,7 @@ module _ {S G : Type 0} (blank : S) (add : S → G → S) (counted_in : (column 
       by_test false = ap gauge (sum_shown column some)
 
 module _ {K N A : Type 0} (layer : Layer K N) (tally : Tally N A) (eq : K → K → Bool) (settings : Counting) (journal : Journal) (row : ℕ)
-    (active : is_on_now layer eq settings journal row ≡ true) (table : MarkedTable N) (now mark : ℕ) where
+    (active : is_active_now layer eq settings journal row ≡ true) (table : MarkedTable N) (now mark : ℕ) where
   pub network_is : (counted_in : (column : ℕ) → N → ℕ) → AddsUp tally.blank tally.add counted_in table.count → (key : K) (column : ℕ)
       → at_mark (column_of table counted_in) now mark (network_row tally eq (room layer eq settings journal row) key (seen_events layer eq settings journal row)) column
       ≡ row_shown table (network_rows layer eq settings journal row) now mark key column

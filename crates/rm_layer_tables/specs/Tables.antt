@@ -1,5 +1,5 @@
 -- Tables of the network and application layer, as they are shown after a journal.
-use Rattle.std.specs.Prelude.{◌≡◌, ℕ, ◌+◌, ◌≤◌, ◌%◌, ◌^◌, List, [], ◌∷◌, length, Bool, false, nat_eq, if◌then◌else◌, Option, IsTrue}
+use Rattle.std.specs.Prelude.{ℕ, ◌+◌, ◌≤◌, ◌%◌, ◌^◌, List, [], ◌∷◌, length, Bool, false, nat_eq, if◌then◌else◌, Option, IsTrue}
 use Rattle.std.specs.Option.{option_map_or}
 use Rattle.rm_val.specs.Val.{Val, gauge, ticks, null}
 use Rattle.rm_model.specs.Cells.{Table}

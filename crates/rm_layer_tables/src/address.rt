@@ -15,19 +15,19 @@ const ADDRESS_OCTETS: u32 = 4;
 /// How many numbers an address has in an index.
 pub(crate) const ADDRESS_NUMBERS: usize = 5;
 
-/// The local index of ip.
+/// The bounds of the local index of ip: just that.
 pub(crate) const IP: Bounds = Bounds {
     least: IP_LOCAL,
     greatest: IP_LOCAL,
 };
 
-/// The count of the octets of an address.
+/// The bounds of the count of octets of an address: just 4.
 pub(crate) const COUNT: Bounds = Bounds {
     least: ADDRESS_OCTETS,
     greatest: ADDRESS_OCTETS,
 };
 
-/// An octet.
+/// The bounds of an octet.
 pub(crate) const OCTET: Bounds = Bounds {
     least: 0,
     greatest: 255,

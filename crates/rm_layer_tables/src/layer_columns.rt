@@ -26,7 +26,7 @@ const STATUS: u32 = 12;
 /// How many application rows a network row has room for.
 const APPLICATIONS: u32 = 32;
 
-/// The numbers of the columns of each such table that are answered (`LayerControl`).
+/// The numbers of the columns of hlHostControl and of hlMatrixControl that are answered.
 pub const LAYER_NUMBERS: &[u32] = &[2, 3, 4, 5, 6, 7, 8, 9, 10, 11, 12];
 
 /// The number that asks for as many rows as there can be.
@@ -69,7 +69,7 @@ pub trait LayerControl {
         ensures { result.now ≡ entry.numbers };
 }
 
-/// The columns of a row of such a table that can be set.
+/// The columns of a row of hlHostControl, or of hlMatrixControl, that can be set (RFC 2021, section 6).
 #[derive(Drop)]
 pub struct LayerColumns<T> {
     /// The number of the interface whose frames the row counts.

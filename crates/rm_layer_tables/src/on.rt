@@ -2,12 +2,12 @@
 ghost use Rattle.std.specs.Prelude.{◌≡◌};
 ghost use Rattle.rm_model.specs.Journal.{Journal};
 ghost use Rattle.rm_dir.specs.Group.{Stands as IsDirectory};
-ghost use Rattle.rm_layer_slots.specs.On.{is_ip_on, counts};
+ghost use Rattle.rm_layer_slots.specs.On.{is_ip_on};
 ghost use Rattle.rm_layer_tables.specs.Standing.{AreOn};
 
 use rm_dir::Directory;
 use rm_layer_slots::{TableKind, slots_on};
-use rm_path::{Protocol, ProtocolIdentifier};
+use rm_path::ProtocolIdentifier;
 
 /// The type of IP (RFC 894).
 const IP: u16 = 0x0800;
@@ -17,18 +17,8 @@ pub(crate) fn is_ip_on(kind: TableKind, directory: &Directory) -> bool
     ensures { (journal : Journal) → IsDirectory directory.now journal → result ≡ is_ip_on kind journal }
 {
     match directory.protocol(ProtocolIdentifier::Ether(IP)) {
-        Some(ip) => counts(kind, &ip),
+        Some(ip) => kind.counts(&ip),
         None => false,
-    }
-}
-
-// Whether tables of a kind count what a protocol carries.
-fn counts(kind: TableKind, protocol: &Protocol) -> bool
-    ensures { result ≡ counts kind protocol.now }
-{
-    match kind {
-        TableKind::Hosts => protocol.host,
-        TableKind::Matrices => protocol.matrix,
     }
 }
 

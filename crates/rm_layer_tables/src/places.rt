@@ -78,10 +78,10 @@ pub(crate) fn application_reached<K: LayerKey>(
 {
     K::count();
     match reached {
-        Some(reached) => match K::at(&reached.numbers, 1) {
-            Some(key) => Some((key, reached.protocol)),
-            None => None,
-        },
+        Some(reached) => {
+            let key = K::at(&reached.numbers, 1)?;
+            Some((key, reached.protocol))
+        }
         None => None,
     }
 }

@@ -14,8 +14,8 @@ use rm_upper::{Counted, Counts, LayerCounts, LayerTable};
 use rm_val::Value;
 
 /// What a column of the control table shows of the rows of an active control row, where it can't be set: how many were entered, and how
-/// many of these are gone, of network rows and of application rows. No frame is dropped. Columns 8 and 9 are those of application rows, of
-/// which column 9 costs a step for each that there is.
+/// many of these are gone, of network rows and of application rows. No frame is dropped. Columns 8 and 9 are those of application rows;
+/// column 9 costs some 32 steps for each network row.
 pub fn control_counter<K: Key, N: LayerCounts>(table: &LayerTable<K, N>, column: u32) -> u32
     ensures { result ≡ kept_counter K.eq table.now column % 2 ^ 32 }
 {

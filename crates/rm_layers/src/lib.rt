@@ -2,13 +2,11 @@
 //! the addresses, or pairs of them, that frames named, and within each the rows of the protocols above ip.
 #![tactic(auto)]
 
-ghost use Rattle.std.specs.Prelude.{◌≡◌, ℕ, ◌+◌, ◌<◌, ◌≤◌, Bool, true, false, not, List, [], ◌∷◌, ◌++◌, length, filter, Option, Some, None, IfSome, slice_get, ⊤};
-ghost use Rattle.std.specs.declared.cmp.Ordering.{Ordering};
-ghost use Rattle.std.specs.declared.cmp.Ordering.TheVariants.{Equal};
+ghost use Rattle.std.specs.Prelude.{◌≡◌, ℕ, ◌<◌, ◌≤◌, Bool, true, false, List, ◌∷◌, ◌++◌, length, Option, Some, IfSome, slice_get};
 ghost use Rattle.rm_evicting.specs.declared.Row.{Row};
 ghost use Rattle.rm_evicting.specs.Stands.{total};
 ghost use Rattle.rm_layers.specs.Event.{Contribution, Event, names, turns_ip, begins, is_ip_on, on_since, AreUpTo, AreRising, AreTimed};
-ghost use Rattle.rm_layers.specs.Network.{exists, is_held, entry_tick, first_tick, is_on_path, counts_for, application_contributions, application_rows, network_rows, contributions};
+ghost use Rattle.rm_layers.specs.Network.{exists, is_held, entry_tick, first_tick, is_on_path, application_contributions, application_rows, network_rows, contributions};
 ghost use Rattle.rm_layers.specs.Applications.{Slots, Value, application_at, application_of};
 ghost use Rattle.rm_layers.specs.Upper.{Upper, AreTuned, IsOf, named, retuned, emptied, begun, applications_held, IsWithin};
 ghost use Rattle.rm_layers.specs.Turning.{IsChange, contributions_by_place};

@@ -1,5 +1,5 @@
 // The test of a packet's octets.
-ghost use Rattle.std.specs.Prelude.{◌≡◌, ◌<◌, ◌≤◌, ◌+◌, length, drop};
+ghost use Rattle.std.specs.Prelude.{◌≡◌, ◌<◌, drop};
 ghost use Rattle.rm_acts.specs.Bits.{test_of, pass, first_or};
 ghost use Rattle.rm_match.specs.Tests.{bits_of, bits_at};
 

@@ -1,5 +1,4 @@
 // What the rows of matrixControl collect.
-ghost use Rattle.std.specs.Prelude.{◌≡◌};
 
 use crate::by_destination::{ByDestination, DESTINATION_OBJECTS};
 use crate::by_source::{BySource, SOURCE_OBJECTS};

@@ -1,5 +1,5 @@
 // The pairs of hosts of a control row.
-ghost use Rattle.std.specs.Prelude.{◌≡◌, ◌+◌, ◌/◌, ◌<◌, ◌≤◌, ◌^◌, List, ◌++◌};
+ghost use Rattle.std.specs.Prelude.{◌≡◌, ◌+◌, ◌/◌, ◌<◌, ◌^◌, List, ◌++◌};
 ghost use Rattle.rm_matrix.specs.Mentions.{PairMention};
 ghost use Rattle.rm_matrix.specs.Tables.{IsReady, Means, taken_from};
 

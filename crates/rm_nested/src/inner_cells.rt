@@ -1,5 +1,5 @@
 // The cells of inner rows.
-ghost use Rattle.std.specs.Prelude.{◌≡◌, ℕ, ◌+◌, ◌≤◌, List, length, Some, IfSome, OnSome, IfNone, IsTrue};
+ghost use Rattle.std.specs.Prelude.{◌≡◌, ℕ, ◌+◌, List, length, Some, IfSome, OnSome, IfNone};
 ghost use Rattle.std.specs.Option.{option_map, option_or};
 ghost use Rattle.rm_val.specs.Val.{Val, val_of};
 ghost use Rattle.rm_val.specs.Spellable.{IsSpellable, HasSpelling};
@@ -7,8 +7,6 @@ ghost use Rattle.rm_model.specs.Cells.{cells_of, cell_at, IsNext};
 ghost use Rattle.rm_model.specs.Judgement.{IsFirstFault};
 ghost use Rattle.rm_group.specs.Alone.{alone_at};
 ghost use Rattle.rm_group.specs.Listed.{alone_beside};
-ghost use Rattle.rm_group.specs.Search.{are_rising};
-ghost use Rattle.rm_columns.specs.RowForm.{can_name};
 ghost use Rattle.rm_status.specs.RowsShown.{AreSpelled, rows_shown};
 ghost use Rattle.rm_nested.specs.InnerTable.{inner_table};
 

@@ -1,6 +1,5 @@
 // The protocols that are active.
-ghost use Rattle.std.specs.Prelude.{◌≡◌, ◌<◌, true, false, [], ◌∷◌, None, Some, IfOk, IfErr, IfSome, IfNone, is_some, length, replicate, slice_set};
-ghost use Rattle.rm_path.specs.Identifier.{number_of};
+ghost use Rattle.std.specs.Prelude.{◌≡◌, ◌<◌, false, [], ◌∷◌, None, Some, IfOk, IfErr, IfSome, IfNone, length, replicate, slice_set};
 ghost use Rattle.rm_path.specs.Order.{AreRising, IsAt, IsGap};
 ghost use Rattle.rm_path.specs.Slots.{protocol_in, identifier_in, is_active, IsSlotOfFirst, AreFull, HaveSlots};
 

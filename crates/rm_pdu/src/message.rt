@@ -1,5 +1,5 @@
 // Reading a message from its octets.
-ghost use Rattle.std.specs.Prelude.{◌≡◌, ◌+◌, ◌≤◌, ◌<◌, ◌^◌, ◌↔◌, IsTrue, pos, ℕ, List, [], Bool, IsOk, length, ◌∷◌, true, false, MatchResult, IfOk, OnErr};
+ghost use Rattle.std.specs.Prelude.{◌≡◌, ◌≤◌, ◌<◌, ◌^◌, ◌↔◌, IsTrue, pos, ℕ, List, [], Bool, IsOk, length, ◌∷◌, true, false, MatchResult, IfOk};
 ghost use Rattle.rm_val.specs.Val.{name};
 ghost use Rattle.rm_ber.specs.Grammar.{StandsFirst, ValueFirst, end_of};
 ghost use Rattle.rm_pdu.specs.declared.kind.Kind.{Kind};

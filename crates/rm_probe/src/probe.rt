@@ -1,5 +1,5 @@
 // The probe.
-ghost use Rattle.std.specs.Prelude.{◌≡◌, ℕ, ◌+◌, ◌≤◌, ◌<◌, max, List, [], ◌∷◌, length, Some, IfOk, IfSome, IfNone, map};
+ghost use Rattle.std.specs.Prelude.{◌≡◌, ℕ, ◌+◌, ◌≤◌, ◌<◌, max, List, ◌∷◌, length, Some, IfOk, IfSome, IfNone, map};
 ghost use Rattle.rm_model.specs.Journal.{Journal};
 ghost use Rattle.rm_agent.specs.Agent.{dues_of, dues_left_of, IsNextMoment, NothingIsDue};
 ghost use Rattle.rm_agent.specs.Answers.{IsShort};

@@ -1,5 +1,5 @@
 // Lists of names.
-ghost use Rattle.std.specs.Prelude.{◌≡◌, ◌<◌, ◌≤◌, [], ◌∷◌, ◌++◌, length, Some, slice_get, slice_set};
+ghost use Rattle.std.specs.Prelude.{◌≡◌, ◌<◌, [], ◌∷◌, ◌++◌, length, Some, slice_get, slice_set};
 
 use arrayvec::ArrayVec;
 use rm_val::Oid;
@@ -24,7 +24,7 @@ pub(crate) struct Names<const MOST: usize> {
 }
 
 impl<const MOST: usize> Model for Names<MOST> {
-    ghost use Rattle.std.specs.Prelude.{ℕ, List, ◌≤◌, length, map};
+    ghost use Rattle.std.specs.Prelude.{ℕ, List, length, map};
     ghost use Rattle.rm_reply.specs.declared.names.Asked.{Asked};
 
     ghost Value = { List (List ℕ) };

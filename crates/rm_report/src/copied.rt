@@ -1,5 +1,5 @@
 // Copies of what hosts have counted.
-ghost use Rattle.std.specs.Prelude.{◌≡◌, ◌+◌, ◌<◌, ◌≤◌, map, length, option_map, vec_capacity};
+ghost use Rattle.std.specs.Prelude.{◌≡◌, ◌+◌, ◌<◌, ◌≤◌, map, option_map, vec_capacity};
 ghost use Rattle.rm_keyed.specs.declared.keyed.TheConstants.{MOST_ROWS};
 ghost use Rattle.rm_rows.specs.Table.{key_at, keys_of};
 ghost use Rattle.rm_report.specs.Copies.{AreRising, copied_count, copy_in};

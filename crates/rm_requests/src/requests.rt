@@ -1,5 +1,5 @@
 // A request file that is read line by line.
-ghost use Rattle.std.specs.Prelude.{◌≡◌, ◌≤◌, ◌<◌, ◌*◌, ◌+◌, ℕ, List, [], length, drop, take, position, vec_len, Err, IfOk, OnOk, IsErr};
+ghost use Rattle.std.specs.Prelude.{◌≡◌, ◌≤◌, ◌*◌, ◌+◌, ℕ, List, [], length, drop, position, vec_len, Err, IfOk, OnOk, IsErr};
 ghost use Rattle.rm_edge.specs.Outside.{File, Absent, HasCause, Rose};
 ghost use Rattle.rm_edge.specs.Shelves.{KeepsShelf};
 ghost use Rattle.rm_window.specs.Filling.{IsFront};

@@ -1,5 +1,5 @@
 // What a ring keeps of the packets that it is given.
-ghost use Rattle.std.specs.Prelude.{◌≡◌, ◌+◌, ◌<◌, ◌≤◌, [], ◌∷◌, ◌++◌, length, nat_le, nat_lt};
+ghost use Rattle.std.specs.Prelude.{◌≡◌, ◌≤◌, [], ◌∷◌, ◌++◌, length, nat_le, nat_lt};
 ghost use Rattle.rm_ring.specs.Kept.{stored, cost_of, longest_front, longest_tail};
 
 use crate::ring::Ring;

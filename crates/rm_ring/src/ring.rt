@@ -1,7 +1,7 @@
 // A ring of packets.
-ghost use Rattle.std.specs.Prelude.{◌≡◌, ℕ, ◌+◌, ◌/◌, ◌<◌, ◌≤◌, ◌^◌, List, [], ◌∷◌, ◌++◌, length, drop, slice_get, option_map, nat_le, IfOk};
+ghost use Rattle.std.specs.Prelude.{◌≡◌, ◌+◌, ◌/◌, ◌<◌, ◌≤◌, ◌^◌, [], ◌∷◌, ◌++◌, length, drop, slice_get, option_map, nat_le, IfOk};
 ghost use borrow.Rule.Slice.PartMut.{put_mid};
-ghost use Rattle.rm_ring.specs.Kept.{Kept, Stored, cost_of, stored};
+ghost use Rattle.rm_ring.specs.Kept.{Kept, cost_of, stored};
 
 use crate::packet::Packet;
 use crate::place::Place;

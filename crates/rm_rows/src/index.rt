@@ -1,6 +1,6 @@
 // The nodes of the rows, and their index by key.
 
-ghost use Rattle.std.specs.Prelude.{◌≡◌, ℕ, ◌+◌, ◌<◌, ◌≤◌, List, [], ◌∷◌, ◌++◌, find as search, All, IfOk, IfErr, IfSome, IfNone, Some, None, slice_get, option_map, option_copied, vec_len, vec_capacity};
+ghost use Rattle.std.specs.Prelude.{◌≡◌, ◌+◌, ◌<◌, ◌≤◌, List, [], ◌∷◌, ◌++◌, find as search, All, IfOk, IfErr, IfSome, IfNone, Some, None, slice_get, option_map, option_copied, vec_len, vec_capacity};
 ghost use Rattle.std.specs.VecDeque.{deque_len, deque_capacity};
 ghost use denote.RawPtr.{Ptr};
 ghost use Rattle.rm_evicting.specs.declared.Row.{Row as RowOf};

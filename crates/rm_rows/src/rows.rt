@@ -1,6 +1,6 @@
 // The rows of a table, of which at most so many are held.
 
-ghost use Rattle.std.specs.Prelude.{◌≡◌, ℕ, ◌+◌, ◌<◌, ◌≤◌, List, [], length, All, IfOk, option_copied, option_map, vec_capacity};
+ghost use Rattle.std.specs.Prelude.{◌≡◌, ◌+◌, ◌<◌, ◌≤◌, [], length, All, IfOk, option_copied, option_map};
 ghost use Rattle.std.specs.Prelude.{IfSome, IfNone, Some, None};
 ghost use Rattle.std.specs.Borrow.{sem};
 ghost use Rattle.rm_evicting.specs.Row.{touched};

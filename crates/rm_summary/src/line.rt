@@ -1,5 +1,5 @@
 // The lines of a summary.
-ghost use Rattle.std.specs.Prelude.{◌≡◌, ◌+◌, ◌≤◌, ◌++◌, decimal, length};
+ghost use Rattle.std.specs.Prelude.{◌≡◌, ◌≤◌, length};
 ghost use Rattle.rm_summary.specs.Text.{line};
 
 use arrayvec::ArrayVec;

@@ -1,5 +1,5 @@
 // The frames of a capture, which are counted before anything is written.
-ghost use Rattle.std.specs.Prelude.{◌≡◌, ◌≤◌, Err, IfOk, IfErr, length};
+ghost use Rattle.std.specs.Prelude.{◌≡◌, Err, IfOk, IfErr};
 ghost use Rattle.rm_edge.specs.Outside.{OfFile};
 ghost use Rattle.rm_edge.specs.Shelves.{KeepsShelf};
 ghost use Rattle.rm_edge.specs.Uses.{file_use};

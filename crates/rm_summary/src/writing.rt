@@ -1,5 +1,4 @@
 // The lines of a summary, each by one put.
-ghost use Rattle.std.specs.Prelude.{◌≡◌};
 ghost use Rattle.rm_edge.specs.Outside.{HasCause, Puts};
 ghost use Rattle.rm_summary.specs.Text.{figure_lines};
 ghost use Rattle.rm_summary.specs.Counted.{figure_in, text_of};

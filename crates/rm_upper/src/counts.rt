@@ -1,6 +1,6 @@
 // What rows count, and what is kept of it.
 
-ghost use Rattle.std.specs.Prelude.{◌≡◌, ℕ, ◌≤◌, length};
+ghost use Rattle.std.specs.Prelude.{◌≡◌, ◌≤◌, length};
 ghost use Rattle.rm_upper.specs.Tally.{Tally};
 ghost use Rattle.rm_upper.specs.Kept.{NetworkRow, is_among, all_made};
 ghost use Rattle.rm_upper.specs.Shown.{blank_row, gained_value};

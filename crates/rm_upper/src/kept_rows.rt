@@ -1,6 +1,6 @@
 // The rows of rm_rows, each by what is kept of a network row.
 
-ghost use Rattle.std.specs.Prelude.{◌≡◌, ℕ, ◌<◌, ◌≤◌, ◌^◌, [], length, All, IfOk, IfSome};
+ghost use Rattle.std.specs.Prelude.{◌≡◌, ◌<◌, ◌≤◌, [], length, All, IfOk, IfSome};
 ghost use Rattle.std.specs.Option.{option_copied, option_map};
 ghost use Rattle.rm_evicting.specs.Row.{holds, touched, credited};
 
@@ -30,7 +30,6 @@ impl<K: Key, N: LayerCounts> Model for KeptRows<K, N> {
 
 impl<K: Key, N: LayerCounts> KeptRows<K, N> {
     ghost use Rattle.rm_rows.specs.Table.{IsNextKey, IsNextMark, keys_of, pair_copied, key_at, row_of};
-    ghost use Rattle.rm_upper.specs.Kept.{is_among};
     ghost use Rattle.rm_upper.specs.Shown.{blank_row, gained_value, made_in, applications_of};
     ghost use Rattle.rm_upper.specs.Cells.{network_in};
 

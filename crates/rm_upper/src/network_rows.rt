@@ -1,9 +1,7 @@
 // The network rows of one control row.
 
-ghost use Rattle.std.specs.Prelude.{◌≡◌, ℕ, ◌+◌, ◌-◌, ◌<◌, ◌≤◌, ◌^◌, Bool, true, List, [], ◌∷◌, ◌++◌, length, All, IfOk, IfSome, replicate, None};
-ghost use Rattle.rm_evicting.specs.Row.{holds, touched};
+ghost use Rattle.std.specs.Prelude.{◌≡◌, ◌+◌, ◌-◌, ◌<◌, ◌≤◌, ◌^◌, Bool, true, List, [], ◌∷◌, ◌++◌, length, All, IfOk, IfSome, replicate, None};
 ghost use Rattle.rm_layers.specs.Event.{Contribution, Event, names, turns_ip, begins, is_ip_on, AreUpTo, AreRising};
-ghost use Rattle.rm_layers.specs.Applications.{Slots};
 ghost use Rattle.rm_layers.specs.Upper.{AreTuned};
 ghost use Rattle.rm_layers.specs.Turning.{IsChange};
 

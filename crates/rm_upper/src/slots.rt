@@ -1,6 +1,6 @@
 // Application rows in slots. A row from before its protocol was last turned on is none.
 
-ghost use Rattle.std.specs.Prelude.{◌≡◌, ℕ, ◌+◌, ◌≤◌, List, length};
+ghost use Rattle.std.specs.Prelude.{◌≡◌, ◌≤◌, length};
 ghost use Rattle.rm_upper.specs.Standing.{slot_after, slots_after};
 ghost use Rattle.rm_upper.specs.Kept.{is_among, first, taken, is_made, kept_with, makes_here, all_with, all_made};
 

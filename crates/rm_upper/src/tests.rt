@@ -1,4 +1,4 @@
-ghost use Rattle.std.specs.Prelude.{◌≡◌, ℕ, ◌+◌, ◌%◌, ◌<◌, ◌≤◌, ◌^◌, replicate, None, refl};
+ghost use Rattle.std.specs.Prelude.{◌≡◌, ◌+◌, ◌%◌, ◌<◌, ◌≤◌, ◌^◌, replicate, None, refl};
 
 use crate::{Counted, Counts, KeptApplication, LayerCounts, LayerTable, Slot, take_all};
 use rm_rows::Blank;

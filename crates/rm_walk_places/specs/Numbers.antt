@@ -1,5 +1,5 @@
 -- Lists of numbers within bounds are finitely many.
-use Rattle.std.proofs.Common.{◌≡◌, ℕ, Bool, true, ◌&&◌, nat_le, List, [], ◌∷◌, ◌++◌, Contains}
+use Rattle.std.proofs.Common.{◌≡◌, ℕ, Bool, true, ◌&&◌, nat_le, List, [], ◌∷◌, Contains}
 use Rattle.std.proofs.lemmas.Bool.{and_parts, leb-true}
 use Rattle.rm_model.proofs.Members.{here}
 use Rattle.rm_nested.proofs.Finite.{numbers, in_numbers, nested, in_nested}
@@ -29,13 +29,3 @@ in_lists (bound ∷ bounds) (number ∷ index) is =
     (λ number index within. in_numbers (λ n. nat_le n bound.greatest) bound.greatest (λ n le. leb-true n bound.greatest le) (number ∷ []) (not_above bound bounds number index within).0)
     (λ number index within. in_lists bounds index (not_above bound bounds number index within).1)
     (number ∷ index) is
-
--- numbers within bounds before others within theirs
-pub joined : (bounds more : List Bounds) (numbers others : List ℕ) → are_within bounds numbers ≡ true → are_within more others ≡ true → are_within (bounds ++ more) (numbers ++ others) ≡ true
-joined [] more [] others first second = second
-joined [] more (number ∷ numbers) others first second = absurd (cc)
-joined (bound ∷ bounds) more [] others first second = absurd (cc)
-joined (bound ∷ bounds) more (number ∷ numbers) others first second =
-    let parts = and_parts (nat_le bound.least number) (nat_le number bound.greatest && are_within bounds numbers) first in
-    let rest = and_parts (nat_le number bound.greatest) (are_within bounds numbers) parts.1 in
-    rw (parts.0, rest.0) (joined bounds more numbers others rest.1 second)

@@ -1,4 +1,4 @@
-ghost use Rattle.std.specs.Prelude.{Some, IsOk, IsErr, IsNone, IfSome, IfOk, OnOk, OnErr, ◌↔◌, ◌⊎◌, ◌≡◌, ◌+◌, ◌-◌, ◌<◌, ◌≤◌, [], ◌∷◌, ◌++◌, length, take, drop, slice_get};
+ghost use Rattle.std.specs.Prelude.{Some, IsErr, IsNone, IfSome, IfOk, OnOk, OnErr, ◌↔◌, ◌⊎◌, ◌≡◌, ◌+◌, ◌-◌, ◌<◌, ◌≤◌, [], ◌∷◌, ◌++◌, length, take, drop, slice_get};
 ghost use Rattle.rm_edge.specs.Outside.{HasCause, one_more};
 ghost use Rattle.rm_edge.specs.Link.{Receives};
 ghost use Rattle.rm_edge.specs.MemLink.{IsToFail, failed_at};

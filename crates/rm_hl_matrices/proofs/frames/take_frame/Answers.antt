@@ -1,13 +1,11 @@
-use Rattle.std.proofs.Common.{◌≡◌, ◌/◌, ◌+◌, ◌≤◌, false, ◌&&◌, nat_eq, [], ◌∷◌, ℕ, List, Some, None, refl, sym, ap, ◌∙◌, arith}
+use Rattle.std.proofs.Common.{◌≡◌, ◌/◌, ◌+◌, false, ◌&&◌, nat_eq, [], ◌∷◌, ℕ, Some, None, refl, sym, ◌∙◌, arith}
 use Rattle.std.proofs.lemmas.Bool.Decides.{nat_tests}
-use Rattle.rm_layer_events.specs.Side.{Reference}
-use Rattle.rm_layer_matrices.specs.declared.pair_counts.PairCounts.{PairCounts}
 use Rattle.rm_layer_matrices.specs.PairCounts.{pair_tally}
 use Rattle.rm_layer_tables.specs.Going.{unnamed}
-use Rattle.rm_layer_tables.specs.Layer.{Layer, named_by, names_of, references_to}
+use Rattle.rm_layer_tables.specs.Layer.{references_to}
 use Rattle.rm_layer_tables.specs.LayerLaws.{named_of, none_of}
 use Rattle.rm_hl_matrices.specs.PairLaws.{source_named, destination_named}
-use Rattle.rm_hl_matrices.specs.Pairs.{Pair, source_layer, destination_layer}
+use Rattle.rm_hl_matrices.specs.Pairs.{source_layer, destination_layer}
 use Rattle.rm_hl_matrices.specs.PairCells.{same_pair}
 use Rattle.rm_hl_matrices.specs.Collection.{by_source, by_destination, MayTake}
 use Rattle.rm_hl_matrices.specs.declared.part.PairPart.{PairPart}

@@ -1,6 +1,3 @@
-use Rattle.std.proofs.Common.{◌∙◌, ap}
-use Rattle.rm_val.specs.Val.{name}
-use Rattle.rm_model.specs.Interfaces.{interface_name}
 use Rattle.rm_model.specs.Journal.{assigns}
 use Rattle.rm_layer_tables.specs.ControlColumns.{layer_rows}
 use Rattle.rm_hl_hosts.specs.Collection.{host_collection}

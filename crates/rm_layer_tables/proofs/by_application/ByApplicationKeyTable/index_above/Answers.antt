@@ -1,6 +1,6 @@
-use Rattle.std.proofs.Common.{◌<◌, ◌^◌, rules, sym, subst, ◌∙◌, ap}
+use Rattle.std.proofs.Common.{◌<◌, ◌^◌, rules, sym, subst}
 use Rattle.rm_evicting.proofs.Keys.{exact_key}
-use Rattle.rm_layers.specs.Applications.{AreApart, Slots}
+use Rattle.rm_layers.specs.Applications.{AreApart}
 use Rattle.rm_upper.specs.Shown.{protocols}
 use Rattle.rm_layer_tables.proofs.WalkLemmas.{no_application, least_application}
 use Rattle.rm_layer_tables.proofs.by_application.ByApplicationKeyTable.index_above.Goals as goal
