@@ -1,5 +1,5 @@
--- The groups of a name are accepted, and are the fewest octets.
-use Rattle.std.proofs.Common.{◌≡◌, ℕ, zero, suc, ◌+◌, ◌-◌, ◌*◌, ◌/◌, ◌%◌, ◌^◌, ◌<◌, ◌≤◌, List, [], ◌∷◌, ◌++◌, length, slice_index, All, inl, inr, refl, sym, ap, ◌∙◌, length-append, arith}
+-- The groups of a name are accepted, and are the fewest octets; no others as few are.
+use Rattle.std.proofs.Common.{◌≡◌, ℕ, zero, suc, ◌+◌, ◌-◌, ◌*◌, ◌/◌, ◌%◌, ◌^◌, ◌<◌, ◌≤◌, List, [], ◌∷◌, ◌++◌, length, slice_index, All, inl, inr, refl, sym, ap, subst, ◌∙◌, length-append, arith}
 use Rattle.std.specs.Prelude.{flat_map}
 use Rattle.std.proofs.lemmas.Bool.{cases_lt}
 use Rattle.std.proofs.lemmas.Bool.Decides.{nat_tests}
@@ -9,6 +9,8 @@ use Rattle.std.proofs.Math.Nat.{div-lt_iff_lt-mul, div-div-eq-div-mul, div-eq_of
 use Rattle.rm_val.specs.Spellable.{IsSpellable}
 use Rattle.rm_ber.specs.Element.{higher_groups, marked_groups, group_octets, name_octets}
 use Rattle.rm_ber.specs.Grammar.{base_128, IsGroup, AreGroups, numbers_of, IsName}
+use Rattle.rm_ber.specs.Canonical.{AreFewest}
+use Rattle.rm_ber.proofs.CanonicalLengths.{all_front, all_back}
 
 -- a number has k digits above its lowest, of which the highest isn't 0
 pub record IsHigh (n k : ℕ) : Type 0 where
@@ -177,7 +179,69 @@ name_octets-numbers_of (g ∷ more) some = elim (cases_lt g 40) [
 ]
 
 -- the content of a name is the shortest
-pub name-shortest : (content numbers : List ℕ) → IsName content numbers → length (name_octets numbers) ≤ length content
+name-shortest : (content numbers : List ℕ) → IsName content numbers → length (name_octets numbers) ≤ length content
 name-shortest content numbers is =
     let few = groups-shortest content is.groups is.are_groups in
     rw (is.is, name_octets-numbers_of is.groups is.some) few
+
+-- octets that go on from two numbers to the same one, as many and each with the high bit set but the last, are the same
+one_base : (m p last end : ℕ) (front other : List ℕ) → length front ≡ length other → All (λ o. 0x80 ≤ o) front → All (λ o. 0x80 ≤ o) other
+    → All (λ o. o < 256) front → All (λ o. o < 256) other → last < 0x80 → end < 0x80 → base_128 m (front ++ last ∷ []) ≡ base_128 p (other ++ end ∷ [])
+    → (m ≡ p) × (front ++ last ∷ [] ≡ other ++ end ∷ [])
+one_base m p last end [] [] count high above are others ends too is =
+    let lasts : last ≡ end = omega arith in
+    (omega arith, ap (λ (o : ℕ). o ∷ []) lasts)
+one_base m p last end [] (o ∷ os) count high above are others ends too is = absurd (omega arith)
+one_base m p last end (x ∷ xs) [] count high above are others ends too is = absurd (omega arith)
+one_base m p last end (x ∷ xs) (y ∷ ys) count high above are others ends too is =
+    let x_high = All-head (λ o. 0x80 ≤ o) x xs high in
+    let y_high = All-head (λ o. 0x80 ≤ o) y ys above in
+    let x_low = All-head (λ o. o < 256) x xs are in
+    let y_low = All-head (λ o. o < 256) y ys others in
+    let rest = one_base (128 * m + x % 128) (128 * p + y % 128) last end xs ys (omega arith) (All-tail (λ o. 0x80 ≤ o) x xs high) (All-tail (λ o. 0x80 ≤ o) y ys above)
+    (All-tail (λ o. o < 256) x xs are) (All-tail (λ o. o < 256) y ys others) ends too is in
+    let same = rest.0 in
+    let digit : x ≡ y = omega arith in
+    (omega arith, ap (λ (o : ℕ). o ∷ xs ++ last ∷ []) digit ∙ ap (λ (os : List ℕ). y ∷ os) rest.1)
+
+-- a number of a name has one group of so many octets
+one_group : (group other : List ℕ) (n : ℕ) → IsGroup group n → IsGroup other n → length group ≡ length other → All (λ o. o < 256) group → All (λ o. o < 256) other → group ≡ other
+one_group group other n is too same are others =
+    let here = ap length is.is in
+    let there = ap length too.is in
+    let some = length-append is.front (is.last ∷ []) in
+    let more = length-append too.front (too.last ∷ []) in
+    let octets = all_front is.front (is.last ∷ []) (subst (λ (xs : List ℕ). All (λ o. o < 256) xs) is.is are) in
+    let octets_too = all_front too.front (too.last ∷ []) (subst (λ (xs : List ℕ). All (λ o. o < 256) xs) too.is others) in
+    let numbers : base_128 0 (is.front ++ is.last ∷ []) ≡ base_128 0 (too.front ++ too.last ∷ []) =
+    ap (base_128 0) (sym is.is) ∙ sym is.number ∙ too.number ∙ ap (base_128 0) too.is in
+    let once = one_base 0 0 is.last too.last is.front too.front (omega arith) is.marked too.marked octets octets_too is.ends too.ends numbers in
+    is.is ∙ once.1 ∙ sym too.is
+
+marked-all : (k n : ℕ) → All (λ o. o < 256) (marked_groups k n ++ (n % 128) ∷ [])
+marked-all zero n = All-cons (λ o. o < 256) (n % 128) [] (omega arith) (All-nil (λ o. o < 256))
+marked-all (suc k) n = All-cons (λ o. o < 256) (128 + n / 128 ^ suc k % 128) (marked_groups k n ++ (n % 128) ∷ []) (omega arith) (marked-all k n)
+
+only_groups : (content groups : List ℕ) → AreGroups content groups → All (λ o. o < 256) content → length content ≡ length (flat_map group_octets groups) → content ≡ flat_map group_octets groups
+only_groups content [] is are same = is
+only_groups content (n ∷ more) is are same =
+    let group = is.0 in
+    let rest = is.1 in
+    let octets = subst (λ (xs : List ℕ). All (λ o. o < 256) xs) is.3 are in
+    let first = group-shortest group n is.2 in
+    let behind = groups-shortest rest more is.4 in
+    let total = ap length is.3 in
+    let parts = length-append group rest in
+    let wanted : length (flat_map group_octets (n ∷ more)) ≡ length (group_octets n) + length (flat_map group_octets more) =
+    ap length (flat_map-cons group_octets n more) ∙ length-append (group_octets n) (flat_map group_octets more) in
+    let this = one_group group (group_octets n) n is.2 (is_group n is.2.below) (omega arith) (all_front group rest octets) (marked-all (higher_groups n) n) in
+    let others = only_groups rest more is.4 (all_back group rest octets) (omega arith) in
+    is.3 ∙ ap (λ (xs : List ℕ). xs ++ rest) this ∙ ap (λ (xs : List ℕ). group_octets n ++ xs) others ∙ sym (flat_map-cons group_octets n more)
+
+pub name-fewest : (content numbers : List ℕ) → IsName content numbers → All (λ o. o < 256) content → AreFewest (name_octets numbers) content
+name-fewest content numbers is are =
+    let octets : name_octets numbers ≡ flat_map group_octets is.groups = ap name_octets is.is ∙ name_octets-numbers_of is.groups is.some in
+    record {
+      few = name-shortest content numbers is;
+      only = λ same. only_groups content is.groups is.are_groups are (same ∙ ap length octets) ∙ sym octets;
+    }

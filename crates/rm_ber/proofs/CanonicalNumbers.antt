@@ -1,4 +1,4 @@
--- The contents of the numbers are accepted, and are the fewest octets.
+-- The contents of the numbers are accepted, and are the fewest octets; no others as few are.
 use Rattle.std.proofs.Common.{◌≡◌, ℕ, zero, suc, ◌+◌, ◌-◌, ◌*◌, ◌/◌, ◌%◌, ◌^◌, ◌<◌, ◌≤◌, ℤ, pos, negsuc, ◌-ℤ◌, FitsSigned, Bool, true, false, cond, List, [], ◌∷◌, length, slice_index, All, inl, inr, Some, None, refl, sym, ap, ◌∙◌, arith}
 use Rattle.std.proofs.lemmas.Bool.{cases_lt}
 use Rattle.std.proofs.lemmas.Bool.Decides.{nat_tests}
@@ -11,8 +11,9 @@ use Rattle.byteorder.specs.Endian.{big_bytes, big_number, twos_complement}
 use Rattle.byteorder.specs.Numbers.{length-bytes_high_first, big_from-lt}
 use Rattle.rm_ber.specs.Element.{number_size, number_octets, integer_size, integer_octets}
 use Rattle.rm_ber.specs.Grammar.{IsInteger, IsUnsigned}
+use Rattle.rm_ber.specs.Canonical.{AreFewest}
 use Rattle.rm_ber.proofs.ElementLemmas.{integer_of-integer_octets, integer_octets-short}
-use Rattle.rm_ber.proofs.CanonicalLengths.{big_number-bytes, octet_at, big_number-lt}
+use Rattle.rm_ber.proofs.CanonicalLengths.{big_number-bytes, octet_at, big_number-lt, one_spelling, all_bytes}
 
 -- a number has one octet and k more, and its sign bit is 0
 pub record IsWide (n k : ℕ) : Type 0 where
@@ -87,7 +88,7 @@ below_sign content k are sign =
     let top : slice_index content 0 * 256 ^ k ≤ 127 * 256 ^ k = mul-le-mul_right (256 ^ k) (omega arith) in
     omega arith
 
-pub unsigned-shortest : (most limit : ℕ) (content : List ℕ) (n : ℕ) → IsUnsigned most limit content n → All (λ o. o < 256) content → length (number_octets n) ≤ length content
+unsigned-shortest : (most limit : ℕ) (content : List ℕ) (n : ℕ) → IsUnsigned most limit content n → All (λ o. o < 256) content → length (number_octets n) ≤ length content
 unfolding number_octets
 unsigned-shortest most limit [] n is are = absurd (let some = is.some in omega arith)
 unsigned-shortest most limit (c ∷ cs) n is are =
@@ -141,8 +142,70 @@ integer_octets-length : (z : ℤ) → length (integer_octets z) ≡ integer_size
 unfolding integer_octets
 integer_octets-length z = length-bytes_high_first (integer_size z) (cast_unsigned w64 z)
 
-pub integer-shortest : (content : List ℕ) (z : ℤ) → IsInteger content z → All (λ o. o < 256) content → length (integer_octets z) ≤ length content
+integer-shortest : (content : List ℕ) (z : ℤ) → IsInteger content z → All (λ o. o < 256) content → length (integer_octets z) ≤ length content
 integer-shortest [] z is are = absurd (let some = is.some in omega arith)
 integer-shortest (c ∷ cs) z is are =
     let few = integer_size-few (length cs) (big_number (suc (length cs)) (c ∷ cs)) (big_number-lt (suc (length cs)) (c ∷ cs) are) in
     rw (integer_octets-length z, is.number) few
+
+-- an unsigned number has one content of so many octets
+one_unsigned : (most limit : ℕ) (content other : List ℕ) (n : ℕ) → IsUnsigned most limit content n → IsUnsigned most limit other n → length content ≡ length other
+    → All (λ o. o < 256) content → All (λ o. o < 256) other → content ≡ other
+one_unsigned most limit content other n is too same are others =
+    one_spelling content other same are others (sym is.number ∙ too.number ∙ ap (λ (k : ℕ). big_number k other) (sym same))
+
+number_octets-all : (n : ℕ) → All (λ o. o < 256) (number_octets n)
+unfolding number_octets
+number_octets-all n = all_bytes (number_size n) n
+
+unsigned-fewest : (most limit : ℕ) (content : List ℕ) (n : ℕ) → IsUnsigned most limit (number_octets n) n → IsUnsigned most limit content n → All (λ o. o < 256) content
+    → AreFewest (number_octets n) content
+unsigned-fewest most limit content n canonical is are = record {
+  few = unsigned-shortest most limit content n is are;
+  only = λ same. one_unsigned most limit content (number_octets n) n is canonical same are (number_octets-all n);
+}
+
+pub unsigned_32-fewest : (content : List ℕ) (n : ℕ) → IsUnsigned 8 (2 ^ 32) content n → All (λ o. o < 256) content → AreFewest (number_octets n) content
+unsigned_32-fewest content n is are = unsigned-fewest 8 (2 ^ 32) content n (is_unsigned_32 n is.below) is are
+
+pub unsigned_64-fewest : (content : List ℕ) (n : ℕ) → IsUnsigned 9 (2 ^ 64) content n → All (λ o. o < 256) content → AreFewest (number_octets n) content
+unsigned_64-fewest content n is are = unsigned-fewest 9 (2 ^ 64) content n (is_unsigned_64 n is.below) is are
+
+-- the bits of a signed number, of so many as are below 2 to their number
+abbrev bits_of : ℕ → ℤ → ℕ
+bits_of all (pos x) = x
+bits_of all (negsuc x) = all - x - 1
+
+bits_back : (k x : ℕ) → x < 256 ^ suc k → x ≡ bits_of (2 ^ (8 * suc k)) (twos_complement (suc k) x)
+bits_back k x fits =
+    let all = whole k in
+    let within : x < 256 * 256 ^ k = rw (pow-succ' 256 k) at fits in
+    elim (cases_lt x (2 ^ (8 * suc k - 1))) [
+      | inl below ↦
+          let is : twos_complement (suc k) x ≡ pos x = grind (arith, nat_tests) in
+          rw is refl
+      | inr above ↦
+          let is : twos_complement (suc k) x ≡ pos x -ℤ pos (2 ^ (8 * suc k)) = grind (arith, nat_tests) in
+          rw (is, pos_minus x (2 ^ (8 * suc k)) (omega arith)) (omega arith)
+    ]
+
+-- a signed number has one content of so many octets
+one_integer : (content other : List ℕ) (z : ℤ) → IsInteger content z → IsInteger other z → length content ≡ length other
+    → All (λ o. o < 256) content → All (λ o. o < 256) other → content ≡ other
+one_integer [] other z is too same are others = absurd (let some = is.some in omega arith)
+one_integer (c ∷ cs) other z is too same are others =
+    let k = length cs in
+    let here = bits_back k (big_number (suc k) (c ∷ cs)) (big_number-lt (suc k) (c ∷ cs) are) in
+    let there = bits_back k (big_number (suc k) other) (big_number-lt (suc k) other others) in
+    let number : z ≡ twos_complement (suc k) (big_number (suc k) other) = too.number ∙ ap (λ (n : ℕ). twos_complement n (big_number n other)) (sym same) in
+    one_spelling (c ∷ cs) other same are others (here ∙ ap (bits_of (2 ^ (8 * suc k))) (sym is.number ∙ number) ∙ sym there)
+
+integer_octets-all : (z : ℤ) → All (λ o. o < 256) (integer_octets z)
+unfolding integer_octets
+integer_octets-all z = all_bytes (integer_size z) (cast_unsigned w64 z)
+
+pub integer-fewest : (content : List ℕ) (z : ℤ) → IsInteger content z → All (λ o. o < 256) content → AreFewest (integer_octets z) content
+integer-fewest content z is are = record {
+  few = integer-shortest content z is are;
+  only = λ same. one_integer content (integer_octets z) z is (is_integer z is.fits) same are (integer_octets-all z);
+}

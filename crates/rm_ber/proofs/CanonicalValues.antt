@@ -1,14 +1,14 @@
--- The canonical octets of values are accepted, and are the fewest.
+-- The canonical octets of values are accepted, and are the fewest; no others as few are.
 use Rattle.std.proofs.Common.{◌≡◌, ℕ, ◌+◌, ◌^◌, ◌<◌, ◌≤◌, List, [], ◌++◌, length, All, length-append, refl, subst, Result, Ok, Err, IsOk, OnOk, ◌↔◌, arith}
 use Rattle.rm_val.specs.Val.{Val, int, octets, null, name, ip, counter, gauge, ticks, opaque_octets, big, no_object, no_instance, end_of_view}
 use Rattle.rm_val.specs.Spellable.{HasSpelling}
 use Rattle.rm_ber.specs.Element.{length_octets, element, integer_octets, number_octets, name_octets, value_element}
 use Rattle.rm_ber.specs.Grammar.{StandsFirst, IsUnsigned, IsValue, ValueFirst}
-use Rattle.rm_ber.specs.Canonical.{HasLength, IsInRange, IsAccepted}
+use Rattle.rm_ber.specs.Canonical.{HasLength, IsInRange, IsAccepted, AreFewest}
 use Rattle.rm_ber.proofs.ElementLemmas.{integer_octets-short}
-use Rattle.rm_ber.proofs.CanonicalLengths.{element_first, content_octets, element-shortest}
-use Rattle.rm_ber.proofs.CanonicalNames.{is_name, name_octets-short, name-shortest}
-use Rattle.rm_ber.proofs.CanonicalNumbers.{is_integer, is_unsigned_32, is_unsigned_64, unsigned-shortest, integer-shortest}
+use Rattle.rm_ber.proofs.CanonicalLengths.{themselves, element_first, content_octets, element-fewest}
+use Rattle.rm_ber.proofs.CanonicalNames.{is_name, name_octets-short, name-fewest}
+use Rattle.rm_ber.proofs.CanonicalNumbers.{is_integer, is_unsigned_32, is_unsigned_64, unsigned_32-fewest, unsigned_64-fewest, integer-fewest}
 
 -- an element is accepted as the value that its content is
 content_first : (v : Val) (tag : ℕ) (content rest : List ℕ) → length content ≤ 4294967295 → IsValue tag content v → ValueFirst v rest (element tag content ++ rest)
@@ -45,44 +45,38 @@ value_first no_object rest spells short fits = content_first no_object 0x80 [] r
 value_first no_instance rest spells short fits = content_first no_instance 0x81 [] rest (omega arith) (refl, refl)
 value_first end_of_view rest spells short fits = content_first end_of_view 0x82 [] rest (omega arith) (refl, refl)
 
--- no element is shorter that is accepted with the same tag, and whose content isn't shorter
-same_tag : (tag accepted : ℕ) (content rest bytes canonical : List ℕ) → StandsFirst accepted content rest bytes → All (λ o. o < 256) bytes → accepted ≡ tag → length canonical ≤ length content
-    → length (element tag canonical ++ rest) ≤ length bytes
-same_tag tag accepted content rest bytes canonical stands are is few =
-    element-shortest tag content rest bytes canonical (subst (λ (t : ℕ). StandsFirst t content rest bytes) is stands) are few
+-- no element has fewer octets that is accepted with the same tag, and whose content hasn't
+same_tag : (tag accepted : ℕ) (content rest bytes canonical : List ℕ) → StandsFirst accepted content rest bytes → All (λ o. o < 256) bytes → accepted ≡ tag → AreFewest canonical content
+    → AreFewest (element tag canonical ++ rest) bytes
+same_tag tag accepted content rest bytes canonical stands are is fewest =
+    element-fewest tag content rest bytes canonical (subst (λ (t : ℕ). StandsFirst t content rest bytes) is stands) are fewest
 
-as_long : (xs ys : List ℕ) → xs ≡ ys → length ys ≤ length xs
-as_long xs ys e = rw e (omega arith)
+fewest_of : (v : Val) (tag : ℕ) (content rest bytes : List ℕ) → StandsFirst tag content rest bytes → All (λ o. o < 256) bytes → All (λ o. o < 256) content → IsValue tag content v
+    → AreFewest (value_element v ++ rest) bytes
+fewest_of (int z) tag content rest bytes stands are inner is =
+    same_tag 0x02 tag content rest bytes (integer_octets z) stands are is.0 (integer-fewest content z is.1 inner)
+fewest_of (octets o) tag content rest bytes stands are inner is = same_tag 0x04 tag content rest bytes o stands are is.0 (themselves o content is.1)
+fewest_of null tag content rest bytes stands are inner is = same_tag 0x05 tag content rest bytes [] stands are is.0 (themselves [] content is.1)
+fewest_of (name numbers) tag content rest bytes stands are inner is =
+    same_tag 0x06 tag content rest bytes (name_octets numbers) stands are is.0 (name-fewest content numbers is.1 inner)
+fewest_of (ip o) tag content rest bytes stands are inner is = same_tag 0x40 tag content rest bytes o stands are is.0 (themselves o content is.1)
+fewest_of (counter n) tag content rest bytes stands are inner is =
+    same_tag 0x41 tag content rest bytes (number_octets n) stands are is.0 (unsigned_32-fewest content n is.1 inner)
+fewest_of (gauge n) tag content rest bytes stands are inner is =
+    same_tag 0x42 tag content rest bytes (number_octets n) stands are is.0 (unsigned_32-fewest content n is.1 inner)
+fewest_of (ticks n) tag content rest bytes stands are inner is =
+    same_tag 0x43 tag content rest bytes (number_octets n) stands are is.0 (unsigned_32-fewest content n is.1 inner)
+fewest_of (opaque_octets o) tag content rest bytes stands are inner is = same_tag 0x44 tag content rest bytes o stands are is.0 (themselves o content is.1)
+fewest_of (big n) tag content rest bytes stands are inner is =
+    same_tag 0x46 tag content rest bytes (number_octets n) stands are is.0 (unsigned_64-fewest content n is.1 inner)
+fewest_of no_object tag content rest bytes stands are inner is = same_tag 0x80 tag content rest bytes [] stands are is.0 (themselves [] content is.1)
+fewest_of no_instance tag content rest bytes stands are inner is = same_tag 0x81 tag content rest bytes [] stands are is.0 (themselves [] content is.1)
+fewest_of end_of_view tag content rest bytes stands are inner is = same_tag 0x82 tag content rest bytes [] stands are is.0 (themselves [] content is.1)
 
-no_longer : (xs : List ℕ) → 0 ≤ length xs
-no_longer xs = omega arith
-
-shortest_of : (v : Val) (tag : ℕ) (content rest bytes : List ℕ) → StandsFirst tag content rest bytes → All (λ o. o < 256) bytes → All (λ o. o < 256) content → IsValue tag content v
-    → length (value_element v ++ rest) ≤ length bytes
-shortest_of (int z) tag content rest bytes stands are inner is =
-    same_tag 0x02 tag content rest bytes (integer_octets z) stands are is.0 (integer-shortest content z is.1 inner)
-shortest_of (octets o) tag content rest bytes stands are inner is = same_tag 0x04 tag content rest bytes o stands are is.0 (as_long content o is.1)
-shortest_of null tag content rest bytes stands are inner is = same_tag 0x05 tag content rest bytes [] stands are is.0 (no_longer content)
-shortest_of (name numbers) tag content rest bytes stands are inner is =
-    same_tag 0x06 tag content rest bytes (name_octets numbers) stands are is.0 (name-shortest content numbers is.1)
-shortest_of (ip o) tag content rest bytes stands are inner is = same_tag 0x40 tag content rest bytes o stands are is.0 (as_long content o is.1)
-shortest_of (counter n) tag content rest bytes stands are inner is =
-    same_tag 0x41 tag content rest bytes (number_octets n) stands are is.0 (unsigned-shortest 8 (2 ^ 32) content n is.1 inner)
-shortest_of (gauge n) tag content rest bytes stands are inner is =
-    same_tag 0x42 tag content rest bytes (number_octets n) stands are is.0 (unsigned-shortest 8 (2 ^ 32) content n is.1 inner)
-shortest_of (ticks n) tag content rest bytes stands are inner is =
-    same_tag 0x43 tag content rest bytes (number_octets n) stands are is.0 (unsigned-shortest 8 (2 ^ 32) content n is.1 inner)
-shortest_of (opaque_octets o) tag content rest bytes stands are inner is = same_tag 0x44 tag content rest bytes o stands are is.0 (as_long content o is.1)
-shortest_of (big n) tag content rest bytes stands are inner is =
-    same_tag 0x46 tag content rest bytes (number_octets n) stands are is.0 (unsigned-shortest 9 (2 ^ 64) content n is.1 inner)
-shortest_of no_object tag content rest bytes stands are inner is = same_tag 0x80 tag content rest bytes [] stands are is.0 (no_longer content)
-shortest_of no_instance tag content rest bytes stands are inner is = same_tag 0x81 tag content rest bytes [] stands are is.0 (no_longer content)
-shortest_of end_of_view tag content rest bytes stands are inner is = same_tag 0x82 tag content rest bytes [] stands are is.0 (no_longer content)
-
--- octets that are accepted as a value have a content that isn't shorter than the canonical one
-pub shortest : (v : Val) (rest bytes : List ℕ) → ValueFirst v rest bytes → All (λ o. o < 256) bytes → length (value_element v ++ rest) ≤ length bytes
-shortest v rest bytes first are =
-    shortest_of v first.tag first.content rest bytes first.stands are (content_octets first.tag first.content rest bytes first.stands are) first.is_value
+-- octets that are accepted as a value are no fewer than the canonical ones, and are these where they are as many
+pub fewest : (v : Val) (rest bytes : List ℕ) → ValueFirst v rest bytes → All (λ o. o < 256) bytes → AreFewest (value_element v ++ rest) bytes
+fewest v rest bytes first are =
+    fewest_of v first.tag first.content rest bytes first.stands are (content_octets first.tag first.content rest bytes first.stands are) first.is_value
 
 -- a value whose element fits has a length
 has_length : (v : Val) → length (value_element v) ≤ 1472 → HasLength v

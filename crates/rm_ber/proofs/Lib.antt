@@ -9,3 +9,4 @@ pub mod GrammarElements
 pub mod GrammarNames
 pub mod GrammarValues
 mod AcceptedNames
+pub mod PositionalLemmas

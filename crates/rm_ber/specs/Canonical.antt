@@ -1,4 +1,4 @@
--- What values have canonical octets that are accepted.
+-- What values have canonical octets that are accepted, and what octets are the fewest.
 use Rattle.std.specs.Prelude.{◌≡◌, ◌≤◌, ◌<◌, ◌^◌, FitsSigned, ℕ, List, ◌++◌, length, All}
 use Rattle.std.specs.Int.{w32}
 use Rattle.rm_val.specs.Val.{Val, int, octets, name, ip, counter, gauge, ticks, opaque_octets, big}
@@ -29,3 +29,8 @@ IsInRange v = Unit {0}
 -- the canonical element of a value is accepted as the value, whatever follows
 abbrev pub IsAccepted : Val → Type 0
 IsAccepted v = (rest : List ℕ) → ValueFirst v rest (value_element v ++ rest)
+
+-- octets are no fewer than the canonical ones, and are these where they are as many
+pub record AreFewest (canonical octets : List ℕ) : Type 0 where
+  pub few : length canonical ≤ length octets
+  pub only : length octets ≡ length canonical → octets ≡ canonical

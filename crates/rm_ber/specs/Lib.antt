@@ -1,4 +1,5 @@
 pub mod Canonical
 pub mod Element
 pub mod Grammar
+pub mod Positional
 pub mod Reading

@@ -1,10 +1,12 @@
 // Laws of the octets that are accepted and of the canonical ones. Their bodies are empty.
-ghost use Rattle.std.specs.Prelude.{◌≡◌, ◌⊎◌, ◌≤◌, ◌<◌, ℕ, List, [], ◌∷◌, ◌++◌, length, take, All};
+ghost use Rattle.std.specs.Prelude.{◌≡◌, ◌⊎◌, ◌≤◌, ◌<◌, ◌%◌, ◌^◌, ℕ, List, [], ◌∷◌, ◌++◌, length, map, take, All};
+ghost use Rattle.byteorder.specs.Endian.{big_number};
 ghost use Rattle.rm_val.specs.Val.{Val};
 ghost use Rattle.rm_val.specs.Spellable.{HasSpelling};
-ghost use Rattle.rm_ber.specs.Element.{length_octets, value_element};
-ghost use Rattle.rm_ber.specs.Grammar.{StandsFirst, ValueFirst};
-ghost use Rattle.rm_ber.specs.Canonical.{HasLength, IsInRange, IsAccepted};
+ghost use Rattle.rm_ber.specs.Element.{length_octets, element, group_octets, value_element};
+ghost use Rattle.rm_ber.specs.Grammar.{IsGroup, StandsFirst, ValueFirst};
+ghost use Rattle.rm_ber.specs.Canonical.{HasLength, IsInRange, IsAccepted, AreFewest};
+ghost use Rattle.rm_ber.specs.Positional.{positional};
 
 /// A law: at most one element stands first in the octets, with one rest.
 pub fn one_element()
@@ -58,4 +60,33 @@ pub fn values_read_back()
 pub fn canonical_is_shortest()
     ensures { (v : Val) (rest bytes : List ℕ) → ValueFirst v rest bytes → All (λ octet. octet < 256) bytes
         → length (value_element v ++ rest) ≤ length bytes }
+{}
+
+/// A law: octets that are accepted as a value, and are as many as its canonical element and the rest, are these.
+pub fn canonical_stands_alone()
+    ensures { (v : Val) (rest bytes : List ℕ) → ValueFirst v rest bytes → All (λ octet. octet < 256) bytes
+        → length bytes ≡ length (value_element v ++ rest) → bytes ≡ value_element v ++ rest }
+{}
+
+/// A law: octets that begin with an element are no fewer than its tag, its length in the fewest octets, its content and the rest, and
+/// are these where they are as many (X.690, 8.1.3).
+pub fn elements_are_shortest()
+    ensures { (tag : ℕ) (content rest bytes : List ℕ) → StandsFirst tag content rest bytes → All (λ octet. octet < 256) bytes
+        → AreFewest (element tag content ++ rest) bytes }
+{}
+
+/// A law: the digits of a subidentifier's number in base 128 are the low seven bits of its octets (X.690, 8.19.2).
+pub fn subidentifiers_are_positional()
+    ensures { (group : List ℕ) (n : ℕ) → IsGroup group n → n ≡ positional 128 (map (λ octet. octet % 128) group) }
+{}
+
+/// A law: what is written for a number of a name is a subidentifier with that number, in the fewest octets (X.690, 8.19.2).
+pub fn subidentifiers_read_back()
+    ensures { (n : ℕ) → n < 2 ^ 32 → IsGroup (group_octets n) n }
+{}
+
+/// A law: the number that octets are, the highest first, has them as its digits in base 256. So stand a length of the long form, and the two's
+/// complement of an integer (X.690, 8.1.3.5 and 8.3.3).
+pub fn octets_are_positional()
+    ensures { (octets : List ℕ) → big_number (length octets) octets ≡ positional 256 octets }
 {}

@@ -4,3 +4,4 @@ pub mod CaptureLemmas
 pub mod RecordLaws
 pub mod StepLemmas
 pub mod CountLemmas
+pub mod EachRecordLemmas

@@ -35,38 +35,46 @@ pub one_reading : (lead : ℕ) (bytes : List ℕ) (frames others : List Frame) (
 unfolding ReadsAs
 one_reading lead bytes frames others stop last a b = one_way (header_of bytes) lead bytes frames others stop last a b
 
+-- a whole record stands at the front of the octets that are left
+pub record IsTaken (form : Form) (lead : ℕ) (reach next : Reach) (xs : List ℕ) (frame : Frame) : Type 0 where
+  pub enough : 16 + included_of form xs ≤ length xs
+  pub is_frame : frame_at form lead reach xs ≡ frame
+  pub is_next : reach_after form lead reach xs ≡ next
+
+taken_with : (form : Form) (lead : ℕ) (reach next : Reach) (xs : List ℕ) (fault : Option PcapFault) (frame : Frame) → found_with form lead reach xs fault ≡ Whole frame next
+    → IsTaken form lead reach next xs frame
+taken_with form lead reach next xs (Some fault) frame is = absurd cc
+taken_with form lead reach next xs None frame is = by_test (nat_lt (length xs) (16 + included_of form xs)) refl is
+  where
+    by_test : (short : Bool) → nat_lt (length xs) (16 + included_of form xs) ≡ short
+        → (if short then Stops (CutAt reach.at) else Whole (frame_at form lead reach xs) (reach_after form lead reach xs)) ≡ Whole frame next → IsTaken form lead reach next xs frame
+    by_test true test e = absurd cc
+    by_test false test e = record { enough = grind (arith, nat_tests); is_frame = cc; is_next = cc }
+
+taken_in : (form : Form) (lead : ℕ) (reach next : Reach) (xs : List ℕ) (frame : Frame) → found_in form lead reach xs ≡ Whole frame next → IsTaken form lead reach next xs frame
+taken_in form lead reach next [] frame is = absurd cc
+taken_in form lead reach next (x ∷ xs) frame is = by_test (nat_lt (length (x ∷ xs)) 16) is
+  where
+    by_test : (short : Bool) → (if short then Stops (CutAt reach.at) else found_with form lead reach (x ∷ xs) (fault_at form lead reach (x ∷ xs))) ≡ Whole frame next
+        → IsTaken form lead reach next (x ∷ xs) frame
+    by_test true e = absurd cc
+    by_test false e = taken_with form lead reach next (x ∷ xs) (fault_at form lead reach (x ∷ xs)) frame e
+
+pub taken : (form : Form) (lead : ℕ) (reach next : Reach) (bytes : List ℕ) (frame : Frame) → found_at form lead reach bytes ≡ Whole frame next
+    → IsTaken form lead reach next (drop reach.at bytes) frame
+unfolding found_at
+taken form lead reach next bytes frame is = taken_in form lead reach next (drop reach.at bytes) frame is
+
 -- a record ends within the file, behind its beginning
 record IsWithin (reach next : Reach) (bytes : List ℕ) : Type 0 where
   on : reach.at < next.at
   within : next.at ≤ length bytes
 
-within_with : (form : Form) (lead : ℕ) (reach next : Reach) (bytes xs : List ℕ) (fault : Option PcapFault) (frame : Frame) → length xs ≡ length bytes - reach.at
-    → found_with form lead reach xs fault ≡ Whole frame next → IsWithin reach next bytes
-within_with form lead reach next bytes xs (Some fault) frame long is = absurd cc
-within_with form lead reach next bytes xs None frame long is =
-    by_test (nat_lt (length xs) (16 + included_of form xs)) refl is
-  where
-    by_test : (short : Bool) → nat_lt (length xs) (16 + included_of form xs) ≡ short
-        → (if short then Stops (CutAt reach.at) else Whole (frame_at form lead reach xs) (reach_after form lead reach xs)) ≡ Whole frame next → IsWithin reach next bytes
-    by_test true test e = absurd cc
-    by_test false test e =
-        let after : reach_after form lead reach xs ≡ next = cc in
-        let place : reach.at + (16 + included_of form xs) ≡ next.at = ap (λ (r : Reach). r.at) after in
-        let enough : 16 + included_of form xs ≤ length xs = grind (arith, nat_tests) in
-        record { on = omega arith; within = omega arith }
-
-within_in : (form : Form) (lead : ℕ) (reach next : Reach) (bytes xs : List ℕ) (frame : Frame) → length xs ≡ length bytes - reach.at → found_in form lead reach xs ≡ Whole frame next
-    → IsWithin reach next bytes
-within_in form lead reach next bytes [] frame long is = absurd cc
-within_in form lead reach next bytes (x ∷ xs) frame long is = by_test (nat_lt (length (x ∷ xs)) 16) is
-  where
-    by_test : (short : Bool) → (if short then Stops (CutAt reach.at) else found_with form lead reach (x ∷ xs) (fault_at form lead reach (x ∷ xs))) ≡ Whole frame next → IsWithin reach next bytes
-    by_test true e = absurd cc
-    by_test false e = within_with form lead reach next bytes (x ∷ xs) (fault_at form lead reach (x ∷ xs)) frame long e
-
 within : (form : Form) (lead : ℕ) (reach next : Reach) (bytes : List ℕ) (frame : Frame) → found_at form lead reach bytes ≡ Whole frame next → IsWithin reach next bytes
-unfolding found_at
-within form lead reach next bytes frame is = within_in form lead reach next bytes (drop reach.at bytes) frame (length-drop reach.at bytes) is
+within form lead reach next bytes frame is =
+    let t = taken form lead reach next bytes frame is in
+    let place : reach.at + (16 + included_of form (drop reach.at bytes)) ≡ next.at = ap (λ (r : Reach). r.at) t.is_next in
+    record { on = omega (arith, place); within = omega (arith, place, t.enough, length-drop reach.at bytes) }
 
 -- some list of records
 record SomeRecords (form : Form) (lead : ℕ) (reach : Reach) (bytes : List ℕ) : Type 0 where

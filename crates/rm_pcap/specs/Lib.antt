@@ -1,7 +1,8 @@
-pub mod Header
-pub mod Records
-pub mod Progress
-pub mod Seen
 pub mod Calls
-pub mod Window
+pub mod EachRecord
+pub mod Header
+pub mod Progress
+pub mod Records
+pub mod Seen
 pub mod View
+pub mod Window

@@ -11,11 +11,11 @@ use Rattle.rm_pdu.specs.Draft.{Drafted, drafted}
 use Rattle.rm_pdu.specs.DraftParts.{header_size, element_size, pdu_size, content_size, message_size}
 use Rattle.rm_pdu.proofs.DraftSizes.{length-message, length-integer, new_short}
 
-header_mono : (a b : ℕ) → a ≤ b → header_size a ≤ header_size b
+pub header_mono : (a b : ℕ) → a ≤ b → header_size a ≤ header_size b
 unfolding header_size
 header_mono a b le = grind (arith, nat_tests)
 
-element_mono : (a b : ℕ) → a ≤ b → element_size a ≤ element_size b
+pub element_mono : (a b : ℕ) → a ≤ b → element_size a ≤ element_size b
 element_mono a b le = omega (arith, header_mono a b le)
 
 message_mono : (d : Drafted) (a b : ℕ) → a ≤ b → message_size d a ≤ message_size d b

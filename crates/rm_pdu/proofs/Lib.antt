@@ -10,3 +10,4 @@ pub mod DraftSizes
 pub mod DraftSpells
 pub mod Lengths
 pub mod Bounds
+pub mod Shortest

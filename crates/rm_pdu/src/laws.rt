@@ -1,5 +1,5 @@
 // Laws of messages and of what octets are. The bodies cite the laws of elements, and do nothing else.
-ghost use Rattle.std.specs.Prelude.{◌≡◌, ◌≤◌, ◌<◌, ◌+◌, ◌*◌, ◌++◌, ℕ, ℤ, pos, Bool, List, [], length, take};
+ghost use Rattle.std.specs.Prelude.{◌≡◌, ◌≤◌, ◌<◌, ◌+◌, ◌*◌, ◌++◌, ℕ, ℤ, pos, Bool, List, [], length, take, All};
 ghost use Rattle.std.specs.List.{sum_by};
 ghost use Rattle.rm_val.specs.Val.{int, name, ticks};
 ghost use Rattle.rm_pdu.specs.Message.{Binding, Message, binding_octets, message_octets};
@@ -7,7 +7,10 @@ ghost use Rattle.rm_pdu.specs.Draft.{binding_of};
 ghost use Rattle.rm_pdu.specs.Spells.{Spells};
 ghost use Rattle.rm_pdu.specs.Parse.{Parse, IsParse};
 
-use rm_ber::{element_or_none, no_element_in_front, one_element, one_value, value_or_none};
+use rm_ber::{
+    canonical_is_shortest, canonical_stands_alone, element_or_none, elements_are_shortest,
+    no_element_in_front, one_element, one_value, value_or_none,
+};
 
 /// A law: octets spell one message at most.
 pub fn one_message()
@@ -22,6 +25,19 @@ pub fn no_message_in_front()
     ensures { (bytes : List ℕ) (m n : Message) (count : ℕ) → Spells bytes m → count < length bytes → Spells (take count bytes) n → ⊥ }
 {
     no_element_in_front();
+}
+
+/// A law: octets that spell a message are no fewer than its canonical ones, and are these where they are as many (RFC 1905, section 3;
+/// X.690, 8.1.3, 8.3 and 8.19).
+pub fn canonical_messages_are_shortest()
+    ensures fewest { (bytes : List ℕ) (m : Message) → Spells bytes m → All (λ octet. octet < 256) bytes
+        → length (message_octets m) ≤ length bytes }
+    ensures alone { (bytes : List ℕ) (m : Message) → Spells bytes m → All (λ octet. octet < 256) bytes
+        → length bytes ≡ length (message_octets m) → bytes ≡ message_octets m }
+{
+    canonical_is_shortest();
+    canonical_stands_alone();
+    elements_are_shortest();
 }
 
 /// A law: octets are one thing at most, read as requests or as any message.

@@ -12,8 +12,9 @@ mod places;
 pub use draft::{Draft, reads_back};
 pub use kind::Kind;
 pub use laws::{
-    bindings_add_up, bindings_are_bounded, bindings_lengthen, empty_messages_are_short,
-    every_parse, index_128_is_longest, no_message_in_front, one_message, one_parse,
+    bindings_add_up, bindings_are_bounded, bindings_lengthen, canonical_messages_are_shortest,
+    empty_messages_are_short, every_parse, index_128_is_longest, no_message_in_front, one_message,
+    one_parse,
 };
 pub use message::{Fault, Message, read_any, read_message};
 pub use places::{Offsets, Places};

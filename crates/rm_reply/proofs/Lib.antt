@@ -5,5 +5,7 @@ pub mod ReplyLemmas
 pub mod SetLemmas
 pub mod Verdicts
 pub mod OneReply
+pub mod Granted
 pub mod EveryReply
 pub mod ReadLemmas
+pub mod PlaceLemmas

@@ -53,7 +53,7 @@ all_same IsOne one names xs ys p all q = elim (first_goes IsOne one names xs ys 
   | inr goes ↦ goes
 ]
 
-whole_one : (IsOne : List ℕ → Binding → Type 0) → HasOne IsOne → Lengthens → (request a b : Message) → IsWholeReply IsOne request a → IsWholeReply IsOne request b → a ≡ b
+pub whole_one : (IsOne : List ℕ → Binding → Type 0) → HasOne IsOne → Lengthens → (request a b : Message) → IsWholeReply IsOne request a → IsWholeReply IsOne request b → a ≡ b
 whole_one IsOne one lengthen request a b (inl (xs, p, short, is)) (inl (ys, q, short', is')) =
     let (more, goes) = all_same IsOne one (names_of request.bindings) xs ys p.first p.all q.first in
     let none : more ≡ [] = nothing_more ys more (omega (arith, ap length goes, p.all, q.all)) in

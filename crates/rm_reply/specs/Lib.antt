@@ -3,3 +3,5 @@ pub mod Replies
 pub mod Sets
 pub mod Drafting
 pub mod Responses
+pub mod Storage
+pub mod Places

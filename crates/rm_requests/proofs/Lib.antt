@@ -1,2 +1,4 @@
 pub mod LineLemmas
 pub mod FileLemmas
+pub mod EachLineLemmas
+pub mod DecimalLemmas

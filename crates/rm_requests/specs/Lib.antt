@@ -1,2 +1,4 @@
+pub mod Decimal
+pub mod EachLine
 pub mod Lines
 pub mod Reading

@@ -2,10 +2,15 @@
 #![tactic(auto)]
 
 mod fault;
+mod laws;
 mod lines;
 mod requests;
 #[cfg(test)]
 mod tests;
 
 pub use fault::RequestsFault;
+pub use laws::{
+    first_wrong_line, numbers_are_decimal, numbers_are_written, numbers_read_back,
+    requests_are_the_lines,
+};
 pub use requests::{Request, Requests};
