@@ -7,7 +7,9 @@ use Rattle.rm_agent.specs.Members.{Groups, all_groups, collectors_of, sources}
 pub sources_askable : (keeps : Groups) (moment : ℕ) → all_groups.askable keeps moment → sources.askable keeps.second.second.first moment
 sources_askable keeps moment asked = asked.1.1.0
 
+pub by_collectors : (keeps : Groups) (moment : ℕ) → IsAskable (collectors_of keeps) moment → all_groups.askable keeps moment
+by_collectors keeps moment asked = (tt, (tt, (((tt, asked), ((((tt, tt), tt), tt), (tt, tt))), tt)))
+
 -- so they may be while these stay the same
 pub still_askable : (keeps then : Groups) (moment : ℕ) → collectors_of then ≡ collectors_of keeps → all_groups.askable keeps moment → all_groups.askable then moment
-still_askable keeps then moment same asked =
-    (tt, (tt, (((tt, subst (λ (held : Collectors). IsAskable held moment) (sym same) asked.1.1.0.0.1), ((((tt, tt), tt), tt), (tt, tt))), tt)))
+still_askable keeps then moment same asked = by_collectors then moment (subst (λ (held : Collectors). IsAskable held moment) (sym same) asked.1.1.0.0.1)

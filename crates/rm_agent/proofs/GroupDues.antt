@@ -21,6 +21,7 @@ use Rattle.rm_agent.specs.Dues.{FallsDue, IsNext, moment_in}
 use Rattle.rm_agent.specs.Groups.{AreAskable, FallDue, GroupsStand, clock_of}
 use Rattle.rm_agent.specs.Members.{Groups, alarms_of, collectors_of}
 use Rattle.rm_agent.specs.Orderly.{NoneIsDue}
+use Rattle.rm_agent.proofs.Askable.{by_collectors}
 
 module _ (groups : Groups) (settings : Counting) (journal : Journal) (stands : GroupsStand groups settings journal) where
   abbrev ended_of : ℕ
@@ -111,7 +112,11 @@ pub is_end : (groups : Groups) (due : Due) → FallDue groups due → due.kind <
 is_end groups due (inl is) below = is
 is_end groups due (inr is) below = absurd (omega (arith, is.0, below))
 
--- the groups may be asked where all has ended that ends by itself
+-- the groups may be asked where nothing falls due up to the moment
+pub askable_by : (groups : Groups) (moment : ℕ) → ((due : Due) → FallDue groups due → moment < due.moment) → AreAskable groups moment
+askable_by groups moment none = by_collectors groups moment ((all_asked (collectors_of groups) moment).1 (λ due is below. none due (inl is)))
+
+-- where they may be, all has ended that ends by itself
 pub have_ended : (groups : Groups) (moment : ℕ) → AreAskable groups moment → HaveEnded (FallDue groups) moment
 have_ended groups moment asked due (inl is) below = (all_asked (collectors_of groups) moment).0 asked.1.1.0.0.1 due is below
 have_ended groups moment asked due (inr is) below = absurd (omega (arith, is.0, below))

@@ -1,12 +1,12 @@
 mod Known
 mod Askable
-mod Written
+pub mod Written
 mod Leaving
 mod FiringLemmas
 mod Ended
 mod NotificationExamples
 mod SampleLemmas
-mod NotificationLemmas
+pub mod NotificationLemmas
 mod CountLemmas
 mod OrderlyLemmas
 mod AdvanceLemmas

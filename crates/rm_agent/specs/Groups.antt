@@ -37,7 +37,8 @@ abbrev pub together : Settings → Journal → ℕ → Bindings → ℕ → Opti
 together settings = all_groups.together (counting_by settings)
 
 -- After a journal there may be no memory for the row that the binding with that number, from 1, makes valid: it is one of
--- eventTable, of historyControl, of hostControl, of hostTopNControl, of matrixControl or of bufferControlTable, and not the only valid one of its table.
+-- eventTable, of historyControl, of hostControl, of hostTopNControl, of matrixControl, of bufferControlTable, of hlHostControl or of
+-- hlMatrixControl, and not the only valid one of its table.
 abbrev pub Reserves : Journal → Bindings → ℕ → Type 0
 Reserves = all_groups.reserves
 

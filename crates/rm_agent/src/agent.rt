@@ -1,19 +1,20 @@
 // The agent.
 ghost use Rattle.std.specs.Prelude.{◌≡◌, ℕ, ◌+◌, ◌≤◌, ◌<◌, ◌^◌, [], ◌∷◌, true, length, max, Option, Some, IfOk, IfSome};
+ghost use Rattle.std.specs.Option.{option_map};
 ghost use Rattle.rm_agent.specs.Dues.{moment_in};
 ghost use Rattle.rm_agent.specs.Groups.{AreStocked, clock_of, frames_of};
 
 use crate::answer::{Answer, Reason};
-use crate::groups::{Groups, all_groups, end_by, next_due, pass};
+use crate::groups::{Groups, all_groups, cell, end_by, next_due, pass};
 use crate::notification::notification;
 use crate::sampling::take;
 use rm_group::{Due, MOST_FRAMES, Passing, SAMPLES};
 use rm_pcap::Frame;
 use rm_pdu::{Places, read_message};
 use rm_proto::facts;
-use rm_reply::{MOST_REPLY, Request, respond};
+use rm_reply::{MOST_REPLY, Request, granted_or_denied, respond};
 use rm_settings::Settings;
-use rm_val::NoMemory;
+use rm_val::{NoMemory, Oid, Value};
 use std::alloc::Global;
 
 // How many request-ids notifications have: they are numbers of 31 bits.
@@ -45,8 +46,10 @@ impl Agent {
     ghost use Rattle.rm_model.specs.Journal.{Journal, passes};
     ghost use Rattle.rm_pcap.specs.Progress.{frame_of};
     ghost use Rattle.rm_pdu.specs.Parse.{Parse, IsParse};
-    ghost use Rattle.rm_agent.specs.Answers.{reason_for, reason_in, IsReplied, IsShort};
+    ghost use Rattle.rm_val.specs.Val.{val_of};
+    ghost use Rattle.rm_agent.specs.Answers.{reason_for, reason_in, IsReplied, IsStorageFirst, IsShort};
     ghost use Rattle.rm_agent.specs.Dues.{IsNext};
+    ghost use Rattle.rm_agent.specs.Groups.{cells};
     ghost use Rattle.rm_agent.specs.Members.{alarms_of};
     ghost use Rattle.rm_agent.specs.Orderly.{NoneIsDue};
     ghost use Rattle.rm_agent.specs.Agent.{settings_of, last_given, frames_given, dues_of, dues_left_of, IsNextMoment, NothingIsDue, HasSampled, HasHandled, Stands};
@@ -95,8 +98,9 @@ impl Agent {
 
     /// Answers a datagram at a moment in milliseconds, which isn't below the last one given, and becomes it. A reply comes to
     /// the front of `out`. Drop says why there is none. Memory is asked for only by a SetRequest with which nothing is wrong and
-    /// which makes a row valid that takes storage. What is due up to the moment comes first (`due`): of what the agent stands for after an
-    /// answer before samples that are due nothing is said, and reports end that should have.
+    /// which makes a row valid that takes storage. Where there is none, whichever row it was for, the SetRequest is answered
+    /// resourceUnavailable, and each later datagram as if it hadn't come. What is due up to the moment comes first (`due`): of what the
+    /// agent stands for after an answer before samples that are due nothing is said, and reports end that should have.
     pub fn answer(
         &mut self,
         alloc: Global,
@@ -108,6 +112,8 @@ impl Agent {
         ensures reason { (v : Parse) × IsParse true datagram.now v × (reason_in result ≡ reason_for (settings_of self.old) v) }
         ensures reply { (journal : Journal) → Stands self.old journal → (after : Journal) × (NoneIsDue now journal → Stands self.new after)
             × IsReplied (settings_of self.old) journal now datagram.now result out.new after }
+        ensures storage { (journal : Journal) → Stands self.old journal → NoneIsDue now journal
+            → IsStorageFirst (settings_of self.old) journal now datagram.now result out.new (Stands self.new) }
         ensures short { IsShort result }
         ensures settings { settings_of self.new ≡ settings_of self.old }
         ensures last { last_given self.new ≡ now }
@@ -129,8 +135,19 @@ impl Agent {
             bindings,
         };
         end_by(&mut self.groups, now);
+        granted_or_denied::<Groups>();
         let draft = respond(&mut *self.groups, alloc, &request, may_write, now);
         Answer::Reply(draft.finish(out))
+    }
+
+    /// The value of the variable with that name at a moment in milliseconds, which isn't below the last one given, and up to which nothing
+    /// is due any more (`due`). None where there is no such variable.
+    pub fn cell(&self, name: &Oid, now: u32) -> Option<Value<'_>>
+        requires later { last_given self.now ≤ now }
+        requires nothing { NothingIsDue now self.now }
+        ensures { (journal : Journal) → Stands self.now journal → option_map val_of result ≡ cells (settings_of self.now) journal now name.now }
+    {
+        cell(&self.groups, name, now)
     }
 
     /// The moment of what falls due next, in milliseconds: of the end of a report of hosts, or of the sample of an alarm. None where neither

@@ -1,5 +1,7 @@
 // The groups of objects that the agent answers for. Only here is it said how they stand in one another.
 ghost use Rattle.std.specs.Prelude.{◌≡◌, ℕ, ◌+◌, ◌≤◌, ◌<◌, max, List, [], ◌∷◌, ◌++◌, length, Some, IfOk, OnOk};
+ghost use Rattle.std.specs.Option.{option_map};
+ghost use Rattle.rm_val.specs.Val.{val_of};
 ghost use Rattle.rm_model.specs.Counting.{Counting};
 ghost use Rattle.rm_model.specs.Journal.{Act, Frame, Journal, passes, samples, moment_of, last_moment};
 ghost use Rattle.rm_group.specs.Due.{IsFirst};
@@ -11,7 +13,7 @@ ghost use Rattle.rm_acts.specs.Alarms.{sampled};
 ghost use Rattle.rm_acts.specs.declared.firing.Firing.{Firing as Fires};
 ghost use Rattle.rm_alarm.specs.Group.{due_in};
 ghost use Rattle.rm_alarm.specs.Watched.{number_read};
-ghost use Rattle.rm_agent.specs.Members.{alarms_of, collectors_of, events_of, sources_of, watched};
+ghost use Rattle.rm_agent.specs.Members.{alarms_of, all_groups as groups_of, collectors_of, events_of, sources_of, watched};
 ghost use Rattle.rm_capture.specs.declared.buffer_row.TheConstants.{MOST_SLICE};
 ghost use Rattle.rm_agent.specs.Known.{counting_by};
 ghost use Rattle.rm_agent.specs.Groups.{GroupsStand, AreAskable, AreUnderWay, AreStocked, FallDue, clock_of, frames_of, left_of};
@@ -20,10 +22,10 @@ use crate::firing::fire_accepting;
 use rm_acts::Firing;
 use rm_alarm::{Alarms, Sampled, Watched, reads_cells, take_sample};
 use rm_event::Events;
-use rm_group::{Both, Due, FallsDue, Passing, Steps, System, sample_begins};
+use rm_group::{Both, Due, FallsDue, Group, Passing, Steps, System, sample_begins};
 use rm_settings::Settings;
 use rm_sources::Sources;
-use rm_val::NoMemory;
+use rm_val::{NoMemory, Oid, Value};
 use std::alloc::Global;
 
 /// All groups of objects that the agent answers for.
@@ -104,6 +106,15 @@ pub(crate) fn alarms(groups: &Groups) -> &Alarms
     ensures { result.now ≡ alarms_of groups.now }
 {
     &groups.second.second.second
+}
+
+/// The value of the variable with that name at a moment in milliseconds, which isn't below that of the last act, and at which the groups may
+/// be asked. None where there is no such variable.
+pub(crate) fn cell<'a>(groups: &'a Groups, name: &Oid, now: u32) -> Option<Value<'a>>
+    ensures { (settings : Counting) (journal : Journal) → GroupsStand groups.now settings journal → last_moment journal ≤ now
+        → AreAskable groups.now now → option_map val_of result ≡ groups_of.cells settings journal now name.now }
+{
+    groups.cell(name, now)
 }
 
 /// What falls due next: the end of a report of hosts, or the sample of an alarm. None where neither ever does.

@@ -16,3 +16,4 @@ pub mod TurnLemmas
 pub mod ServingLemmas
 pub mod ServeEnds
 pub mod OneText
+pub mod OrderLemmas

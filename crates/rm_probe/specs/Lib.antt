@@ -15,3 +15,4 @@ pub mod Ends
 pub mod Serving
 pub mod Turns
 pub mod Ready
+pub mod InOrder

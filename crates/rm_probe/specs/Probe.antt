@@ -3,7 +3,7 @@ use Rattle.std.specs.Prelude.{◌≡◌, ℕ, List, [], ◌∷◌, Some}
 use Rattle.rm_acts.specs.Alarms.{due_of, IsNextDue}
 use Rattle.rm_model.specs.Journal.{Journal}
 use Rattle.rm_settings.specs.declared.settings.Settings.{Settings}
-use Rattle.rm_agent.specs.Agent.{settings_of as agent_settings, last_given as agent_last, frames_given as agent_frames, sample_of, Stands as AgentStands}
+use Rattle.rm_agent.specs.Agent.{settings_of as agent_settings, last_given as agent_last, frames_given as agent_frames, sample_of, NothingIsDue, Stands as AgentStands}
 use Rattle.rm_probe.specs.Advance.{notes_of}
 use Rattle.rm_probe.specs.Notes.{Note}
 use Rattle.rm_probe.specs.declared.probe.Probe.{Probe}
@@ -23,6 +23,10 @@ frames_given probe = agent_frames probe.agent
 -- the probe stands for the journals for which its agent does
 abbrev pub Stands : Probe → Journal → Type 0
 Stands probe journal = AgentStands probe.agent journal
+
+-- all was handled that falls due up to a moment
+abbrev pub HasHandledBy : ℕ → Probe → Type 0
+HasHandledBy to probe = NothingIsDue to probe.agent
 
 -- nothing came to the probe yet
 pub record IsFresh (probe : Probe) : Type 0 where

@@ -1,11 +1,13 @@
 // Laws of what a run writes. The bodies cite the laws of datagrams, replies and samples, and do nothing else.
-ghost use Rattle.std.specs.Prelude.{List};
+ghost use Rattle.std.specs.Prelude.{ℕ, List};
+ghost use Rattle.std.specs.List.Sorted.{IsNonDecreasingBy};
 ghost use Rattle.rm_model.specs.Journal.{Frame, Journal};
 ghost use Rattle.rm_pcap.specs.Records.{Stop};
 ghost use Rattle.rm_settings.specs.declared.settings.Settings.{Settings};
 ghost use Rattle.rm_agent.specs.Orderly.{IsOrderly};
 ghost use Rattle.rm_requests.specs.Lines.{TimedDatagram};
 ghost use Rattle.rm_probe.specs.Events.{Event, events, events_by};
+ghost use Rattle.rm_probe.specs.InOrder.{AreInOrder};
 ghost use Rattle.rm_probe.specs.Serving.{Arrival, IsServed, IsServedBy, requests_of};
 ghost use Rattle.rm_probe.specs.Said.{Said};
 ghost use Rattle.rm_probe.specs.Laws.{IsToldOnce, OneOfEach};
@@ -34,6 +36,13 @@ pub fn one_served()
 {
     one_of_each();
 }
+
+/// A law: frames and datagrams whose moments don't fall happen in the order of their moments, each kind in its own order, and at one
+/// moment the frames first.
+pub fn events_in_order()
+    ensures { (number : ℕ) (frames : List Frame) (requests : List TimedDatagram) → IsNonDecreasingBy (λ (frame : Frame). frame.moment) frames
+        → IsNonDecreasingBy (λ (request : TimedDatagram). request.moment) requests → AreInOrder number frames requests (events number frames requests) }
+{}
 
 // A law: there is one of each thing of which a run is made.
 fn one_of_each()

@@ -1,8 +1,11 @@
 // The probe.
 ghost use Rattle.std.specs.Prelude.{◌≡◌, ℕ, ◌+◌, ◌≤◌, ◌<◌, max, List, ◌∷◌, length, Some, IfOk, IfSome, IfNone, map};
+ghost use Rattle.std.specs.Option.{option_map};
+ghost use Rattle.rm_val.specs.Val.{val_of};
 ghost use Rattle.rm_model.specs.Journal.{Journal};
 ghost use Rattle.rm_agent.specs.Agent.{dues_of, dues_left_of, IsNextMoment, NothingIsDue};
-ghost use Rattle.rm_agent.specs.Answers.{IsShort};
+ghost use Rattle.rm_agent.specs.Answers.{IsShort, IsStorageFirst};
+ghost use Rattle.rm_agent.specs.Groups.{cells};
 ghost use Rattle.rm_agent.specs.Orderly.{NoneIsDue};
 ghost use Rattle.rm_probe.specs.Notes.{Note};
 ghost use Rattle.rm_probe.specs.Said.{Notified, SaysMore};
@@ -11,7 +14,7 @@ use crate::notes::Notes;
 use rm_agent::{Agent, Answer, MOST_FRAMES, MOST_REPLY, advance_is_orderly};
 use rm_pcap::Frame;
 use rm_settings::Settings;
-use rm_val::NoMemory;
+use rm_val::{NoMemory, Oid, Value};
 use std::alloc::Global;
 
 /// The probe: frames and datagrams come to it in the order of their moments.
@@ -26,7 +29,7 @@ impl Probe {
     ghost use Rattle.rm_probe.specs.Advance.{IsAdvanced};
     ghost use Rattle.rm_probe.specs.Said.{response_of};
     ghost use Rattle.rm_probe.specs.Text.{IsAnswered};
-    ghost use Rattle.rm_probe.specs.Probe.{settings_of, last_given, frames_given, IsFresh, IsHandled, Stands};
+    ghost use Rattle.rm_probe.specs.Probe.{settings_of, last_given, frames_given, HasHandledBy, IsFresh, IsHandled, Stands};
 
     /// The probe before the first frame. NoMemory where there is none for the storage that tables take at first.
     pub fn new(alloc: Global, settings: Settings) -> Result<Probe, NoMemory>
@@ -47,7 +50,7 @@ impl Probe {
         ensures advanced { (more : List Note) × SaysMore N.since notes.old notes.new (map Notified more)
             × ((journal : Journal) → Stands self.old journal → (after : Journal) × IsAdvanced (settings_of self.old) to journal more after
             × Stands self.new after) }
-        ensures nothing { NothingIsDue to self.new.agent }
+        ensures nothing { HasHandledBy to self.new }
         ensures settings { settings_of self.new ≡ settings_of self.old }
         ensures last { last_given self.new ≤ to }
         ensures frames { frames_given self.new ≡ frames_given self.old }
@@ -120,6 +123,9 @@ impl Probe {
             × ((journal : Journal) → Stands self.old journal → (ready after : Journal)
             × IsAdvanced (settings_of self.old) moment journal more ready
             × IsAnswered (settings_of self.old) ready moment bytes.now (response_of result out.new) after × Stands self.new after) }
+        ensures storage { (journal : Journal) → Stands self.old journal → (more : List Note) × (ready : Journal)
+            × IsAdvanced (settings_of self.old) moment journal more ready
+            × IsStorageFirst (settings_of self.old) ready moment bytes.now result out.new (Stands self.new) }
         ensures short { IsShort result }
         ensures settings { settings_of self.new ≡ settings_of self.old }
         ensures last { last_given self.new ≡ moment }
@@ -128,5 +134,15 @@ impl Probe {
         advance_is_orderly();
         self.advance(moment, notes);
         self.agent.answer(alloc, bytes, moment, out)
+    }
+
+    /// The value of the variable with that name at a moment, in milliseconds, which isn't below the last one given, and up to which all was
+    /// handled that is due (`advance`). None where there is no such variable.
+    pub fn cell(&self, name: &Oid, moment: u32) -> Option<Value<'_>>
+        requires later { last_given self.now ≤ moment }
+        requires nothing { HasHandledBy moment self.now }
+        ensures { (journal : Journal) → Stands self.now journal → option_map val_of result ≡ cells (settings_of self.now) journal moment name.now }
+    {
+        self.agent.cell(name, moment)
     }
 }

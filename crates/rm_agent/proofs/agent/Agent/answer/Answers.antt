@@ -7,9 +7,10 @@ use Rattle.rm_settings.specs.Communities.{is_known, may_write}
 use Rattle.rm_agent.specs.Known.{counting_by}
 use Rattle.rm_agent.specs.Groups.{cells, objects, alone, together, Reserves}
 use Rattle.rm_reply.specs.Responses.{IsReplyBy}
-use Rattle.rm_agent.specs.Answers.{reason_for}
+use Rattle.rm_agent.specs.Answers.{reason_for, IsGrantedAfter}
 use Rattle.rm_agent.proofs.Written.{written}
 use Rattle.rm_agent.proofs.CountLemmas.{same_count}
+use Rattle.rm_reply.proofs.Granted.{stood_for}
 use Rattle.rm_reply.proofs.ReadLemmas.{read_one}
 use Rattle.rm_agent.proofs.RepliesOrderly.{reply_orderly}
 use Rattle.rm_agent.proofs.agent.Agent.answer.Goals as goal
@@ -45,3 +46,10 @@ returns-clause-reply c journal stands =
       },
       (m, reply, read.parse, why, is, c.finish.ensures.count reply drafted_so, written c.finish.result (message_octets reply) _ _ (c.finish.ensures.count reply drafted_so) (c.finish.ensures.written reply drafted_so)),
     )
+
+pub returns-clause-storage : goal.returns-clause-storage
+returns-clause-storage c journal stands none =
+    let settings = c.args.self.now.settings in
+    let (after, stood, (m, reply, parse, why, is, count, octets)) = returns-clause-reply c journal stands in
+    let granted = c.granted_or_denied.ensures (counting_by settings) journal c.args.now (may_write settings m.community) m reply after is in
+    (m, reply, parse, why, stood_for (IsGrantedAfter settings journal c.args.now m) (Reserves journal) journal m reply after _ (stood none) granted, count, octets)
