@@ -1,19 +1,25 @@
 -- Facts of the command that words stand for, and of its operands.
-use Rattle.std.proofs.Common.{◌≡◌, ◌⊎◌, inl, inr, ℕ, ◌-◌, ◌%◌, List, [], ◌∷◌, length, Bool, true, false, Ok, Option, Some, None, refl, subst, eqb-true}
+use Rattle.std.proofs.Common.{◌≡◌, ◌≤◌, ◌⊎◌, inl, inr, ℕ, ◌-◌, ◌%◌, List, [], ◌∷◌, length, Bool, true, false, Result, Ok, Err, Option, Some, None, refl, subst, eqb-true, leb-true, arith}
 use Rattle.std.specs.Prelude.{◌&&◌, ◌||◌, ◌==◌, nat_le, if◌then◌else◌, is_some}
 use Rattle.std.specs.List.{list_all}
 use Rattle.std.specs.Char.{is_ascii_hexdigit}
+use Rattle.std.specs.Str.{all_ascii_digits}
+use Rattle.std.specs.Str.Parse.{digits_value}
 use Rattle.std.proofs.lemmas.List.Sums.{AllPass-from_list_all}
 use Rattle.hex.specs.Hex.{decode_of, is_hex_digit}
 use Rattle.hex.proofs.HexLemmas.{decode_of-digits}
-use Rattle.rm_words.specs.Grammar.{Command, decode, StandFor, for_decode, is_hex}
+use Rattle.rm_words.specs.Grammar.{Command, Options, decode, load, StandFor, for_decode, for_load, is_hex, number_within}
 use Rattle.rm_edge.specs.Outside.{Rose}
+use Rattle.rm_edge.specs.Uses.{SinkUse, HasPutFault}
 use Rattle.rm_pcap.specs.declared.fault.PcapFault.{PcapFault}
 use Rattle.rm_pcap.specs.declared.fault.PcapFault.TheVariants.{Magic, Version, LinkType, Included, Original, Late, TooMany, Read, NoMemory as OutOfMemory}
 use Rattle.rm_probe.specs.Capture.{status_of}
 use Rattle.rm_probe.specs.declared.status.Status.{Status}
 use Rattle.rm_probe.specs.declared.status.Status.TheVariants.{Done, Usage, BadCapture, BadRequests, ReadFault, WriteFault, NoMemory, LinkFault, TooLong}
-use Rattle.rm_cmd.specs.Commands.{Decodes}
+use Rattle.rm_load.specs.Ends.{Ends as LoadEnds}
+use Rattle.rm_load.specs.declared.entry.LoadFault.{LoadFault}
+use Rattle.rm_load.specs.declared.entry.LoadFault.TheVariants as load_fault
+use Rattle.rm_cmd.specs.Commands.{Decodes, LoadsWith, status_of_load}
 
 -- what holds of one command that the words stand for holds of each
 pub of_each : ((words : List (List ℕ)) (one other : Command) → StandFor words one → StandFor words other → one ≡ other)
@@ -33,6 +39,16 @@ done_or_none octets writes writes' old new ReadFault is none = absurd is
 done_or_none octets writes writes' old new LinkFault is none = absurd is
 done_or_none octets writes writes' old new TooLong is none = absurd is
 
+-- `load` without a failed put is done, or found no memory
+pub loaded_or_none : (options : Options) (start count : ℕ) (out : SinkUse) (result : Status) → LoadsWith options start count out result
+    → (HasPutFault out → ⊥) → (result ≡ Done) ⊎ (result ≡ NoMemory)
+loaded_or_none options start count out result is none = by_answer is.answer is.result_is is.ends
+  where
+    by_answer : (answer : Result (Unit {0}) LoadFault) → result ≡ status_of_load answer → LoadEnds is.settings start count out answer → (result ≡ Done) ⊎ (result ≡ NoMemory)
+    by_answer (Ok done) same ends = inl same
+    by_answer (Err load_fault.NoMemory) same ends = inr same
+    by_answer (Err load_fault.Put) same ends = absurd (none ends.0)
+
 -- a fault of a capture is no fault of the words
 pub no_usage : (fault : PcapFault) → status_of fault ≡ Usage → ⊥
 no_usage Magic is = cc
@@ -49,17 +65,34 @@ no_usage OutOfMemory is = cc
 pub digits_of : (words : List (List ℕ)) (hex : List ℕ) → StandFor words (decode hex) → is_hex hex ≡ true
 digits_of words hex (for_decode word others pieces same is spells are) = are.hex_is
 
+both_true : (a b : Bool) → (a && b) ≡ true → (a ≡ true) × (b ≡ true)
+both_true true true e = (refl, refl)
+both_true true false e = absurd cc
+both_true false b e = absurd cc
+
+-- a number that is read within bounds is at most the upper one
+read_within : (test : Bool) (value n : ℕ) → (if test then Some value else None) ≡ Some n → (test ≡ true) × (value ≡ n)
+read_within true value n is = (refl, cc)
+read_within false value n is = absurd cc
+
+number_bounded : (low high : ℕ) (text : List ℕ) (n : ℕ) → number_within low high text ≡ Some n → n ≤ high
+unfolding number_within
+number_bounded low high text n is =
+    let value = digits_value 10 text in
+    let lower = all_ascii_digits text && nat_le 1 (length text) && nat_le (length text) 10 && nat_le low value in
+    let (tests, same) = read_within (lower && nat_le value high) value n is in
+    let within = leb-true value high (both_true lower (nat_le value high) tests).1 in
+    omega (arith, within, same)
+
+pub few_frames : (words : List (List ℕ)) (start count : ℕ) (options : Options) → StandFor words (load start count options) → count ≤ 10000000
+few_frames words start count options (for_load word others pieces begins many chosen is spells are) = number_bounded 1 10000000 are.count_text many are.count_is
+
 same_digit : (capital small figure : Bool) (x y z : ℕ) → (figure || capital || small) ≡ true
     → is_some (if capital then Some x else if small then Some y else if figure then Some z else None) ≡ true
 same_digit true small figure x y z e = refl
 same_digit false true figure x y z e = refl
 same_digit false false true x y z e = refl
 same_digit false false false x y z e = absurd cc
-
-both_true : (a b : Bool) → (a && b) ≡ true → (a ≡ true) × (b ≡ true)
-both_true true true e = (refl, refl)
-both_true true false e = absurd cc
-both_true false b e = absurd cc
 
 all_digits : (text : List ℕ) → list_all is_ascii_hexdigit text ≡ true → list_all is_hex_digit text ≡ true
 all_digits [] e = refl

@@ -14,7 +14,10 @@ use Rattle.rm_probe.specs.declared.status.Status.TheVariants.{Done, WriteFault, 
 use Rattle.rm_summary.specs.Ends.{Ends as Sums, IsExact as SumsExactly}
 use Rattle.rm_summary.specs.declared.entry.SummaryFault.{SummaryFault}
 use Rattle.rm_summary.specs.declared.entry.SummaryFault.TheVariants.{Capture, Put}
-use Rattle.rm_words.specs.Grammar.{Options, Command, replay, serve, summary, decode, StandFor}
+use Rattle.rm_load.specs.Ends.{Ends as LoadEnds}
+use Rattle.rm_load.specs.declared.entry.LoadFault.{LoadFault}
+use Rattle.rm_load.specs.declared.entry.LoadFault.TheVariants as load_fault
+use Rattle.rm_words.specs.Grammar.{Options, Command, replay, serve, summary, decode, load, StandFor}
 
 -- the words stand for `replay`, and this is a fact of its operands and options
 abbrev pub OfReplay : List (List ℕ) → (List ℕ → List ℕ → Options → Type 0) → Type 0
@@ -33,12 +36,17 @@ OfSummary words P = (capture : List ℕ) (lead : ℕ) (keep_short : Bool) → St
 abbrev pub OfDecode : List (List ℕ) → (List ℕ → Type 0) → Type 0
 OfDecode words P = (hex : List ℕ) → StandFor words (decode hex) → (octets : List ℕ) × (decode_of hex ≡ Ok octets) × P octets
 
+-- the words stand for `load`, and this is a fact of its operands and options
+abbrev pub OfLoad : List (List ℕ) → (ℕ → ℕ → Options → Type 0) → Type 0
+OfLoad words P = (start count : ℕ) (options : Options) → StandFor words (load start count options) → P start count options
+
 -- the command reads the file of that name
 abbrev pub Reads : Command → List ℕ → Type 0
 Reads (replay capture requests options) name = (name ≡ capture) ⊎ (name ≡ requests)
 Reads (serve capture port count trap_port options) name = name ≡ capture
 Reads (summary capture lead keep_short) name = name ≡ capture
 Reads (decode hex) name = ⊥
+Reads (load start count options) name = ⊥
 
 -- the words stand for a command that reads it
 abbrev pub IsFileOf : List (List ℕ) → List ℕ → Type 0
@@ -103,6 +111,20 @@ Decodes octets writes writes' old new WriteFault = Rose writes writes' × ((v : 
 Decodes octets writes writes' old new NoMemory = new ≡ old
 Decodes octets writes writes' old new other = ⊥
 
+-- how a run ends by the answer of a load
+abbrev pub status_of_load : {T : Type 0} → Result T LoadFault → Status
+status_of_load (Ok done) = Done
+status_of_load (Err load_fault.Put) = WriteFault
+status_of_load (Err load_fault.NoMemory) = NoMemory
+
+-- how `load` ends with these options: by the answer of a load of a probe that is set to them
+pub record LoadsWith (options : Options) (start count : ℕ) (out : SinkUse) (result : Status) : Type 0 where
+  pub settings : Settings
+  pub set : AreSet settings options
+  pub answer : Result (Unit {0}) LoadFault
+  pub result_is : result ≡ status_of_load answer
+  pub ends : LoadEnds settings start count out answer
+
 -- What a command does, by what is found and left of each file, of the output, of a link and of a clock.
 abbrev pub Does : (List ℕ → FileUse) → SinkUse → LinkUse → ClockUse → Status → Command → Type 0
 Does file out link clock result (replay capture requests options) = EndsWith options (file capture) (file requests) out result
@@ -112,3 +134,4 @@ Does file out link clock result (serve capture port count trap_port options) = S
 Does file out link clock result (summary capture lead keep_short) = Summarizes lead keep_short (file capture) out result
 Does file out link clock result (decode hex) = (octets : List ℕ) × (decode_of hex ≡ Ok octets)
     × Decodes octets out.faults out.faults_after out.content out.content_after result
+Does file out link clock result (load start count options) = LoadsWith options start count out result

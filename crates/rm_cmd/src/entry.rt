@@ -9,10 +9,11 @@ ghost use Rattle.rm_words.specs.Told.{command_of, options_of};
 ghost use Rattle.rm_probe.specs.Ends.{IsComplete, IsExact};
 ghost use Rattle.rm_probe.specs.Serving.{IsIdle, ServesExactly};
 ghost use Rattle.rm_probe.specs.declared.status.Status.TheVariants.{Done, LinkFault, NoMemory, ReadFault, Usage};
-ghost use Rattle.rm_cmd.specs.Commands.{AreUnused, Decodes, Does, EndsWith, HasPort, HavePort, IsFileOf, OfDecode, OfReplay, OfServe, OfSummary, Reads, ServesWith, Summarizes};
+ghost use Rattle.rm_cmd.specs.Commands.{AreUnused, Decodes, Does, EndsWith, HasPort, HavePort, IsFileOf, LoadsWith, OfDecode, OfLoad, OfReplay, OfServe, OfSummary, Reads, ServesWith, Summarizes};
 
 use rm_decode::Unwritten;
 use rm_edge::{Clock, Link, Shelf, Sink, Words};
+use rm_load::LoadFault;
 use rm_probe::Status;
 use rm_settings::Settings;
 use rm_summary::SummaryFault;
@@ -24,8 +25,8 @@ use std::alloc::Global;
 /// `replay CAPTURE REQUESTS` with its options writes one line for each datagram of the request file and one for each notification,
 /// and a last line. `serve CAPTURE PORT COUNT` with its options writes such lines for so many datagrams that come to a port, replies to
 /// each, and sends the notifications to a port of this machine. `summary CAPTURE` with its options writes how many frames of each kind a
-/// capture has. `decode HEX` writes what the octets are that the digits stand for, read as a message. Words that stand for no command are
-/// `Usage`.
+/// capture has. `decode HEX` writes what the octets are that the digits stand for, read as a message. `load START N` with its options makes
+/// so many frames from a number, and writes what tables of a probe show after them. Words that stand for no command are `Usage`.
 ///
 /// `replay` judges the capture first, a record at a time, and then the request file, a line at a time. Only then is anything
 /// written, and both are read again meanwhile. After its `WriteFault` and `ReadFault` a front of the text may have been
@@ -37,7 +38,7 @@ use std::alloc::Global;
 /// text may have been written, and of the messages of its whole lines the first ones sent. Nothing was written or sent after the others
 /// but `Done`, with the same exception. No other command calls the link, and only with `serve` comes `LinkFault`.
 ///
-/// `summary` and `decode` write only once all is known. After their `WriteFault` a front of the text may have been written, and
+/// `summary`, `decode` and `load` write only once all is known. After their `WriteFault` a front of the text may have been written, and
 /// nothing after the others but `Done`.
 pub fn run<F: Shelf, K: Sink, L: Link, T: Clock>(
     alloc: Global,
@@ -74,6 +75,10 @@ pub fn run<F: Shelf, K: Sink, L: Link, T: Clock>(
     // `decode` too: those added are exactly the text of the octets that its digits are.
     ensures decodes { OfDecode words.now (λ octets. Decodes octets (K.faults out.old) (K.faults out.new) (K.content out.old) (K.content out.new) result) }
     ensures decodes_whole { OfDecode words.now (λ octets. (Rose (K.faults out.old) (K.faults out.new) → ⊥) → (result ≡ Done) ⊎ (result ≡ NoMemory)) }
+
+    // `load` too: those added are exactly what variables show after its Sets and frames, and a last line.
+    ensures loads { OfLoad words.now (λ start count options. LoadsWith options start count (sink_use K.content K.faults out.old out.new) result) }
+    ensures loads_whole { OfLoad words.now (λ start count options. (Rose (K.faults out.old) (K.faults out.new) → ⊥) → (result ≡ Done) ⊎ (result ≡ NoMemory)) }
 
     // Without a command or without memory nothing is written or sent.
     ensures silent { (result ≡ Usage) ⊎ (result ≡ NoMemory)
@@ -137,6 +142,11 @@ fn run_command<F: Shelf, K: Sink, L: Link, T: Clock>(
             keep_short,
         } => run_summary(alloc, lead, keep_short, capture, shelf, out),
         Command::Decode { hex: digits } => run_decode(alloc, digits, out),
+        Command::Load {
+            start,
+            count,
+            options,
+        } => run_load(alloc, start, count, options, out),
     }
 }
 
@@ -233,5 +243,27 @@ fn run_decode<K: Sink>(alloc: Global, digits: &str, out: &mut K) -> Status
         Ok(()) => Status::Done,
         Err(Unwritten::Failed) => Status::WriteFault,
         Err(Unwritten::NoMemory) => Status::NoMemory,
+    }
+}
+
+// Runs `load` with its operands and options.
+fn run_load<K: Sink>(
+    alloc: Global,
+    start: u32,
+    count: u32,
+    options: RunOptions,
+    out: &mut K,
+) -> Status
+    requires { count ≤ 10000000 }
+    ensures loads { LoadsWith (options_of options) start count (sink_use K.content K.faults out.old out.new) result }
+    ensures later { K.faults out.old ≤ K.faults out.new }
+    ensures silent { (result ≡ Usage) ⊎ (result ≡ NoMemory) → K.content out.new ≡ K.content out.old }
+    ensures command { (result ≢ Usage) × (result ≢ LinkFault) }
+{
+    let settings = options.settings;
+    match rm_load::load(alloc, settings, start, count, out) {
+        Ok(()) => Status::Done,
+        Err(LoadFault::Put) => Status::WriteFault,
+        Err(LoadFault::NoMemory) => Status::NoMemory,
     }
 }

@@ -4,10 +4,11 @@
 mod counts;
 mod entry;
 mod figure;
-mod line;
+mod lines;
 mod reading;
 #[cfg(test)]
 mod tests;
 mod writing;
 
 pub use entry::{SummaryFault, summary};
+pub use lines::{Line, line};

@@ -5,7 +5,7 @@ ghost use Rattle.rm_summary.specs.Counted.{figure_in, text_of};
 
 use crate::counts::Counts;
 use crate::figure::{FIGURES, Figure};
-use crate::line::line;
+use crate::lines::line;
 use crate::reading::Summary;
 use rm_edge::{Failed, Sink};
 

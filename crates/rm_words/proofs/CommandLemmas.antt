@@ -3,11 +3,11 @@ use Rattle.std.proofs.Common.{◌≡◌, ℕ, List, [], ◌∷◌, drop, Option,
 use Rattle.std.specs.Prelude.{slice_get}
 use Rattle.std.specs.Option.{is_some}
 use Rattle.rm_words.specs.Names.{commands, word_of, command_named}
-use Rattle.rm_words.specs.Grammar.{Piece, Spells, Options, AreOptions, AreOfReplay, AreOfServe, AreOfSummary, Command, replay, serve, summary, decode, StandFor, for_replay, for_serve, for_summary, for_decode, number_within, port_of}
+use Rattle.rm_words.specs.Grammar.{Piece, Spells, Options, AreOptions, AreOfReplay, AreOfServe, AreOfSummary, AreOfLoad, Command, replay, serve, summary, decode, load, StandFor, for_replay, for_serve, for_summary, for_decode, for_load, number_within, port_of}
 use Rattle.rm_words.specs.Parts.{are_whole, pieces_from}
 use Rattle.rm_words.specs.Told.{AreOf, IsRead, command_of}
 use Rattle.rm_words.specs.declared.names.CommandName.{CommandName}
-use Rattle.rm_words.specs.declared.names.CommandName.TheVariants.{Replay, Serve, Summary, Decode}
+use Rattle.rm_words.specs.declared.names.CommandName.TheVariants.{Replay, Serve, Summary, Decode, Load}
 use Rattle.rm_words.specs.declared.command.Command as code
 use Rattle.rm_words.specs.declared.parts.Expected.TheVariants.{Any}
 use Rattle.rm_words.proofs.PartLemmas.{found}
@@ -69,6 +69,7 @@ is_of all command (for_replay word words pieces capture requests options is spel
 is_of all command (for_serve word words pieces capture port count trap_port options is spells are) = with_word Serve word words pieces command is spells are
 is_of all command (for_summary word words pieces capture lead keep_short is spells are) = with_word Summary word words pieces command is spells are
 is_of all command (for_decode word words pieces hex is spells are) = with_word Decode word words pieces command is spells are
+is_of all command (for_load word words pieces start count options is spells are) = with_word Load word words pieces command is spells are
 
 -- words that stand for what stands behind the word of a command
 stand : (name : CommandName) (word : List ℕ) (words : List (List ℕ)) (pieces : List Piece) (command : Command) → word ≡ word_of name → Spells name words pieces → AreOf name pieces command
@@ -77,6 +78,7 @@ stand Replay word words pieces (replay capture requests options) is spells are =
 stand Serve word words pieces (serve capture port count trap_port options) is spells are = for_serve word words pieces capture port count trap_port options is spells are
 stand Summary word words pieces (summary capture lead keep_short) is spells are = for_summary word words pieces capture lead keep_short is spells are
 stand Decode word words pieces (decode hex) is spells are = for_decode word words pieces hex is spells are
+stand Load word words pieces (load start count options) is spells are = for_load word words pieces start count options is spells are
 stand name word words pieces other is spells are = absurd are
 
 behind : (all : List (List ℕ)) (word : List ℕ) (words : List (List ℕ)) → all ≡ word ∷ words → words ≡ drop 1 all
@@ -93,6 +95,7 @@ word_found Replay = refl
 word_found Serve = refl
 word_found Summary = refl
 word_found Decode = refl
+word_found Load = refl
 
 -- no command has that word
 pub no_name : (all : List (List ℕ)) (first : List ℕ) → slice_get all 0 ≡ Some first → command_named first ≡ None → (command : Command) → StandFor all command → ⊥
@@ -199,15 +202,28 @@ same_summary pieces capture capture' lead lead' keep_short keep_short' a b =
     ∙ ap (λ (l : ℕ). summary capture' l keep_short) (same_setting _ _ _ a.lead_is b.lead_is)
     ∙ ap (λ (k : Bool). summary capture' lead' k) (same_setting _ _ _ a.keep_short_is b.keep_short_is)
 
+same_load : (pieces : List Piece) (start count start' count' : ℕ) (options options' : Options) → AreOfLoad pieces start count options → AreOfLoad pieces start' count' options'
+    → load start count options ≡ load start' count' options'
+same_load pieces start count start' count' options options' a b =
+    let texts : ◌≡◌ {A = List (List ℕ)} (a.start_text ∷ a.count_text ∷ []) (b.start_text ∷ b.count_text ∷ []) = sym a.operands_are ∙ b.operands_are in
+    let first : a.start_text ≡ b.start_text = cc in
+    let second : a.count_text ≡ b.count_text = cc in
+    let starts : start ≡ start' = same_setting _ _ _ a.start_is (ap (number_within 0 2147483647) first ∙ b.start_is) in
+    let counts : count ≡ count' = same_setting _ _ _ a.count_is (ap (number_within 1 10000000) second ∙ b.count_is) in
+    let same = same_options pieces options options' a.options_are b.options_are in
+    cc
+
 same_are : (name : CommandName) (pieces : List Piece) (one other : Command) → AreOf name pieces one → AreOf name pieces other → one ≡ other
 same_are Replay pieces (replay capture requests options) (replay capture' requests' options') a b = same_replay pieces capture requests capture' requests' options options' a b
 same_are Serve pieces (serve capture port count trap_port options) (serve capture' port' count' trap_port' options') a b = same_serve pieces capture capture' port count trap_port port' count' trap_port' options options' a b
 same_are Summary pieces (summary capture lead keep_short) (summary capture' lead' keep_short') a b = same_summary pieces capture capture' lead lead' keep_short keep_short' a b
 same_are Decode pieces (decode hex) (decode hex') a b = ap decode (same_operand hex hex' (sym a.operand_is ∙ b.operand_is))
+same_are Load pieces (load start count options) (load start' count' options') a b = same_load pieces start count start' count' options options' a b
 same_are Replay pieces (replay capture requests options) other a b = absurd b
 same_are Serve pieces (serve capture port count trap_port options) other a b = absurd b
 same_are Summary pieces (summary capture lead keep_short) other a b = absurd b
 same_are Decode pieces (decode hex) other a b = absurd b
+same_are Load pieces (load start count options) other a b = absurd b
 same_are name pieces one other a b = absurd a
 
 pub one_stands : (all : List (List ℕ)) (one other : Command) → StandFor all one → StandFor all other → one ≡ other

@@ -6,7 +6,7 @@ use Rattle.std.specs.List.{list_all, slice_index}
 use Rattle.std.specs.Char.{is_ascii_graphic, is_ascii_hexdigit}
 use Rattle.rm_words.specs.Names.{word_of, takes, name_of, takes_value}
 use Rattle.rm_words.specs.declared.names.CommandName.{CommandName}
-use Rattle.rm_words.specs.declared.names.CommandName.TheVariants.{Replay, Serve, Summary, Decode}
+use Rattle.rm_words.specs.declared.names.CommandName.TheVariants.{Replay, Serve, Summary, Decode, Load}
 use Rattle.rm_words.specs.declared.names.OptionName.{OptionName}
 use Rattle.rm_words.specs.declared.names.OptionName.TheVariants.{Hosts, Pairs, Upper, Lead, KeepShort, Read, Write, TrapPort}
 
@@ -122,6 +122,7 @@ pub data Command : Type 0 where
   serve : (capture : List ℕ) (port count trap_port : ℕ) (options : Options) → Command
   summary : (capture : List ℕ) (lead : ℕ) (keep_short : Bool) → Command
   decode : (hex : List ℕ) → Command
+  load : (start count : ℕ) (options : Options) → Command
 
 -- the operands and options of `replay`: the capture and the request file
 pub record AreOfReplay (pieces : List Piece) (capture requests : List ℕ) (options : Options) : Type 0 where
@@ -153,6 +154,16 @@ pub record AreOfDecode (pieces : List Piece) (hex : List ℕ) : Type 0 where
   pub operand_is : operands pieces ≡ hex ∷ []
   pub hex_is : is_hex hex ≡ true
 
+-- The operands and options of `load`: the number that its frames are made from, and how many there are. Of the options of a run it takes the
+-- three bounds alone, and the others are as where they aren't given.
+pub record AreOfLoad (pieces : List Piece) (start count : ℕ) (options : Options) : Type 0 where
+  pub start_text : List ℕ
+  pub count_text : List ℕ
+  pub operands_are : operands pieces ≡ start_text ∷ count_text ∷ []
+  pub start_is : number_within 0 2147483647 start_text ≡ Some start
+  pub count_is : number_within 1 10000000 count_text ≡ Some count
+  pub options_are : AreOptions pieces options
+
 -- Which words stand for which command, a line for each command: its word, and what stands behind it.
 pub data StandFor : List (List ℕ) → Command → Type 0 where
   for_replay : (word : List ℕ) (words : List (List ℕ)) (pieces : List Piece) (capture requests : List ℕ) (options : Options)
@@ -167,3 +178,6 @@ pub data StandFor : List (List ℕ) → Command → Type 0 where
   for_decode : (word : List ℕ) (words : List (List ℕ)) (pieces : List Piece) (hex : List ℕ)
       → word ≡ word_of Decode → Spells Decode words pieces → AreOfDecode pieces hex
       → StandFor (word ∷ words) (decode hex)
+  for_load : (word : List ℕ) (words : List (List ℕ)) (pieces : List Piece) (start count : ℕ) (options : Options)
+      → word ≡ word_of Load → Spells Load words pieces → AreOfLoad pieces start count options
+      → StandFor (word ∷ words) (load start count options)

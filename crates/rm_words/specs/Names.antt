@@ -2,7 +2,7 @@
 use Rattle.std.specs.Prelude.{ℕ, List, [], ◌∷◌, find, Bool, true, false, codes, Option}
 use Rattle.std.specs.Str.{bytes_eq}
 use Rattle.rm_words.specs.declared.names.CommandName.{CommandName}
-use Rattle.rm_words.specs.declared.names.CommandName.TheVariants.{Replay, Serve, Summary, Decode}
+use Rattle.rm_words.specs.declared.names.CommandName.TheVariants.{Replay, Serve, Summary, Decode, Load}
 use Rattle.rm_words.specs.declared.names.OptionName.{OptionName}
 use Rattle.rm_words.specs.declared.names.OptionName.TheVariants.{Hosts, Pairs, Upper, Lead, KeepShort, Read, Write, TrapPort}
 
@@ -12,6 +12,7 @@ word_of Replay = codes "replay"
 word_of Serve = codes "serve"
 word_of Summary = codes "summary"
 word_of Decode = codes "decode"
+word_of Load = codes "load"
 
 -- the options of a command
 abbrev pub takes : CommandName → OptionName → Bool
@@ -22,6 +23,10 @@ takes Summary Lead = true
 takes Summary KeepShort = true
 takes Summary option = false
 takes Decode option = false
+takes Load Hosts = true
+takes Load Pairs = true
+takes Load Upper = true
+takes Load option = false
 
 -- the name of an option
 abbrev pub name_of : OptionName → List ℕ
@@ -40,7 +45,7 @@ takes_value KeepShort = false
 takes_value option = true
 
 abbrev pub commands : List CommandName
-commands = Replay ∷ Serve ∷ Summary ∷ Decode ∷ []
+commands = Replay ∷ Serve ∷ Summary ∷ Decode ∷ Load ∷ []
 
 -- the command of a word
 unfoldable pub command_named : List ℕ → Option CommandName

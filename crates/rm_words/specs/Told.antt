@@ -1,12 +1,12 @@
 -- The command that the code's is.
-use Rattle.std.specs.Prelude.{◌≡◌, ℕ, List, [], ◌∷◌, true, Option, Some, None}
+use Rattle.std.specs.Prelude.{◌≡◌, ℕ, List, [], ◌∷◌, Option, Some, None}
 use Rattle.std.specs.Borrow.{Bor}
-use Rattle.rm_words.specs.Grammar.{Piece, Options, Command, replay, serve, summary, decode, is_name, AreOfReplay, AreOfServe, AreOfSummary, AreOfDecode}
+use Rattle.rm_words.specs.Grammar.{Piece, Options, Command, replay, serve, summary, decode, load, AreOfReplay, AreOfServe, AreOfSummary, AreOfDecode, AreOfLoad}
 use Rattle.rm_words.specs.declared.names.CommandName.{CommandName}
 use Rattle.rm_words.specs.declared.names.CommandName.TheVariants as first_word
 use Rattle.rm_words.specs.declared.options.RunOptions.{RunOptions}
 use Rattle.rm_words.specs.declared.command.Command as code
-use Rattle.rm_words.specs.declared.command.Command.TheVariants.{Replay, Serve, Summary, Decode}
+use Rattle.rm_words.specs.declared.command.Command.TheVariants.{Replay, Serve, Summary, Decode, Load}
 
 abbrev pub options_of : RunOptions → Options
 options_of options = record {
@@ -24,16 +24,17 @@ command_of (Replay capture requests options) = replay capture.now requests.now (
 command_of (Serve capture port count trap_port options) = serve capture.now port count trap_port (options_of options)
 command_of (Summary capture lead keep_short) = summary capture.now lead keep_short
 command_of (Decode hex) = decode hex.now
+command_of (Load start count options) = load start count (options_of options)
 
 -- there is one operand, which is this
 abbrev pub IsOneText : List (List ℕ) → Option (Bor (List ℕ)) → Type 0
 IsOneText texts None = (text : List ℕ) → texts ≡ text ∷ [] → ⊥
 IsOneText texts (Some text) = texts ≡ text.now ∷ []
 
--- the operands are two names of files, which are these
-abbrev pub AreTwoNames : List (List ℕ) → Option (Bor (List ℕ) × Bor (List ℕ)) → Type 0
-AreTwoNames texts None = (capture requests : List ℕ) → texts ≡ capture ∷ requests ∷ [] → is_name capture ≡ true → is_name requests ≡ true → ⊥
-AreTwoNames texts (Some names) = (texts ≡ names.0.now ∷ names.1.now ∷ []) × (is_name names.0.now ≡ true) × (is_name names.1.now ≡ true)
+-- there are two operands, which are these
+abbrev pub AreTwoTexts : List (List ℕ) → Option (Bor (List ℕ) × Bor (List ℕ)) → Type 0
+AreTwoTexts texts None = (first second : List ℕ) → texts ≡ first ∷ second ∷ [] → ⊥
+AreTwoTexts texts (Some found) = texts ≡ found.0.now ∷ found.1.now ∷ []
 
 -- there are three operands, which are these
 abbrev pub AreThreeTexts : List (List ℕ) → Option (Bor (List ℕ) × Bor (List ℕ) × Bor (List ℕ)) → Type 0
@@ -46,6 +47,7 @@ AreOf first_word.Replay pieces (replay capture requests options) = AreOfReplay p
 AreOf first_word.Serve pieces (serve capture port count trap_port options) = AreOfServe pieces capture port count trap_port options
 AreOf first_word.Summary pieces (summary capture lead keep_short) = AreOfSummary pieces capture lead keep_short
 AreOf first_word.Decode pieces (decode hex) = AreOfDecode pieces hex
+AreOf first_word.Load pieces (load start count options) = AreOfLoad pieces start count options
 AreOf name pieces other = ⊥
 
 -- the pieces are those of the command that was read, or of none

@@ -3,8 +3,8 @@ ghost use Rattle.std.specs.Prelude.{◌≡◌, ◌≤◌, length, drop, MatchOpt
 ghost use Rattle.rm_words.specs.Grammar.{AreOptions, Options, StandFor, is_name, lead_of, operands, port_of, setting, values_of};
 ghost use Rattle.rm_words.specs.Grammar.{Command as Meant};
 ghost use Rattle.rm_words.specs.Parts.{pieces_from};
-ghost use Rattle.rm_words.specs.Told.{AreThreeTexts, AreTwoNames, IsOneText, IsRead, command_of, options_of};
-ghost use Rattle.rm_words.specs.declared.names.CommandName.TheVariants.{Decode, Replay, Serve, Summary};
+ghost use Rattle.rm_words.specs.Told.{AreThreeTexts, AreTwoTexts, IsOneText, IsRead, command_of, options_of};
+ghost use Rattle.rm_words.specs.declared.names.CommandName.TheVariants.{Decode, Load, Replay, Serve, Summary};
 ghost use Rattle.rm_words.specs.declared.names.OptionName.TheVariants.{TrapPort};
 ghost use Rattle.rm_words.specs.declared.parts.Expected.TheVariants.{Any};
 
@@ -44,6 +44,13 @@ pub enum Command<'a> {
     Decode {
         hex: &'a str,
     },
+    /// Gives as many frames to a probe as `count` says, 1 to 10,000,000. They are made from a number, the start, which is 0 to 2147483647. Of the
+    /// options only the bounds of tables are ever other than where they aren't given.
+    Load {
+        start: u32,
+        count: u32,
+        options: RunOptions,
+    },
 }
 
 /// The command that words stand for. None comes exactly where they stand for none.
@@ -78,6 +85,7 @@ fn read_behind(name: CommandName, words: &Words) -> Option<Command<'_>>
         CommandName::Serve => read_serve(words),
         CommandName::Summary => read_summary(words),
         CommandName::Decode => read_decode(words),
+        CommandName::Load => read_load(words),
     }
 }
 
@@ -86,7 +94,10 @@ fn read_replay(words: &Words) -> Option<Command<'_>>
     requires { 1 ≤ length words.now }
     ensures { IsRead Replay (pieces_from Any (drop 1 words.now)) result }
 {
-    let (capture, requests) = two_names(words)?;
+    let (capture, requests) = two_operands(words)?;
+    if !is_name(capture) || !is_name(requests) {
+        return None;
+    }
     let options = run_options(words)?;
     Some(Command::Replay {
         capture,
@@ -141,6 +152,19 @@ fn read_decode(words: &Words) -> Option<Command<'_>>
     Some(Command::Decode { hex })
 }
 
+// The command `load` of words that are whole.
+fn read_load(words: &Words) -> Option<Command<'_>>
+    requires { 1 ≤ length words.now }
+    ensures { IsRead Load (pieces_from Any (drop 1 words.now)) result }
+{
+    let (start_text, count_text) = two_operands(words)?;
+    Some(Command::Load {
+        start: number(start_text.as_bytes(), 0, 2_147_483_647)?,
+        count: number(count_text.as_bytes(), 1, 10_000_000)?,
+        options: run_options(words)?,
+    })
+}
+
 // The operand, where there is one alone.
 fn one_operand(words: &Words) -> Option<&str>
     requires { 1 ≤ length words.now }
@@ -153,17 +177,17 @@ fn one_operand(words: &Words) -> Option<&str>
     Some(text)
 }
 
-// The operands, where they are two names of files.
-fn two_names(words: &Words) -> Option<(&str, &str)>
+// The operands, where there are two.
+fn two_operands(words: &Words) -> Option<(&str, &str)>
     requires { 1 ≤ length words.now }
-    ensures { AreTwoNames (operands (pieces_from Any (drop 1 words.now))) result }
+    ensures { AreTwoTexts (operands (pieces_from Any (drop 1 words.now))) result }
 {
-    let capture = operand(words, 0)?;
-    let requests = operand(words, 1)?;
-    if operand(words, 2).is_some() || !is_name(capture) || !is_name(requests) {
+    let first = operand(words, 0)?;
+    let second = operand(words, 1)?;
+    if operand(words, 2).is_some() {
         return None;
     }
-    Some((capture, requests))
+    Some((first, second))
 }
 
 // The operands, where there are three.

@@ -9,6 +9,7 @@ pub enum CommandName {
     Serve,
     Summary,
     Decode,
+    Load,
 }
 
 /// An option of a command.
@@ -33,11 +34,12 @@ pub enum OptionName {
 }
 
 /// All commands.
-const COMMANDS: [CommandName; 4] = [
+const COMMANDS: [CommandName; 5] = [
     CommandName::Replay,
     CommandName::Serve,
     CommandName::Summary,
     CommandName::Decode,
+    CommandName::Load,
 ];
 
 /// All options.
@@ -62,6 +64,7 @@ impl CommandName {
             CommandName::Serve => "serve",
             CommandName::Summary => "summary",
             CommandName::Decode => "decode",
+            CommandName::Load => "load",
         }
     }
 
@@ -85,6 +88,10 @@ impl CommandName {
             CommandName::Serve => true,
             CommandName::Summary => matches!(option, OptionName::Lead | OptionName::KeepShort),
             CommandName::Decode => false,
+            CommandName::Load => matches!(
+                option,
+                OptionName::Hosts | OptionName::Pairs | OptionName::Upper
+            ),
         }
     }
 }

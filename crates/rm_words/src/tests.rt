@@ -62,6 +62,16 @@ fn told(alloc: Global, text: &str) -> Result<String, Fail> {
             },
         ) => Ok(format!(in alloc; "{capture} {lead} {keep_short}")?),
         Some(Command::Decode { hex }) => Ok(String::from_str(alloc, hex)?),
+        Some(
+            Command::Load {
+                start,
+                count,
+                options,
+            },
+        ) => {
+            let options = told_options(alloc, &options)?;
+            Ok(format!(in alloc; "{start} {count} {options}")?)
+        }
     }
 }
 
@@ -100,6 +110,13 @@ fn a_command_is_read(rt: HostRuntime) -> Result<(), Fail> {
         ("summary c --hosts 2", "none"),
         ("decode 3024", "3024"),
         ("decode 303", "none"),
+        ("load 1 3", "1 3 1024 1024 1024 1000 false public private"),
+        (
+            "load --upper=2 2147483647 --hosts 3 10000000 --pairs 4",
+            "2147483647 10000000 3 4 2 1000 false public private",
+        ),
+        ("load 0 0", "none"),
+        ("load 0 1 --write w", "none"),
     ] {
         let told = told(rt.alloc(), text)?;
         assert_eq!(rt; told.as_str(), command);

@@ -9,6 +9,7 @@ use rm_edge::MemSink;
 use rm_pcap::Frame;
 use rm_probe::{Output, Probe, Status, Unsent, replay};
 use rm_settings::Settings;
+use rm_val::{Oid, Value};
 use std::alloc::Global;
 use std::test::Fail;
 
@@ -63,7 +64,15 @@ fn said(
     )
 }
 
-// A probe is asked for its packets before and after a frame, and at last by what is no message.
+// The count that a variable shows, if it is a Counter32.
+fn counted(value: Option<Value<'_>>) -> Option<u32> {
+    match value {
+        Some(Value::Counter(count)) => Some(count),
+        _ => None,
+    }
+}
+
+// A probe is asked for its packets before and after a frame, then by what is no message, and at last for the variable itself.
 #[test]
 fn a_probe_counts_and_answers(rt: HostRuntime) -> Result<(), Fail> {
     let alloc = rt.alloc();
@@ -86,6 +95,9 @@ fn a_probe_counts_and_answers(rt: HostRuntime) -> Result<(), Fail> {
         said(alloc, &mut probe, &[], 2000, &mut output)?.as_str(),
         "Malformed(0)"
     );
+    probe.advance(3000, &mut output);
+    let packets = Oid::from_slice(&[1, 3, 6, 1, 2, 1, 16, 1, 1, 1, 5, 1])?;
+    assert_eq!(rt; counted(probe.cell(&packets, 3000)), Some(1));
     assert!(rt; sink.bytes().is_empty());
     Ok(())
 }

@@ -1,11 +1,11 @@
 use Rattle.std.proofs.Common.{◌≡◌}
 use Rattle.rm_edge.proofs.Keeping.{keeps_more}
 use Rattle.rm_edge.specs.Uses.{clock_use, file_use, link_use, sink_use}
-use Rattle.rm_words.specs.Grammar.{replay, serve, summary, decode}
+use Rattle.rm_words.specs.Grammar.{replay, serve, summary, decode, load}
 use Rattle.rm_words.specs.Told.{command_of}
 use Rattle.rm_probe.specs.declared.status.Status.TheVariants.{ReadFault}
 use Rattle.rm_cmd.specs.Commands.{Does, IsFileOf}
-use Rattle.rm_cmd.proofs.CommandLemmas.{of_each, done_or_none}
+use Rattle.rm_cmd.proofs.CommandLemmas.{of_each, done_or_none, loaded_or_none}
 use Rattle.rm_cmd.proofs.entry.run.Goals as goal
 
 pub returns-in-Some : goal.returns-in-Some
@@ -25,6 +25,8 @@ returns-in-Some g c =
       sums_up = λ capture lead keep_short is. does (summary capture lead keep_short) is;
       decodes = λ hex is. does (decode hex) is;
       decodes_whole = λ hex is. let (octets, same, how) = does (decode hex) is in (octets, same, done_or_none octets _ _ _ _ c.run_command.result how);
+      loads = λ start count options is. does (load start count options) is;
+      loads_whole = λ start count options is. loaded_or_none options start count _ c.run_command.result (does (load start count options) is);
       silent = c.run_command.ensures.silent;
       shelf = keeps_more g.F.Shelf.held g.F.Shelf.faults c.args.shelf.now c.run_command.new.shelf _ (IsFileOf c.args.words.now) _ (c.run_command.result ≡ ReadFault) c.run_command.ensures.shelf
           (λ each is. (_, c.in-Some.ensures, is)) (λ e. e);

@@ -1,4 +1,4 @@
-// The lines of a summary.
+// Lines of a word and a number.
 ghost use Rattle.std.specs.Prelude.{◌≡◌, ◌≤◌, length};
 ghost use Rattle.rm_summary.specs.Text.{line};
 
@@ -8,9 +8,9 @@ use itoa::Buffer;
 /// The octets of a line, its line feed included.
 pub type Line = ArrayVec<u8, 64>;
 
-/// A line with a word of at most nine octets, and a number behind it.
+/// A line with a word of at most 40 octets, and a number behind it.
 pub fn line(word: &[u8], number: u64) -> Line
-    requires { length word.now ≤ 9 }
+    requires { length word.now ≤ 40 }
     ensures { result.items ≡ line word.now number }
 {
     let mut digits = Buffer::new();

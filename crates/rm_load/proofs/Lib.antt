@@ -1,0 +1,11 @@
+pub mod LineLemmas
+pub mod RequestLemmas
+pub mod QuietLemmas
+pub mod OnceLemmas
+pub mod FrameLemmas
+pub mod WritableLemmas
+pub mod SetLemmas
+pub mod AcceptedLemmas
+pub mod NumberLemmas
+pub mod SourceNumbers
+pub mod LayerNumbers

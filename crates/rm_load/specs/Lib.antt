@@ -1,0 +1,9 @@
+pub mod Draws
+pub mod Frames
+pub mod Names
+pub mod Sets
+pub mod Acts
+pub mod Text
+pub mod Ends
+pub mod Making
+pub mod Steps
