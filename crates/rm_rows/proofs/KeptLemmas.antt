@@ -9,12 +9,15 @@ use Rattle.std.proofs.lemmas.List.Elements.{recursion_from_All}
 use denote.RawPtr.{Ptr, ◌+ₚ◌}
 use Rattle.rm_evicting.specs.declared.Row.{Row}
 use Rattle.rm_recency.specs.declared.RecencyList.{RecencyList}
-use Rattle.rm_recency.specs.Threads.{row_of, Threaded, IsAt, place, row_at, SameNodes, IsIn, IsNone}
+use Rattle.rm_recency.specs.Threads.{row_of, Threaded, IsAt, place, next_of, row_at, SameNodes, IsIn, IsNone}
 use Rattle.rm_recency.proofs.ThreadLemmas.{place_as}
 use Rattle.rm_rows.specs.Stored.{In, add_row, rows_by, IsAfter, Before, Stored}
 use Rattle.rm_rows.proofs.Members.{of_some, compared, in_at, at_in, in_cut, all_in, in_all, pair_at, pair_weaker}
 use Rattle.rm_rows.proofs.Steps.{irreflexive}
-use Rattle.rm_rows.specs.Index.{rows_in, IsIndex, HasKey, IsGap}
+use Rattle.rm_rows.specs.Index.{rows_in, IsIndex, HasKey, IsGap, Kept}
+
+some_none : {X : Type 0} {x : X} → Some x ≡ None → ⊥
+some_none e = cc
 
 add_rest : {K V : Type 0} (Q : Row K V → Type 0) (o : Option (Row K V)) (l : List (Row K V)) → AllByRecursion Q (add_row o l) → AllByRecursion Q l
 add_rest Q None l h = h
@@ -55,6 +58,15 @@ module _ {K V : Type 0} where
 
     pub recent_in : (p : Ptr) → In p es → IsIn t p
     recent_in p h = let cut = in_cut p rs (stored.recent.there p h) in (cut.0, cut.1, subst (Threaded t) cut.2 recency)
+
+  -- the first node of the list is one of those that are threaded
+  pub first_in : (t : RecencyList K V) (rs : List Ptr) (p : Ptr) → Threaded t rs → next_of t None ≡ Some (Some p) → In p rs
+  first_in t [] p h e = absurd (some_none (of_some (sym e ∙ h.ring.forward)))
+  first_in t (q ∷ rs) p h e = inl (of_some (of_some (sym e ∙ h.ring.forward.0)))
+
+  -- so it is one of the rows, and in the index
+  pub newest_in : (cmp : K → K → Ordering) (t : RecencyList K V) (es xs : List Ptr) (p : Ptr) → Kept cmp t es xs → next_of t None ≡ Some (Some p) → In p es × In p xs
+  newest_in cmp t es xs p k e = let member = k.stored.recent.back p (first_in t k.rs p k.recency e) in (member, k.stored.index.there p member)
 
   -- an index of one block is one of another with the same rows at its places
   pub index_as : (cmp : K → K → Ordering) (t u : RecencyList K V) (xs : List Ptr) → ((q : Ptr) → IsAt t q → IsAt u q) → ((q : Ptr) → row_at u q ≡ row_at t q) → IsIndex cmp t xs → IsIndex cmp u xs

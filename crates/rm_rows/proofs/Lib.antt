@@ -2,6 +2,7 @@ mod FindLemmas
 mod KeptLemmas
 mod MoveLemmas
 mod TouchLemmas
+mod PlaceLemmas
 pub mod ValueLemmas
 mod RankLemmas
 mod WalkLemmas

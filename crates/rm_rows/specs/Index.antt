@@ -1,5 +1,5 @@
 -- A block of threaded nodes beside the ring of its links in order of entry and their index by key.
-use Rattle.std.specs.Prelude.{◌≡◌, ℕ, ◌+◌, ◌<◌, ◌≤◌, All, List, ◌∷◌, ◌++◌, length, slice_get, find, Some, vec_len, vec_capacity}
+use Rattle.std.specs.Prelude.{◌≡◌, ℕ, ◌+◌, ◌-◌, ◌<◌, ◌≤◌, cond, nat_lt, All, List, ◌∷◌, ◌++◌, length, slice_get, find, Some, vec_len, vec_capacity}
 use Rattle.std.specs.List.{AllByRecursion}
 use Rattle.std.specs.declared.cmp.Ordering.{Ordering}
 use Rattle.std.specs.declared.cmp.Ordering.TheVariants.{Less}
@@ -17,6 +17,10 @@ use Rattle.rm_rows.specs.Stored.{In, Pairwise, IsAfter, rows_by, Earlier, Before
 -- ys is xs without p
 abbrev pub IsWithout : List Ptr → Ptr → List Ptr → Type 0
 IsWithout xs p ys = (us : List Ptr) × (vs : List Ptr) × (xs ≡ us ++ p ∷ vs) × (ys ≡ us ++ vs)
+
+-- where a place lies once the item at another has gone
+abbrev pub place_without : (gone place : ℕ) → ℕ
+place_without gone place = cond (nat_lt gone place) (place - 1) place
 
 module _ {K V : Type 0} where
   -- the rows at links, in their order

@@ -1,6 +1,6 @@
 // The nodes of the rows, and their index by key.
 
-ghost use Rattle.std.specs.Prelude.{◌≡◌, ◌+◌, ◌<◌, ◌≤◌, List, [], ◌∷◌, ◌++◌, find as search, All, IfOk, IfErr, IfSome, IfNone, Some, None, slice_get, option_map, option_copied, vec_len, vec_capacity};
+ghost use Rattle.std.specs.Prelude.{◌≡◌, ◌+◌, ◌<◌, ◌≤◌, List, [], ◌∷◌, ◌++◌, length, insert, remove, find as search, All, IfOk, IfErr, IfSome, IfNone, Some, None, slice_get, option_map, option_copied, vec_len, vec_capacity};
 ghost use Rattle.std.specs.VecDeque.{deque_len, deque_capacity};
 ghost use denote.RawPtr.{Ptr};
 ghost use Rattle.rm_evicting.specs.declared.Row.{Row as RowOf};
@@ -8,7 +8,7 @@ ghost use Rattle.rm_evicting.specs.Row.{renewed, touched, is_oldest, without_old
 ghost use Rattle.rm_recency.specs.Threads.{row_at};
 ghost use Rattle.rm_rows.specs.Stored.{In};
 ghost use Rattle.rm_rows.specs.Table.{key_of, row_of, touch_answer};
-ghost use Rattle.rm_rows.specs.Index.{IsIndex, HasKey, IsGap, IsWithout, Kept, Loose, Fits, MayRenew, PutOut, Holds, rows_in};
+ghost use Rattle.rm_rows.specs.Index.{IsIndex, HasKey, IsGap, IsWithout, Kept, Loose, Fits, MayRenew, PutOut, Holds, rows_in, place_without};
 
 use crate::ranks::take_entered;
 use crate::rows::Blank;
@@ -41,8 +41,19 @@ pub(crate) fn find<K: Key, V>(
     Err(low)
 }
 
-/// The node of a key.
-pub(crate) fn node_of<K: Key, V>(
+// The node of the last reference, where its row has that key.
+fn newest_of<K: Key, V>(list: &RecencyList<K, V>, key: &K) -> Option<*mut Node<K, V>>
+    requires { (es : List Ptr) × (xs : List Ptr) × Kept K.cmp list.now es xs }
+    ensures { (es : List Ptr) (xs : List Ptr) → Kept K.cmp list.now es xs → IfSome result (λ p. In p xs × HasKey K.cmp list.now p key.now) }
+{
+    match list.newest() {
+        Some(ptr) if list.row(ptr).key == *key => Some(ptr),
+        _ => None,
+    }
+}
+
+// The node of a key, by the index.
+fn indexed_node<K: Key, V>(
     list: &RecencyList<K, V>,
     index: &Vec<*mut Node<K, V>>,
     key: &K,
@@ -54,6 +65,22 @@ pub(crate) fn node_of<K: Key, V>(
     match find(list, index, key) {
         Ok(place) => Some(index[place]),
         Err(_) => None,
+    }
+}
+
+/// The node of a key. The last reference is looked at first, since it is often its key that is asked for next.
+pub(crate) fn node_of<K: Key, V>(
+    list: &RecencyList<K, V>,
+    index: &Vec<*mut Node<K, V>>,
+    key: &K,
+) -> Option<*mut Node<K, V>>
+    requires { (es : List Ptr) × Kept K.cmp list.now es index.now.items }
+    ensures some { IfSome result (λ p. In p index.now.items × HasKey K.cmp list.now p key.now) }
+    ensures none { IfNone result ((es : List Ptr) → Kept K.cmp list.now es index.now.items → row_of K.eq key.now (rows_in list.now es) ≡ None) }
+{
+    match newest_of(list, key) {
+        Some(ptr) => Some(ptr),
+        None => indexed_node(list, index, key),
     }
 }
 
@@ -158,84 +185,117 @@ pub(crate) fn enter<K: Key, V>(
     put_in(list, entered, index, place, ptr);
 }
 
-/// Takes the node of a key out of the index.
-fn take_key<K: Key, V>(list: &RecencyList<K, V>, index: &mut Vec<*mut Node<K, V>>, key: &K)
-    requires index { IsIndex K.cmp list.now index.old.items }
-    requires held { (p : Ptr) × In p index.old.items × HasKey K.cmp list.now p key.now }
-    ensures items { (p : Ptr) → In p index.old.items → HasKey K.cmp list.now p key.now → IsWithout index.old.items p index.new.items }
-    ensures len { vec_len index.new + 1 ≡ vec_len index.old }
-    ensures capacity { vec_capacity index.new ≡ vec_capacity index.old }
+// The place in the index of the node of a key, which has one.
+fn place_of<K: Key, V>(list: &RecencyList<K, V>, index: &Vec<*mut Node<K, V>>, key: &K) -> usize
+    requires index { IsIndex K.cmp list.now index.now.items }
+    requires held { (p : Ptr) × In p index.now.items × HasKey K.cmp list.now p key.now }
+    ensures { (p : Ptr) → In p index.now.items → HasKey K.cmp list.now p key.now → slice_get index.now.items result ≡ Some p }
 {
     match find(list, index, key) {
-        Ok(place) => {
-            index.remove(place);
-        }
+        Ok(place) => place,
         Err(_) => unreachable!(),
     }
 }
 
-/// Takes the node whose last reference is oldest out of the lists and the index.
+// Moves an item from its place to before the one at another place, and those between by one.
+fn move_item<T>(items: &mut [T], from: usize, to: usize)
+    requires from { from < length items.old }
+    requires to { to ≤ length items.old }
+    ensures moved { (item : T) → slice_get items.old from ≡ Some item → items.new ≡ insert (remove items.old from) (place_without from to) item }
+    ensures len { length items.new ≡ length items.old }
+{
+    if from < to {
+        items[from..to].rotate_left(1);
+    } else {
+        items[to..from + 1].rotate_right(1);
+    }
+}
+
+// Takes the node whose last reference is oldest out of the lists. Gives it with its place in the index.
 fn put_out<K: Key, V>(
     list: &mut RecencyList<K, V>,
     entered: &mut VecDeque<*mut Node<K, V>>,
-    index: &mut Vec<*mut Node<K, V>>,
-) -> *mut Node<K, V>
-    requires kept { Kept K.cmp list.old entered.old.items index.old.items }
+    index: &Vec<*mut Node<K, V>>,
+) -> (*mut Node<K, V>, usize)
+    requires kept { Kept K.cmp list.old entered.old.items index.now.items }
     requires some { 0 < vec_len list.old.nodes }
-    ensures out { PutOut K.cmp list.old list.new entered.old.items entered.new.items index.old.items index.new.items result }
+    ensures out { PutOut K.cmp list.old list.new entered.old.items entered.new.items index.now.items (remove index.now.items result.1) result.0 }
+    ensures place { slice_get index.now.items result.1 ≡ Some result.0 }
     ensures len { vec_len list.new.nodes ≡ vec_len list.old.nodes }
     ensures capacity { vec_capacity list.new.nodes ≡ vec_capacity list.old.nodes }
     ensures ring { deque_capacity entered.new ≡ deque_capacity entered.old }
     ensures rank { deque_len entered.new + 1 ≡ deque_len entered.old }
-    ensures places { vec_len index.new + 1 ≡ vec_len index.old }
-    ensures index { vec_capacity index.new ≡ vec_capacity index.old }
 {
     match list.take_oldest() {
         Some(ptr) => {
             let row = list.row(ptr);
-            let (key, entry) = (row.key, row.entry);
-            take_entered(list, entered, entry);
-            take_key(list, index, &key);
-            ptr
+            take_entered(list, entered, row.entry);
+            (ptr, place_of(list, index, &row.key))
         }
         None => unreachable!(),
     }
 }
 
-/// Enters a row of a new key in the node of the row whose last reference is oldest, and gives the key that went.
+// Puts a node that is in no list last by entry and first by recency, and moves it from its place in the index to that of its key.
+fn put_back<K: Key, V>(
+    list: &mut RecencyList<K, V>,
+    entered: &mut VecDeque<*mut Node<K, V>>,
+    index: &mut Vec<*mut Node<K, V>>,
+    from: usize,
+    to: usize,
+    ptr: *mut Node<K, V>,
+)
+    requires place { slice_get index.old.items from ≡ Some ptr }
+    requires within { to ≤ vec_len index.old }
+    requires loose { Loose K.cmp list.old entered.old.items (remove index.old.items from) ptr }
+    requires fits { Fits K.cmp list.old (remove index.old.items from) ptr (place_without from to) }
+    requires ring { deque_len entered.old < deque_capacity entered.old }
+    ensures kept { Kept K.cmp list.new entered.new.items index.new.items }
+    ensures rows { (row : RowOf K V) → row_at list.old ptr ≡ Some row → rows_in list.new entered.new.items ≡ rows_in list.old entered.old.items ++ row ∷ [] }
+    ensures len { vec_len list.new.nodes ≡ vec_len list.old.nodes }
+    ensures capacity { vec_capacity list.new.nodes ≡ vec_capacity list.old.nodes }
+    ensures ring { deque_capacity entered.old ≤ deque_capacity entered.new }
+    ensures places { vec_capacity index.new ≡ vec_capacity index.old }
+    ensures as_many { vec_len index.new ≡ vec_len index.old }
+{
+    list.link_front(ptr);
+    match entered.push_back(ptr) {
+        Ok(()) => {}
+        Err(_) => unreachable!(),
+    }
+    move_item(index, from, to);
+}
+
+/// Enters a row of a new key, which belongs before a place of the index, in the node of the row whose last reference is oldest, and
+/// gives the key that went.
 pub(crate) fn replace<K: Key, V: Copy>(
     list: &mut RecencyList<K, V>,
     entered: &mut VecDeque<*mut Node<K, V>>,
     index: &mut Vec<*mut Node<K, V>>,
+    place: usize,
     row: Row<K, V>,
 ) -> K
     requires kept { Kept K.cmp list.old entered.old.items index.old.items }
     requires some { 0 < vec_len list.old.nodes }
-    requires absent { (p : Ptr) (r : RowOf K V) → In p index.old.items → row_at list.old p ≡ Some r → ¬ (row.key ≡ r.key) }
+    requires gap { IsGap K.cmp list.old index.old.items row.key place }
     requires new { row.entry ≡ row.last }
     requires stamp { All (λ r. r.last < row.last) (rows_in list.old entered.old.items) }
     requires tick { All (λ r. r.tick ≤ row.tick) (rows_in list.old entered.old.items) }
     requires ring { deque_len entered.old ≤ deque_capacity entered.old }
-    requires places { vec_len index.old ≤ vec_capacity index.old }
     ensures kept { Kept K.cmp list.new entered.new.items index.new.items }
     ensures rows { rows_in list.new entered.new.items ≡ without_oldest (rows_in list.old entered.old.items) ++ row ∷ [] }
     ensures key { option_map key_of (search (is_oldest (rows_in list.old entered.old.items)) (rows_in list.old entered.old.items)) ≡ Some result }
     ensures len { vec_len list.new.nodes ≡ vec_len list.old.nodes }
     ensures capacity { vec_capacity list.new.nodes ≡ vec_capacity list.old.nodes }
     ensures ring { deque_capacity entered.old ≤ deque_capacity entered.new }
-    ensures places { vec_capacity index.old ≤ vec_capacity index.new }
-    ensures more { vec_len index.new ≡ vec_len index.old }
+    ensures places { vec_capacity index.new ≡ vec_capacity index.old }
+    ensures as_many { vec_len index.new ≡ vec_len index.old }
 {
-    let ptr = put_out(list, entered, index);
+    let (ptr, from) = put_out(list, entered, index);
     let gone = list.row(ptr).key;
-    match find(list, index, &row.key) {
-        Err(place) => {
-            list.set_row(ptr, row);
-            put_in(list, entered, index, place, ptr);
-            gone
-        }
-        Ok(_) => unreachable!(),
-    }
+    list.set_row(ptr, row);
+    put_back(list, entered, index, from, place, ptr);
+    gone
 }
 
 /// Takes a reference to a key: renews its row, or enters a blank one, for which the oldest row gives way where there are `capacity`.
@@ -275,7 +335,7 @@ pub(crate) fn refer<K: Key, V: Blank>(
                 enter(list, entered, index, place, row);
                 Touch::Fresh
             } else {
-                Touch::Evicted(replace(list, entered, index, row))
+                Touch::Evicted(replace(list, entered, index, place, row))
             }
         }
     }

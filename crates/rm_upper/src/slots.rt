@@ -77,36 +77,25 @@ fn take<N: Counts>(
     }
 }
 
-// Whether a contribution by a path makes an application row in a slot.
-fn makes_at<A: Copy>(slot: &Option<Slot>, kept: &Option<KeptApplication<A>>, path: &[u32]) -> bool
-    ensures { result ≡ makes_here (is_among path.now) slot.now kept.now }
-{
-    match slot {
-        Some(slot) => path.contains(&slot.protocol) && makes(slot, kept),
-        None => false,
-    }
-}
-
-// What a slot keeps after a contribution by a path.
+// A contribution comes to a slot, where its protocol is on the path. Tells whether it makes an application row there.
 fn take_at<N: Counts>(
     slot: &Option<Slot>,
-    kept: &Option<KeptApplication<N::Application>>,
+    kept: &mut Option<KeptApplication<N::Application>>,
     path: &[u32],
     stamp: u64,
     tick: u32,
     gain: &N,
-) -> Option<KeptApplication<N::Application>>
-    ensures { result ≡ kept_with N.tally (is_among path.now) stamp tick gain.now slot.now kept.now }
+) -> bool
+    ensures kept { kept.new ≡ kept_with N.tally (is_among path.now) stamp tick gain.now slot.now kept.old }
+    ensures made { result ≡ makes_here (is_among path.now) slot.now kept.old }
 {
     match slot {
-        Some(slot) => {
-            if path.contains(&slot.protocol) {
-                Some(take(slot, kept, stamp, tick, gain))
-            } else {
-                *kept
-            }
+        Some(slot) if path.contains(&slot.protocol) => {
+            let made = makes(slot, kept);
+            *kept = Some(take(slot, kept, stamp, tick, gain));
+            made
         }
-        None => *kept,
+        _ => false,
     }
 }
 
@@ -127,10 +116,16 @@ pub fn take_all<N: Counts>(
 {
     let mut made = 0;
     for place in 0..applications.len() {
-        if makes_at(&slots[place], &applications[place], path) {
+        if take_at(
+            &slots[place],
+            &mut applications[place],
+            path,
+            stamp,
+            tick,
+            gain,
+        ) {
             made += 1;
         }
-        applications[place] = take_at(&slots[place], &applications[place], path, stamp, tick, gain);
     }
     made
 }

@@ -3,7 +3,7 @@ use denote.RawPtr.{Ptr}
 use Rattle.rm_evicting.specs.Row.{without_oldest}
 use Rattle.rm_evicting.proofs.Keys.{exact_key}
 use Rattle.rm_rows.specs.Index.{IsIndex, IsGap, rows_in}
-use Rattle.rm_rows.proofs.KeptLemmas.{is_index, gap_none}
+use Rattle.rm_rows.proofs.KeptLemmas.{is_index}
 use Rattle.rm_rows.proofs.TouchLemmas.{touched-held, touched-fresh, touched-full, answer-held, answer-fresh, answer-full, blank_row, place_within, found_in, is_here, is_away, holds_renewed}
 use Rattle.rm_rows.proofs.index.refer.Goals as goal
 
@@ -27,11 +27,8 @@ renew-requires g c = (
   },
 )
 
-pub replace-requires-clause-absent : goal.replace-requires-clause-absent
-replace-requires-clause-absent g c =
-    let k = c.requires.kept.kept in let xs = c.args.index.now.items in
-    let gap = subst (λ (l : List Ptr). IsGap g.K.Ord.cmp c.args.list.now l c.args.key c.in-Err.place) c.deref.ensures.value c.in-Err.ensures.absent in
-    λ p r member e z. gap_none g.K.Ord.cmp g.met.K.Ord.total c.args.list.now xs (is_index g.K.Ord.cmp c.args.list.now c.args.entered.now.items k.rs xs k.links k.recency k.stored) c.args.key c.in-Err.place p gap member (r, e, sym z)
+pub replace-requires-clause-gap : goal.replace-requires-clause-gap
+replace-requires-clause-gap g c = subst (λ (l : List Ptr). IsGap g.K.Ord.cmp c.args.list.now l c.args.key c.in-Err.place) c.deref.ensures.value c.in-Err.ensures.absent
 
 pub returns-in-Ok-clause-kept : goal.returns-in-Ok-clause-kept
 returns-in-Ok-clause-kept g c =
