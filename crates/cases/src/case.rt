@@ -30,6 +30,8 @@ pub struct Case {
     pub other: Option<Vec<u8>>,
     /// What comes and goes over the link.
     pub traffic: Traffic,
+    /// How many octets a read gives at most in a run of its own, where the case says so.
+    pub pieces: Option<u32>,
     /// Whether each call on the outside fails in a run of its own.
     pub each_call_fails: bool,
     /// The numbers of the puts of the output that fail.
@@ -61,6 +63,7 @@ impl Case {
             requests: Vec::new(alloc),
             other: None,
             traffic: Traffic::new(alloc),
+            pieces: None,
             each_call_fails: false,
             failing_puts: Vec::new(alloc),
             status: Status::Done,
@@ -93,6 +96,10 @@ impl Case {
             "capture" => self.capture.push_octets(&octets(self.alloc, rest)?),
             "record" => self.take_record(rest),
             "front" => self.take_fronts(rest),
+            "pieces" => {
+                self.pieces = Some(number(rest)?);
+                Ok(())
+            }
             "requests" => Ok(self.requests.extend_from_slice(&octets(self.alloc, rest)?)?),
             "other" => {
                 self.other = Some(octets(self.alloc, rest)?);

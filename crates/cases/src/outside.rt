@@ -100,6 +100,15 @@ impl Outside {
         Ok(())
     }
 
+    /// Has each read give so many octets at most.
+    pub fn give_pieces(&mut self, most: u32) -> Result<(), Trouble> {
+        if most == 0 {
+            return Err(Trouble::Form("pieces of no octet"));
+        }
+        self.shelf.pieces(most as usize);
+        Ok(())
+    }
+
     /// Calls the outside, and tells whether that failed. Nothing is put or sent.
     pub fn fails_at(&mut self, kind: Kind) -> bool {
         match kind {

@@ -25,7 +25,7 @@ pub fn try_case(alloc: Global, case: &Case) -> Result<Option<Difference>, Troubl
     Ok(None)
 }
 
-// The run of the case, and those in which a call fails where it says that each does.
+// The run of the case, the one in pieces where it says so, and those in which a call fails where it says that each does.
 fn difference_over(
     alloc: Global,
     case: &Case,
@@ -33,9 +33,14 @@ fn difference_over(
 ) -> Result<Option<Difference>, Trouble> {
     let text = case.text()?;
     let mut outside = Outside::new(alloc, case, capture, text.len())?;
-    let status = outside.run(alloc, case)?;
-    let expected = Expected::whole(case, text.as_str());
-    let found = expected.difference(alloc, case, status, &outside)?;
+    let mut found = difference_of(alloc, case, &mut outside, text.as_str())?;
+    if found.is_none()
+        && let Some(most) = case.pieces
+    {
+        let mut outside = Outside::new(alloc, case, capture, text.len())?;
+        outside.give_pieces(most)?;
+        found = difference_of(alloc, case, &mut outside, text.as_str())?;
+    }
     if found.is_some() || !case.each_call_fails {
         return Ok(found);
     }
@@ -45,6 +50,17 @@ fn difference_over(
         }
     }
     Ok(None)
+}
+
+// The first difference of a run of the case in which no call fails. The text is all that the case writes.
+fn difference_of(
+    alloc: Global,
+    case: &Case,
+    outside: &mut Outside,
+    text: &str,
+) -> Result<Option<Difference>, Trouble> {
+    let status = outside.run(alloc, case)?;
+    Expected::whole(case, text).difference(alloc, case, status, outside)
 }
 
 // The runs in which call 1 of a kind fails, call 2, and so on, up to the first run that ends before its call.
