@@ -6,8 +6,6 @@ mod identifier;
 mod path;
 mod protocol;
 mod protocols;
-#[cfg(test)]
-mod tests;
 
 pub use identifier::ProtocolIdentifier;
 pub use path::Path;

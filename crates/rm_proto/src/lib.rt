@@ -8,8 +8,6 @@ mod field;
 mod frame;
 mod known;
 mod ports;
-#[cfg(test)]
-mod tests;
 mod wire;
 
 pub use datagram::IpPair;

@@ -3,8 +3,6 @@
 
 mod error;
 mod oid;
-#[cfg(test)]
-mod tests;
 mod value;
 
 pub use error::{ErrorStatus, Full, NoMemory};

@@ -1,6 +1,6 @@
 // The facts of each case were written out from the header formats: IEEE 802.3 and RFC 894 for the frame, RFC 791 for
 // the datagram, RFC 768 and RFC 793 for the ports.
-use crate::{Cast, Facts, IpPair, Pair, Ports, facts};
+use rm_proto::{Cast, Facts, IpPair, Pair, Ports, facts};
 use std::alloc::Global;
 use std::process::Abort;
 use std::test::Fail;

@@ -1,5 +1,5 @@
-use crate::{ErrorStatus, Oid};
 use arrayvec::ArrayVec;
+use rm_val::{ErrorStatus, Oid};
 use std::cmp::Ordering;
 use std::test::Fail;
 

@@ -2,7 +2,7 @@
 // active.
 ghost use Rattle.std.specs.Prelude.{◌≡◌};
 
-use crate::{Protocol, ProtocolIdentifier, Protocols};
+use rm_path::{Protocol, ProtocolIdentifier, Protocols};
 use rm_proto::{Cast, Facts, Ports};
 use std::process::Abort;
 
