@@ -4,8 +4,6 @@
 mod octet_test;
 mod packet_test;
 mod status_test;
-#[cfg(test)]
-mod tests;
 
 pub use packet_test::PacketTest;
 pub use status_test::StatusTest;

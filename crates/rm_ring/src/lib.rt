@@ -6,8 +6,6 @@ mod packet;
 mod place;
 mod ring;
 mod runs;
-#[cfg(test)]
-mod tests;
 
 pub use packet::Packet;
 pub use ring::{PLACE_COST, Ring};

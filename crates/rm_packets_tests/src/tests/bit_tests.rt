@@ -1,5 +1,5 @@
 // Filters against packets, worked out by hand.
-use crate::{PacketTest, StatusTest};
+use rm_match::{PacketTest, StatusTest};
 
 // What is wanted of the octets of a packet.
 fn wanted<'a>(offset: u32, data: &'a [u8], mask: &'a [u8], not_mask: &'a [u8]) -> PacketTest<'a> {

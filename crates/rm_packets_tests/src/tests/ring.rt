@@ -1,7 +1,7 @@
 // Packets in a small ring, worked out by hand.
 ghost use Rattle.std.specs.Prelude.{◌≡◌, IfOk};
 
-use crate::Ring;
+use rm_ring::Ring;
 use std::alloc::Global;
 use std::test::Fail;
 

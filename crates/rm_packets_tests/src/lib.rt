@@ -1,0 +1,5 @@
+//! Tests of rm_match and rm_ring.
+#![tactic(auto)]
+
+#[cfg(test)]
+mod tests;

@@ -1,0 +1,2 @@
+mod bit_tests;
+mod ring;
