@@ -7,7 +7,6 @@ pub mod ValueLemmas
 mod RankLemmas
 mod WalkLemmas
 mod NextLemmas
-mod MadeUp
 pub mod Members
 pub mod RowsBy
 pub mod Steps

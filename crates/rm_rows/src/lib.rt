@@ -5,8 +5,6 @@ mod first;
 mod index;
 mod ranks;
 mod rows;
-#[cfg(test)]
-mod tests;
 mod touch;
 mod walk;
 

@@ -7,8 +7,6 @@ mod kept_rows;
 mod layer_table;
 mod network_rows;
 mod slots;
-#[cfg(test)]
-mod tests;
 mod walk;
 
 pub use counts::{Counted, Counts, LayerCounts};

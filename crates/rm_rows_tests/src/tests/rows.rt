@@ -1,6 +1,6 @@
 ghost use Rattle.std.specs.Prelude.{nat_le, slice_index};
 
-use crate::{Above, Blank, Rows, Touch};
+use rm_rows::{Above, Blank, Rows, Touch};
 use std::test::*;
 
 /// How often a key was seen.

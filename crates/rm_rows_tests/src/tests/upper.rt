@@ -1,7 +1,7 @@
 ghost use Rattle.std.specs.Prelude.{◌≡◌, ◌+◌, ◌%◌, ◌<◌, ◌≤◌, ◌^◌, replicate, None, refl};
 
-use crate::{Counted, Counts, KeptApplication, LayerCounts, LayerTable, Slot, take_all};
 use rm_rows::Blank;
+use rm_upper::{Counted, Counts, KeptApplication, LayerCounts, LayerTable, Slot, take_all};
 use std::test::*;
 
 const UDP: u32 = 6;
