@@ -4,8 +4,6 @@
 mod address_pair;
 mod pair_counts;
 mod pair_row;
-#[cfg(test)]
-mod tests;
 
 pub use address_pair::AddressPair;
 pub use pair_counts::PairCounts;

@@ -5,8 +5,6 @@
 mod has_directory;
 mod settling;
 mod slots;
-#[cfg(test)]
-mod tests;
 
 pub use has_directory::HasDirectory;
 pub use settling::settle;

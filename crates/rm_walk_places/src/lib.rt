@@ -3,8 +3,6 @@
 #![tactic(auto)]
 
 mod places;
-#[cfg(test)]
-mod tests;
 mod walk;
 
 pub use places::{Bounds, Reached, WalkPlace};

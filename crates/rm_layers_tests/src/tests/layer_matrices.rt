@@ -1,4 +1,4 @@
-use crate::{AddressPair, PairCounts};
+use rm_layer_matrices::{AddressPair, PairCounts};
 use rm_proto::facts;
 use std::test::*;
 

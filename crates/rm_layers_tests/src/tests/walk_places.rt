@@ -3,8 +3,8 @@
 ghost use Rattle.std.specs.Prelude.{◌≤◌, length};
 ghost use Rattle.rm_walk_places.specs.Within.{AreBounds};
 
-use crate::{Bounds, walk_place};
 use rm_val::Oid;
+use rm_walk_places::{Bounds, walk_place};
 use std::cmp::Ordering;
 use std::test::Fail;
 

@@ -1,5 +1,5 @@
-use crate::{TableKind, settle, slots_on};
 use rm_dir::Directory;
+use rm_layer_slots::{TableKind, settle, slots_on};
 use std::test::*;
 
 // From the beginning the protocols above ip are on, which have the local indexes from 4 to 20; those of ether2, ip and arp are below.

@@ -1,0 +1,3 @@
+mod layer_matrices;
+mod layer_slots;
+mod walk_places;
