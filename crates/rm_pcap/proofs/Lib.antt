@@ -3,5 +3,4 @@ pub mod FoundLemmas
 pub mod CaptureLemmas
 pub mod RecordLaws
 pub mod StepLemmas
-pub mod CountLemmas
 pub mod EachRecordLemmas

@@ -11,8 +11,6 @@ mod laws;
 mod position;
 mod reach;
 mod record;
-#[cfg(test)]
-mod tests;
 
 pub use capture::Capture;
 pub use fault::PcapFault;

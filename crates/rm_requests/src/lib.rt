@@ -5,8 +5,6 @@ mod fault;
 mod laws;
 mod lines;
 mod requests;
-#[cfg(test)]
-mod tests;
 
 pub use fault::RequestsFault;
 pub use laws::{

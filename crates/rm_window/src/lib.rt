@@ -2,8 +2,6 @@
 #![tactic(auto)]
 
 mod filling;
-#[cfg(test)]
-mod tests;
 mod window;
 
 pub use filling::fill;

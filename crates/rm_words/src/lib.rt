@@ -7,8 +7,6 @@ mod names;
 mod options;
 mod parts;
 mod scan;
-#[cfg(test)]
-mod tests;
 mod values;
 
 pub use command::{Command, read_command};

@@ -1,6 +1,6 @@
 // What words are read as. The crate `cases` has which words are a command, and which are none.
-use crate::{Command, RunOptions, read_command};
 use rm_edge::Words;
+use rm_words::{Command, RunOptions, read_command};
 use std::alloc::Global;
 use std::test::Fail;
 

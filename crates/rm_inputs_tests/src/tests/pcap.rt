@@ -5,8 +5,8 @@ ghost use Rattle.rm_pcap.specs.Records.{Stop, AreRecords};
 ghost use Rattle.rm_pcap.specs.Progress.{Agrees};
 ghost use Rattle.rm_pcap.specs.View.{progress_of};
 
-use crate::{Capture, PcapFault, Step};
 use rm_edge::{MemShelf, Shelf};
+use rm_pcap::{Capture, PcapFault, Step};
 use std::alloc::Global;
 use std::test::Fail;
 

@@ -1,7 +1,7 @@
 use Rattle.rm_pcap.specs.View.{progress_of}
 use Rattle.rm_pcap.proofs.StepLemmas.{passed_one, at_end, at_cut}
-use Rattle.rm_pcap.proofs.CountLemmas.{one_more, all_passed}
-use Rattle.rm_pcap.proofs.tests.count_left.Goals as goal
+use Rattle.rm_inputs_tests.proofs.CountLemmas.{one_more, all_passed}
+use Rattle.rm_inputs_tests.proofs.tests.pcap.count_left.Goals as goal
 
 pub loop-count-preserved : goal.loop-count-preserved
 loop-count-preserved g c =

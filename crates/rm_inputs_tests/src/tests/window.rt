@@ -2,8 +2,8 @@
 ghost use Rattle.std.specs.Prelude.{◌≡◌};
 ghost use Rattle.rm_window.specs.Window.{room_of};
 
-use crate::Window;
 use rm_edge::{Failed, MemShelf};
+use rm_window::Window;
 use std::alloc::Global;
 use std::test::Fail;
 

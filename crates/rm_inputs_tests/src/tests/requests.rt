@@ -1,6 +1,6 @@
 // What is read of a request file in memory, however its reads are cut.
-use crate::{Request, Requests, RequestsFault};
 use rm_edge::MemShelf;
+use rm_requests::{Request, Requests, RequestsFault};
 use std::alloc::Global;
 use std::test::Fail;
 

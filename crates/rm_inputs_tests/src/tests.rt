@@ -1,0 +1,4 @@
+mod pcap;
+mod requests;
+mod window;
+mod words;
