@@ -2,8 +2,6 @@
 #![tactic(auto)]
 
 mod line;
-#[cfg(test)]
-mod tests;
 mod writing;
 
 pub use writing::{Unwritten, decode};

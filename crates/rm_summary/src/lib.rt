@@ -6,8 +6,6 @@ mod entry;
 mod figure;
 mod lines;
 mod reading;
-#[cfg(test)]
-mod tests;
 mod writing;
 
 pub use entry::{SummaryFault, summary};

@@ -1,7 +1,7 @@
 // The one public call. The crate `cases` tries it over many captures.
-use crate::{SummaryFault, summary};
 use rm_edge::{MemShelf, MemSink};
 use rm_pcap::PcapFault;
+use rm_summary::{SummaryFault, summary};
 use std::test::Fail;
 
 // The header of a capture of Ethernet frames, the lowest octet of a number first.

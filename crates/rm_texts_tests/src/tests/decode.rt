@@ -1,5 +1,5 @@
 // The one public call.
-use crate::{Unwritten, decode};
+use rm_decode::{Unwritten, decode};
 use rm_edge::MemSink;
 use std::test::Fail;
 
