@@ -2,8 +2,6 @@
 #![tactic(auto)]
 
 mod entry;
-#[cfg(test)]
-mod tests;
 
 pub use entry::run;
 pub use rm_probe::Status;

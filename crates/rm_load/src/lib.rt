@@ -10,8 +10,6 @@ mod loading;
 mod made;
 mod requests;
 mod table;
-#[cfg(test)]
-mod tests;
 mod unheard;
 mod writing;
 

@@ -1,7 +1,7 @@
 // The one public call. The crate `cases` tries it by the words of its command.
-use crate::{LoadFault, load};
 use arrayvec::ArrayVec;
 use rm_edge::MemSink;
+use rm_load::{LoadFault, load};
 use rm_settings::Settings;
 use std::alloc::Global;
 use std::test::Fail;

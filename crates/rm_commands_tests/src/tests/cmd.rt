@@ -1,5 +1,5 @@
 // The top call. The crate `cases` tries it over many words and files.
-use crate::{Status, run};
+use rm_cmd::{Status, run};
 use rm_edge::{ListClock, MemLink, MemShelf, MemSink, Peer, Words};
 use std::test::Fail;
 
