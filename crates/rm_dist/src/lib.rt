@@ -10,8 +10,6 @@ mod group;
 mod locals;
 mod row;
 mod stats;
-#[cfg(test)]
-mod tests;
 
 pub use count::Count;
 pub use counts::Counts;

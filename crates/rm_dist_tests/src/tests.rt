@@ -1,10 +1,10 @@
 // What a manager sees of the distribution, worked out from the protocols on the paths of frames. The frames have 60 octets without the check
 // sequence.
-ghost use Rattle.std.specs.Prelude.{IfOk, None};
+ghost use Rattle.std.specs.Prelude.{◌≡◌, ◌≤◌, ◌<◌, ◌+◌, IfOk, None};
 ghost use Rattle.rm_val.specs.Spellable.{IsSpellable};
 
-use crate::Distribution;
 use rm_dir::Directory;
+use rm_dist::Distribution;
 use rm_group::{
     Assignments, Both, Commits, FallsDue, Group, Look, MOST_FRAMES, MOST_OCTETS, Objects, Passing,
     Readable, Steps,
@@ -72,14 +72,12 @@ impl Look for Unread {
     }
 }
 
-// Judges a Set at a moment, and does it where nothing is wrong with it. A moment before the last one is a general error.
-fn apply(alloc: Global, protocols: &mut Distributed, set: &Set, now: u32) -> Verdict {
-    if now < protocols.second.last {
-        return Verdict::Wrong {
-            status: ErrorStatus::GenErr,
-            index: 0,
-        };
-    }
+// Judges a Set at a moment, and does it where nothing is wrong with it.
+fn apply(alloc: Global, protocols: &mut Distributed, set: &Set, now: u32) -> Verdict
+    requires later { protocols.old.second.last ≤ now }
+    ensures last { protocols.new.second.last ≤ now }
+    ensures frames { protocols.new.second.frames ≡ protocols.old.second.frames }
+{
     let alone = protocols.judge_alone(set);
     if alone != Verdict::Fine {
         return alone;
@@ -96,7 +94,10 @@ fn apply(alloc: Global, protocols: &mut Distributed, set: &Set, now: u32) -> Ver
 }
 
 // A datagram of UDP, from one port to the other.
-fn datagram(source: u16, dest: u16, moment: u32) -> Passing<'static> {
+fn datagram(source: u16, dest: u16, moment: u32) -> Passing<'static>
+    ensures length { result.facts.length ≡ 64 }
+    ensures moment { result.moment ≡ moment }
+{
     let facts = Facts {
         interface: 1,
         length: 64,
@@ -118,21 +119,28 @@ fn datagram(source: u16, dest: u16, moment: u32) -> Passing<'static> {
 }
 
 // The directory and the distribution before the first frame.
-fn before_all() -> Distributed {
+fn before_all() -> Distributed
+    ensures last { result.second.last ≡ 0 }
+    ensures frames { result.second.frames ≡ 0 }
+{
     Both {
         first: Directory::new(),
         second: Distribution::new(),
     }
 }
 
-// A frame passes, where its moment isn't before the last one.
-fn count(protocols: &mut Distributed, passing: &Passing<'_>) {
-    let held = &mut protocols.second;
-    let later = held.last <= passing.moment;
-    if later && held.frames < MOST_FRAMES && passing.facts.length <= MOST_OCTETS {
-        held.frame(&protocols.first, &passing.facts, passing.moment);
-        protocols.first.pass(passing);
-    }
+// A frame passes.
+fn count(protocols: &mut Distributed, passing: &Passing<'_>)
+    requires later { protocols.old.second.last ≤ passing.now.moment }
+    requires room { protocols.old.second.frames < MOST_FRAMES }
+    requires length { passing.now.facts.length ≤ MOST_OCTETS }
+    ensures last { protocols.new.second.last ≡ passing.now.moment }
+    ensures frames { protocols.new.second.frames ≡ protocols.old.second.frames + 1 }
+{
+    protocols
+        .second
+        .frame(&protocols.first, &passing.facts, passing.moment);
+    protocols.first.pass(passing);
 }
 
 // The number of a Gauge32 or of TimeTicks. None for any other value.

@@ -1,0 +1,5 @@
+//! Tests of rm_dist.
+#![tactic(auto)]
+
+#[cfg(test)]
+mod tests;
