@@ -1,5 +1,5 @@
 // What a manager sees of the hosts of a row, worked out from frames. They have 60 octets without the check sequence.
-ghost use Rattle.std.specs.Prelude.{◌≡◌, ◌≤◌, ◌<◌, ◌+◌, IfOk, None, max};
+ghost use Rattle.std.specs.Prelude.{◌≡◌, ◌≤◌, ◌<◌, ◌+◌, IfOk, None};
 ghost use Rattle.rm_val.specs.Spellable.{IsSpellable};
 ghost use Rattle.rm_collect.specs.Group.{IsStocked, frames_given, last_given};
 
@@ -80,10 +80,10 @@ impl Look for Unread {
 
 // Judges a Set at a moment, and does it where nothing is wrong with it.
 fn apply(alloc: Global, hosts: &mut Hosts, set: &Set, now: u32) -> Verdict
-    requires later { max 0 (last_given hosts.old.second.collecting) ≤ now }
+    requires later { last_given hosts.old.second.collecting ≤ now }
     requires stocked { IsStocked hosts.old.second.collecting }
-    ensures last { max 0 (last_given hosts.new.second.collecting) ≤ now }
-    ensures frames { max 0 (frames_given hosts.new.second.collecting) ≡ max 0 (frames_given hosts.old.second.collecting) }
+    ensures last { last_given hosts.new.second.collecting ≤ now }
+    ensures frames { frames_given hosts.new.second.collecting ≡ frames_given hosts.old.second.collecting }
     ensures stocked { IsStocked hosts.new.second.collecting }
 {
     let alone = hosts.judge_alone(set);
@@ -140,11 +140,11 @@ fn query(source: u8, dest: u8, moment: u32) -> Passing<'static>
 // A frame passes.
 #[tactic(auto, unfolding(rm_hl_hosts::specs::Collection::host_collection))]
 fn pass(hosts: &mut Hosts, passing: &Passing<'_>)
-    requires later { max 0 (last_given hosts.old.second.collecting) ≤ passing.now.moment }
-    requires room { max 0 (frames_given hosts.old.second.collecting) < MOST_FRAMES }
+    requires later { last_given hosts.old.second.collecting ≤ passing.now.moment }
+    requires room { frames_given hosts.old.second.collecting < MOST_FRAMES }
     requires length { passing.now.facts.length ≤ MOST_OCTETS }
-    ensures last { max 0 (last_given hosts.new.second.collecting) ≤ passing.now.moment }
-    ensures frames { max 0 (frames_given hosts.new.second.collecting) ≡ max 0 (frames_given hosts.old.second.collecting) + 1 }
+    ensures last { last_given hosts.new.second.collecting ≤ passing.now.moment }
+    ensures frames { frames_given hosts.new.second.collecting ≡ frames_given hosts.old.second.collecting + 1 }
     ensures stocked { IsStocked hosts.old.second.collecting → IsStocked hosts.new.second.collecting }
 {
     let path = locals_above_ip(&hosts.first, &passing.facts);

@@ -1,4 +1,4 @@
-use Rattle.std.proofs.Common.{◌≡◌, ◌≤◌, ◌×◌}
+use Rattle.std.proofs.Common.{◌≡◌, ◌≤◌}
 use Rattle.rm_dist_tests.proofs.tests.idle_protocols_lose_counts.Given as goal
 
 abbrev pub invariant-loop-status : goal.invariant-loop-status
