@@ -1,8 +1,8 @@
 // How often a key was referred to.
 ghost use Rattle.million_references.specs.Times.{never, and_again};
 
+use rm_evicting::Blank;
 use rm_keyed::Counts;
-use rm_rows::Blank;
 
 /// How often a key was referred to since it was entered.
 #[derive(Clone, Copy, Debug, PartialEq, Eq)]

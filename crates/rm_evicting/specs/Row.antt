@@ -26,6 +26,10 @@ module _ {K V : Type 0} where
   abbrev pub room_made : ℕ → List (Row K V) → List (Row K V)
   room_made capacity rows = cond (nat_lt (length rows) capacity) rows (without_oldest rows)
 
+  -- the row of a key that is entered: what a value begins with, and one reference
+  abbrev pub blank_row : V → K → ℕ → ℕ → Row K V
+  blank_row blank key stamp tick = record { key = key; value = blank; entry = stamp; last = stamp; tick = tick }
+
 module _ {K V : Type 0} (eq : K → K → Bool) where
   abbrev pub holds : K → List (Row K V) → Bool
   holds key rows = list_any (λ row. eq key row.key) rows
@@ -37,7 +41,7 @@ module _ {K V : Type 0} (eq : K → K → Bool) where
   abbrev pub touched : V → ℕ → K → ℕ → ℕ → List (Row K V) → List (Row K V)
   touched blank capacity key stamp tick rows = cond (holds key rows)
       (renewed key stamp tick rows)
-      (room_made capacity rows ++ record { key = key; value = blank; entry = stamp; last = stamp; tick = tick } ∷ [])
+      (room_made capacity rows ++ blank_row blank key stamp tick ∷ [])
 
   -- a reference puts another row out
   abbrev pub takes_place : ℕ → K → List (Row K V) → Bool

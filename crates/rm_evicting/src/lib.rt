@@ -16,6 +16,23 @@ pub trait Key: Ord + Copy {
     ghost exact: { (a b : Self) → Self.cmp a b ≡ Equal → a ≡ b };
 }
 
+/// What the references to a key add up to: it begins blank.
+pub trait Blank: Copy {
+    /// What it begins with.
+    ghost blank_value: { Self };
+
+    /// The value of a row that was just entered.
+    fn blank() -> Self
+        ensures { result ≡ blank_value };
+
+    /// Makes a value that one, in its place.
+    fn empty(&mut self)
+        ensures { self.new ≡ blank_value }
+    {
+        *self = Self::blank();
+    }
+}
+
 /// A row of a table: its key, what its references have added up to, the stamps of its entry and of its last reference, and the tick of
 /// the last one, in hundredths of a second. References are stamped as they come, each with a greater number.
 #[derive(Clone, Copy)]

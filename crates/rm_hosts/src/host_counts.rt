@@ -2,9 +2,9 @@
 ghost use Rattle.std.specs.Prelude.{◌≡◌};
 ghost use Rattle.rm_hosts.specs.Counts.{no_counts, with_gain, gain_in, gain_out};
 
+use rm_evicting::Blank;
 use rm_keyed::Counts;
 use rm_proto::{Cast, Facts};
-use rm_rows::Blank;
 
 /// What is counted of a host since it entered its table (RFC 1757, section 5).
 #[derive(Clone, Copy, Debug, PartialEq, Eq)]

@@ -1,7 +1,7 @@
 // What rows count.
 ghost use Rattle.std.specs.Prelude.{◌≡◌};
 
-use rm_rows::Blank;
+use rm_evicting::Blank;
 
 /// What the mentions of a key add up to.
 pub trait Counts: Blank {

@@ -2,7 +2,7 @@
 ghost use Rattle.rm_keyed.specs.Uncounted.{uncounted, unchanged};
 
 use crate::counts::Counts;
-use rm_rows::Blank;
+use rm_evicting::Blank;
 
 /// What rows count of which the keys alone matter: nothing.
 #[derive(Clone, Copy, Debug, PartialEq, Eq)]

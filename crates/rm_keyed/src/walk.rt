@@ -9,9 +9,9 @@ use crate::above::{FromIndex, OverIndex};
 use crate::counts::Counts;
 use crate::indexed::{Indexed, compare_index, index_of};
 use crate::keyed::Keyed;
-use rm_evicting::Key;
+use rm_evicting::{Blank, Key};
 use rm_nested::{first_number, one_number_above};
-use rm_rows::{Blank, Rows};
+use rm_rows::Rows;
 use rm_val::Oid;
 
 /// The least index of a row above some numbers. None where there is none.

@@ -1,6 +1,6 @@
+use rm_evicting::Blank;
 use rm_keyed::{AddressPair, Counts, Keyed, index_of, key_above, key_at, rank_above, source_value};
 use rm_pool::Part;
-use rm_rows::Blank;
 use rm_val::{Oid, Value};
 use std::test::*;
 

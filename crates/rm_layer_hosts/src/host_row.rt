@@ -4,7 +4,7 @@ ghost use Rattle.rm_layer_hosts.specs.Counts.{host_tally};
 ghost use Rattle.rm_layer_hosts.specs.HostRow.{blank_host, seen_host, starts_blank};
 
 use crate::counts::{NetworkCounts, Traffic};
-use rm_rows::Blank;
+use rm_evicting::Blank;
 use rm_upper::{Counted, Counts, KeptApplication, LayerCounts, Slot, take_all};
 
 /// What a host has in its network row: the tick of its first contribution, in hundredths of a second, what its contributions add up to,

@@ -4,7 +4,7 @@ ghost use Rattle.rm_layer_matrices.specs.PairCounts.{pair_tally};
 ghost use Rattle.rm_layer_matrices.specs.PairRow.{blank_pair, seen_pair, starts_blank};
 
 use crate::pair_counts::PairCounts;
-use rm_rows::Blank;
+use rm_evicting::Blank;
 use rm_upper::{Counted, Counts, KeptApplication, LayerCounts, Slot, take_all};
 
 /// What a pair has in its network row: the tick of its first contribution, in hundredths of a second, what its contributions add up to,

@@ -2,9 +2,9 @@
 ghost use Rattle.std.specs.Prelude.{◌≡◌};
 ghost use Rattle.rm_matrix.specs.Counts.{gain, no_counts, with_gain};
 
+use rm_evicting::Blank;
 use rm_keyed::Counts;
 use rm_proto::Facts;
-use rm_rows::Blank;
 
 /// What is counted of a pair of hosts since it entered its table (RFC 1757, section 5).
 #[derive(Clone, Copy, Debug, PartialEq, Eq)]

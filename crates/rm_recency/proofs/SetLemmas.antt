@@ -40,7 +40,7 @@ module _ {K V : Type 0} (t : RecencyList K V) (p : Ptr) (n m : Node K V) where
   changed = record { nodes = with_item t.nodes (place t p) m; ends = t.ends; stride = t.stride }
 
   module _ (at : IsAt t p) (e : n ≡ slice_index_or t.nodes.items (place t p) n) where
-    here : slice_get t.nodes.items (place t p) ≡ Some n
+    pub here : slice_get t.nodes.items (place t p) ≡ Some n
     here = slice_get_read t.nodes.items t.nodes.len (place t p) n t.nodes.ok.0 at.0 e
 
     pub within : place t p < length t.nodes.items

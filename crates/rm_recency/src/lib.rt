@@ -3,12 +3,14 @@
 
 ghost use Rattle.std.specs.Prelude.{◌≡◌, ◌<◌, ◌≤◌, IfOk, IfSome, IfNone, List, [], ◌∷◌, ◌++◌, Some, None, vec_len, vec_capacity, option_map, slice_index_or};
 ghost use Rattle.std.specs.Borrow.{sem};
+ghost use Rattle.rm_evicting.specs.declared.Row.{Row as RowOf};
+ghost use Rattle.rm_evicting.specs.Row.{blank_row};
 ghost use Rattle.rm_recency.specs.Lending.{lends_value_at};
 ghost use denote.RawPtr.{Ptr};
 ghost use Rattle.rm_recency.specs.Threads.{IsAt, IsAtSome, NextSet, PrevSet, next_of, prev_of, Threaded, SameNodes, IsIn, IsList, IsNone, Added, RowSet, row_at, value_by, place, IsEmpty};
 
 use rm_block::{Link, Stride, link_to, node, node_at_mut, node_mut};
-use rm_evicting::Row;
+use rm_evicting::{Blank, Row};
 use std::alloc::{AllocError, Global};
 
 /// The neighbours of a node, or of the list's end: what comes before the end is the last node, and what comes after it the first.
@@ -185,15 +187,31 @@ impl<K, V> RecencyList<K, V> {
         &node(&self.nodes, &self.stride, Link { ptr }).row
     }
 
-    /// Puts another row into the node at a link.
-    pub fn set_row(&mut self, ptr: *mut Node<K, V>, row: Row<K, V>)
+    /// The row at a link gets the stamp and the tick of a reference, and keeps the rest.
+    pub fn renew(&mut self, ptr: *mut Node<K, V>, stamp: u64, tick: u32)
+        requires { IsAt self.old ptr }
+        ensures { (row : RowOf K V) × (row_at self.old ptr ≡ Some row) × RowSet self.old self.new ptr (record row { last = stamp; tick = tick }) }
+    {
+        let node = node_mut(&mut self.nodes, &self.stride, Link { ptr });
+        node.row.last = stamp;
+        node.row.tick = tick;
+    }
+
+    /// The row at a link becomes a blank one of another key, entered by a reference of this stamp and this tick. Its value is emptied where
+    /// it lies.
+    pub fn begin(&mut self, ptr: *mut Node<K, V>, key: K, stamp: u64, tick: u32)
     where
         K: Copy,
-        V: Copy,
+        V: Blank,
         requires { IsAt self.old ptr }
-        ensures { RowSet self.old self.new ptr row }
+        ensures { RowSet self.old self.new ptr (blank_row V.blank_value key stamp tick) }
     {
-        node_mut(&mut self.nodes, &self.stride, Link { ptr }).row = row;
+        let node = node_mut(&mut self.nodes, &self.stride, Link { ptr });
+        node.row.key = key;
+        node.row.value.empty();
+        node.row.entry = stamp;
+        node.row.last = stamp;
+        node.row.tick = tick;
     }
 
     // The node at a link, to be written.

@@ -12,7 +12,7 @@ use Rattle.std.specs.declared.alloc.Global.{Global}
 use denote.RawPtr.{Ptr}
 use Rattle.rm_evicting.specs.declared.Row.{Row}
 use Rattle.rm_evicting.specs.Held.{IsExact}
-use Rattle.rm_evicting.specs.Row.{holds, is_oldest, without_oldest, renewed, touched}
+use Rattle.rm_evicting.specs.Row.{holds, is_oldest, without_oldest, renewed, touched, blank_row}
 use Rattle.rm_recency.specs.declared.RecencyList.{RecencyList}
 use Rattle.rm_recency.specs.Threads.{row_at, IsEmpty}
 use Rattle.rm_rows.specs.Stored.{In, Distinct, rows_by}
@@ -27,9 +27,6 @@ use Rattle.rm_rows.proofs.KeptLemmas.{is_index, gap_none}
 module _ {K V : Type 0} (eq : K → K → Bool) where
   pub touched-held : (blank : V) (capacity : ℕ) (h : K) (s t : ℕ) (rows : List (Row K V)) → holds eq h rows ≡ true → touched eq blank capacity h s t rows ≡ renewed eq h s t rows
   touched-held blank capacity h s t rows i = rw i refl
-
-  abbrev pub blank_row : V → K → ℕ → ℕ → Row K V
-  blank_row blank h s t = record { key = h; value = blank; entry = s; last = s; tick = t }
 
   pub touched-fresh : (blank : V) (capacity : ℕ) (h : K) (s t : ℕ) (rows : List (Row K V)) → holds eq h rows ≡ false → length rows < capacity → touched eq blank capacity h s t rows ≡ rows ++ blank_row blank h s t ∷ []
   touched-fresh blank capacity h s t rows o lt = rw (o, lt-ltb (length rows) capacity lt) refl

@@ -4,7 +4,7 @@ use Rattle.std.specs.Borrow.{LendsIf, Fml, RattleType, MutBor}
 use Rattle.std.specs.declared.cmp.Ord as Ord
 use Rattle.std.specs.declared.cmp.PartialEq as PartialEq
 use Rattle.std.specs.declared.cmp.PartialOrd as PartialOrd
-use Rattle.rm_rows.specs.declared.rows.Blank as Blank
+use Rattle.rm_evicting.specs.declared.Blank as Blank
 use Rattle.rm_rows.specs.contracts.rows.Rows.{the_row}
 use Rattle.rm_rows.specs.Table.{Table, with_value}
 

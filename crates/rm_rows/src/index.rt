@@ -4,16 +4,15 @@ ghost use Rattle.std.specs.Prelude.{◌≡◌, ◌+◌, ◌<◌, ◌≤◌, List
 ghost use Rattle.std.specs.VecDeque.{deque_len, deque_capacity};
 ghost use denote.RawPtr.{Ptr};
 ghost use Rattle.rm_evicting.specs.declared.Row.{Row as RowOf};
-ghost use Rattle.rm_evicting.specs.Row.{renewed, touched, is_oldest, without_oldest};
+ghost use Rattle.rm_evicting.specs.Row.{renewed, touched, is_oldest, without_oldest, blank_row};
 ghost use Rattle.rm_recency.specs.Threads.{row_at};
 ghost use Rattle.rm_rows.specs.Stored.{In};
 ghost use Rattle.rm_rows.specs.Table.{key_of, row_of, touch_answer};
 ghost use Rattle.rm_rows.specs.Index.{IsIndex, HasKey, IsGap, IsWithout, Kept, Loose, Fits, MayRenew, PutOut, Holds, rows_in, place_without};
 
 use crate::ranks::take_entered;
-use crate::rows::Blank;
 use crate::touch::Touch;
-use rm_evicting::{Key, Row};
+use rm_evicting::{Blank, Key, Row};
 use rm_recency::{Node, RecencyList};
 use std::cmp::Ordering;
 use std::collections::VecDeque;
@@ -100,7 +99,7 @@ pub(crate) fn seek<'a, K: Key, V>(
 }
 
 /// Renews the row of a node, which goes first by recency.
-pub(crate) fn renew<K: Key, V: Copy>(
+pub(crate) fn renew<K: Key, V>(
     list: &mut RecencyList<K, V>,
     ptr: *mut Node<K, V>,
     stamp: u64,
@@ -115,15 +114,7 @@ pub(crate) fn renew<K: Key, V: Copy>(
 {
     list.unlink(ptr);
     list.link_front(ptr);
-    let row = *list.row(ptr);
-    list.set_row(
-        ptr,
-        Row {
-            last: stamp,
-            tick,
-            ..row
-        },
-    );
+    list.renew(ptr, stamp, tick);
 }
 
 /// Puts a node that is in no list last by entry, first by recency and at its place into the index.
@@ -157,30 +148,38 @@ fn put_in<K: Key, V>(
     }
 }
 
-/// Enters a row of a new key, for which there is room.
-pub(crate) fn enter<K: Key, V>(
+/// Enters a blank row of a new key, for which there is room.
+pub(crate) fn enter<K: Key, V: Blank>(
     list: &mut RecencyList<K, V>,
     entered: &mut VecDeque<*mut Node<K, V>>,
     index: &mut Vec<*mut Node<K, V>>,
     place: usize,
-    row: Row<K, V>,
+    key: K,
+    stamp: u64,
+    tick: u32,
 )
     requires kept { Kept K.cmp list.old entered.old.items index.old.items }
-    requires gap { IsGap K.cmp list.old index.old.items row.key place }
+    requires gap { IsGap K.cmp list.old index.old.items key place }
     requires nodes { vec_len list.old.nodes < vec_capacity list.old.nodes }
     requires ring { deque_len entered.old < deque_capacity entered.old }
     requires places { vec_len index.old < vec_capacity index.old }
-    requires new { row.entry ≡ row.last }
-    requires stamp { All (λ r. r.last < row.last) (rows_in list.old entered.old.items) }
-    requires tick { All (λ r. r.tick ≤ row.tick) (rows_in list.old entered.old.items) }
+    requires stamp { All (λ row. row.last < stamp) (rows_in list.old entered.old.items) }
+    requires tick { All (λ row. row.tick ≤ tick) (rows_in list.old entered.old.items) }
     ensures kept { Kept K.cmp list.new entered.new.items index.new.items }
-    ensures rows { rows_in list.new entered.new.items ≡ rows_in list.old entered.old.items ++ row ∷ [] }
+    ensures rows { rows_in list.new entered.new.items ≡ rows_in list.old entered.old.items ++ blank_row V.blank_value key stamp tick ∷ [] }
     ensures len { vec_len list.new.nodes ≡ vec_len list.old.nodes + 1 }
     ensures capacity { vec_capacity list.new.nodes ≡ vec_capacity list.old.nodes }
     ensures ring { deque_capacity entered.old ≤ deque_capacity entered.new }
     ensures places { vec_capacity index.old ≤ vec_capacity index.new }
     ensures more { vec_len index.new ≡ vec_len index.old + 1 }
 {
+    let row = Row {
+        key,
+        value: V::blank(),
+        entry: stamp,
+        last: stamp,
+        tick,
+    };
     let ptr = list.add(row);
     put_in(list, entered, index, place, ptr);
 }
@@ -266,24 +265,25 @@ fn put_back<K: Key, V>(
     move_item(index, from, to);
 }
 
-/// Enters a row of a new key, which belongs before a place of the index, in the node of the row whose last reference is oldest, and
-/// gives the key that went.
-pub(crate) fn replace<K: Key, V: Copy>(
+/// Enters a blank row of a new key, which belongs before a place of the index, in the node of the row whose last reference is oldest,
+/// and gives the key that went.
+pub(crate) fn replace<K: Key, V: Blank>(
     list: &mut RecencyList<K, V>,
     entered: &mut VecDeque<*mut Node<K, V>>,
     index: &mut Vec<*mut Node<K, V>>,
     place: usize,
-    row: Row<K, V>,
+    key: K,
+    stamp: u64,
+    tick: u32,
 ) -> K
     requires kept { Kept K.cmp list.old entered.old.items index.old.items }
     requires some { 0 < vec_len list.old.nodes }
-    requires gap { IsGap K.cmp list.old index.old.items row.key place }
-    requires new { row.entry ≡ row.last }
-    requires stamp { All (λ r. r.last < row.last) (rows_in list.old entered.old.items) }
-    requires tick { All (λ r. r.tick ≤ row.tick) (rows_in list.old entered.old.items) }
+    requires gap { IsGap K.cmp list.old index.old.items key place }
+    requires stamp { All (λ row. row.last < stamp) (rows_in list.old entered.old.items) }
+    requires tick { All (λ row. row.tick ≤ tick) (rows_in list.old entered.old.items) }
     requires ring { deque_len entered.old ≤ deque_capacity entered.old }
     ensures kept { Kept K.cmp list.new entered.new.items index.new.items }
-    ensures rows { rows_in list.new entered.new.items ≡ without_oldest (rows_in list.old entered.old.items) ++ row ∷ [] }
+    ensures rows { rows_in list.new entered.new.items ≡ without_oldest (rows_in list.old entered.old.items) ++ blank_row V.blank_value key stamp tick ∷ [] }
     ensures key { option_map key_of (search (is_oldest (rows_in list.old entered.old.items)) (rows_in list.old entered.old.items)) ≡ Some result }
     ensures len { vec_len list.new.nodes ≡ vec_len list.old.nodes }
     ensures capacity { vec_capacity list.new.nodes ≡ vec_capacity list.old.nodes }
@@ -293,7 +293,7 @@ pub(crate) fn replace<K: Key, V: Copy>(
 {
     let (ptr, from) = put_out(list, entered, index);
     let gone = list.row(ptr).key;
-    list.set_row(ptr, row);
+    list.begin(ptr, key, stamp, tick);
     put_back(list, entered, index, from, place, ptr);
     gone
 }
@@ -324,18 +324,11 @@ pub(crate) fn refer<K: Key, V: Blank>(
             Touch::Held
         }
         Err(place) => {
-            let row = Row {
-                key,
-                value: V::blank(),
-                entry: stamp,
-                last: stamp,
-                tick,
-            };
             if list.nodes.len() < capacity {
-                enter(list, entered, index, place, row);
+                enter(list, entered, index, place, key, stamp, tick);
                 Touch::Fresh
             } else {
-                Touch::Evicted(replace(list, entered, index, place, row))
+                Touch::Evicted(replace(list, entered, index, place, key, stamp, tick))
             }
         }
     }

@@ -9,5 +9,5 @@ mod touch;
 mod walk;
 
 pub use first::Above;
-pub use rows::{Blank, Rows};
+pub use rows::Rows;
 pub use touch::Touch;

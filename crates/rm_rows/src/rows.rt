@@ -10,22 +10,12 @@ use crate::index::{node_of, refer, seek};
 use crate::ranks::{nth, rank};
 use crate::touch::Touch;
 use crate::walk::next_row;
-use rm_evicting::Key;
+use rm_evicting::{Blank, Key};
 use rm_recency::{Node, RecencyList, value_at};
 use rm_val::NoMemory;
 use std::alloc::{AllocError, Global};
 use std::collections::VecDeque;
 use std::marker::Model;
-
-/// What the references to a key add up to: it begins blank.
-pub trait Blank: Copy {
-    /// What it begins with.
-    ghost blank_value: { Self };
-
-    /// The value of a row that was just entered.
-    fn blank() -> Self
-        ensures { result ≡ blank_value };
-}
 
 /// The rows of a table of bounded size, found by a key: contracts see them as a list in order of entry. Where the table is full, the
 /// row whose last reference is oldest gives way to a new one. All memory is reserved when the table is made: one block of nodes, threaded by

@@ -7,7 +7,7 @@ ghost use Rattle.rm_upper.specs.Shown.{blank_row, gained_value};
 ghost use Rattle.rm_upper.specs.Cells.{counted_by};
 
 use crate::slots::{KeptApplication, Slot};
-use rm_rows::Blank;
+use rm_evicting::Blank;
 
 /// What the network row of a key counts, which is also what a frame that names the key adds to it, and what its application rows make of
 /// that.

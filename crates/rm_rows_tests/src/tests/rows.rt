@@ -1,6 +1,7 @@
 ghost use Rattle.std.specs.Prelude.{nat_le, slice_index};
 
-use rm_rows::{Above, Blank, Rows, Touch};
+use rm_evicting::Blank;
+use rm_rows::{Above, Rows, Touch};
 use std::test::*;
 
 /// How often a key was seen.

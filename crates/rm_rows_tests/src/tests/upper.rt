@@ -1,6 +1,6 @@
 ghost use Rattle.std.specs.Prelude.{◌≡◌, ◌+◌, ◌%◌, ◌<◌, ◌≤◌, ◌^◌, replicate, None, refl};
 
-use rm_rows::Blank;
+use rm_evicting::Blank;
 use rm_upper::{Counted, Counts, KeptApplication, LayerCounts, LayerTable, Slot, take_all};
 use std::test::*;
 

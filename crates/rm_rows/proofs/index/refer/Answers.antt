@@ -1,10 +1,9 @@
 use Rattle.std.proofs.Common.{◌++◌, ◌∷◌, [], sym, ap, ◌∙◌, subst, List, arith}
 use denote.RawPtr.{Ptr}
-use Rattle.rm_evicting.specs.Row.{without_oldest}
 use Rattle.rm_evicting.proofs.Keys.{exact_key}
 use Rattle.rm_rows.specs.Index.{IsIndex, IsGap, rows_in}
 use Rattle.rm_rows.proofs.KeptLemmas.{is_index}
-use Rattle.rm_rows.proofs.TouchLemmas.{touched-held, touched-fresh, touched-full, answer-held, answer-fresh, answer-full, blank_row, place_within, found_in, is_here, is_away, holds_renewed}
+use Rattle.rm_rows.proofs.TouchLemmas.{touched-held, touched-fresh, touched-full, answer-held, answer-fresh, answer-full, place_within, found_in, is_here, is_away, holds_renewed}
 use Rattle.rm_rows.proofs.index.refer.Goals as goal
 
 pub find-requires : goal.find-requires
@@ -50,7 +49,7 @@ returns-in-Ok-clause-answer g c =
 pub returns-then-len-capacity-clause-rows : goal.returns-then-len-capacity-clause-rows
 returns-then-len-capacity-clause-rows g c =
     let away = is_away g.K.Ord.cmp g.met.K.Ord.total g.K.PartialEq.eq (exact_key g.K.PartialEq.eq g.K.Ord.cmp g.met.K.Eq.laws g.met.K.Ord.matches_eq g.met.K.Key.exact) c.args.list.now c.args.entered.now.items c.args.index.now c.requires.kept.kept c.deref.result.now c.deref.ensures.value c.args.key c.in-Err.place c.in-Err.ensures.absent in
-    c.enter.ensures.rows ∙ ap (λ v. rows_in c.args.list.now c.args.entered.now.items ++ blank_row g.K.PartialEq.eq v c.args.key c.args.stamp c.args.tick ∷ []) c.blank.ensures
+    c.enter.ensures.rows
     ∙ sym (touched-fresh g.K.PartialEq.eq g.V.Blank.blank_value c.args.capacity c.args.key c.args.stamp c.args.tick (rows_in c.args.list.now c.args.entered.now.items) away.off (omega (arith, away.count)))
 
 pub returns-then-len-capacity-clause-answer : goal.returns-then-len-capacity-clause-answer
@@ -61,7 +60,7 @@ returns-then-len-capacity-clause-answer g c =
 pub returns-else-len-capacity-clause-rows : goal.returns-else-len-capacity-clause-rows
 returns-else-len-capacity-clause-rows g c =
     let away = is_away g.K.Ord.cmp g.met.K.Ord.total g.K.PartialEq.eq (exact_key g.K.PartialEq.eq g.K.Ord.cmp g.met.K.Eq.laws g.met.K.Ord.matches_eq g.met.K.Key.exact) c.args.list.now c.args.entered.now.items c.args.index.now c.requires.kept.kept c.deref.result.now c.deref.ensures.value c.args.key c.in-Err.place c.in-Err.ensures.absent in
-    c.replace.ensures.rows ∙ ap (λ v. without_oldest (rows_in c.args.list.now c.args.entered.now.items) ++ blank_row g.K.PartialEq.eq v c.args.key c.args.stamp c.args.tick ∷ []) c.blank.ensures
+    c.replace.ensures.rows
     ∙ sym (touched-full g.K.PartialEq.eq g.V.Blank.blank_value c.args.capacity c.args.key c.args.stamp c.args.tick (rows_in c.args.list.now c.args.entered.now.items) away.off (omega (arith, away.count)))
 
 pub returns-else-len-capacity-clause-answer : goal.returns-else-len-capacity-clause-answer

@@ -18,26 +18,20 @@ link_front-requires g c =
       (cut.0 ++ cut.1, c.unlink.ensures.list cut.0 cut.1 cut.2),
     )
 
-pub row-row-requires : goal.row-row-requires
-row-row-requires g c =
-    let may = c.requires.2 in let k = may.kept in let member = k.stored.index.back c.args.ptr may.member in
-    at_as c.args.list.now c.link_front.new.self (same_trans c.args.list.now c.unlink.new.self c.link_front.new.self c.unlink.ensures.nodes c.link_front.ensures.nodes) c.args.ptr
-    (member_at g.K.Ord.cmp c.args.list.now c.requires.0 k.rs c.requires.1 k.links k.recency k.stored c.args.ptr member)
-
-pub set_row-requires : goal.set_row-requires
-set_row-requires g c =
+pub renew-requires : goal.renew-requires
+renew-requires g c =
     let may = c.requires.2 in let k = may.kept in let member = k.stored.index.back c.args.ptr may.member in
     at_as c.args.list.now c.link_front.new.self (same_trans c.args.list.now c.unlink.new.self c.link_front.new.self c.unlink.ensures.nodes c.link_front.ensures.nodes) c.args.ptr
     (member_at g.K.Ord.cmp c.args.list.now c.requires.0 k.rs c.requires.1 k.links k.recency k.stored c.args.ptr member)
 
 pub returns-clause-kept : goal.returns-clause-kept
 returns-clause-kept g c =
-    λ es xs may. renew_kept g.K.Ord.cmp g.met.K.Ord.total c.args.list.now c.unlink.new.self c.link_front.new.self c.set_row.new.self c.args.ptr c.row-row.result.now _
-    c.unlink.ensures.list c.unlink.ensures.nodes c.link_front.ensures.list c.link_front.ensures.nodes c.row-row.ensures c.set_row.ensures refl refl
+    λ es xs may. renew_kept g.K.Ord.cmp g.met.K.Ord.total c.args.list.now c.unlink.new.self c.link_front.new.self c.renew.new.self c.args.ptr c.renew.ensures.0 _
+    c.unlink.ensures.list c.unlink.ensures.nodes c.link_front.ensures.list c.link_front.ensures.nodes c.renew.ensures.1 c.renew.ensures.2 refl refl
     es xs may.kept may.member may.stamps may.ticks
 
 pub returns-clause-rows : goal.returns-clause-rows
 returns-clause-rows g c =
-    λ es xs h may key. renew_rows g.K.Ord.cmp g.met.K.Ord.total c.args.list.now c.unlink.new.self c.link_front.new.self c.set_row.new.self c.args.ptr c.row-row.result.now _
-    c.unlink.ensures.list c.unlink.ensures.nodes c.link_front.ensures.list c.link_front.ensures.nodes c.row-row.ensures c.set_row.ensures refl refl
+    λ es xs h may key. renew_rows g.K.Ord.cmp g.met.K.Ord.total c.args.list.now c.unlink.new.self c.link_front.new.self c.renew.new.self c.args.ptr c.renew.ensures.0 _
+    c.unlink.ensures.list c.unlink.ensures.nodes c.link_front.ensures.list c.link_front.ensures.nodes c.renew.ensures.1 c.renew.ensures.2 refl refl
     es xs may.kept may.member g.K.PartialEq.eq (exact_key g.K.PartialEq.eq g.K.Ord.cmp g.met.K.Eq.laws g.met.K.Ord.matches_eq g.met.K.Key.exact) h c.args.tick key refl
