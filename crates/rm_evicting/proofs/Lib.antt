@@ -7,3 +7,4 @@ pub mod Keys
 pub mod RankLemmas
 pub mod EntryLemmas
 pub mod Examples
+pub mod OctetLemmas

@@ -3,3 +3,4 @@ pub mod Held
 pub mod Row
 pub mod Stands
 pub mod Neighbours
+pub mod Octets

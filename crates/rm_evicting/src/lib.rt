@@ -10,8 +10,17 @@ ghost use Rattle.rm_evicting.specs.Row.{takes_place, table};
 ghost use Rattle.rm_evicting.specs.Stands.{IsTotal, Stands};
 ghost use Rattle.rm_evicting.specs.Neighbours.{from_entry, IsLeastEntry};
 
+mod octets;
+
+use octets::compare_octets;
+use std::cmp::Ordering;
+
 /// What finds a row in its table: two keys that compare equal are the same.
 pub trait Key: Ord + Copy {
+    /// The order of two keys, which is that of `cmp`: for keys that can tell it in fewer steps.
+    fn compare(&self, other: &Self) -> Ordering
+        ensures { result ≡ Self.cmp self.now other.now };
+
     /// Keys that compare equal are the same.
     ghost exact: { (a b : Self) → Self.cmp a b ≡ Equal → a ≡ b };
 }
@@ -33,21 +42,25 @@ pub trait Blank: Copy {
     }
 }
 
-/// A row of a table: its key, what its references have added up to, the stamps of its entry and of its last reference, and the tick of
-/// the last one, in hundredths of a second. References are stamped as they come, each with a greater number.
+/// A row of a table: its key, the stamps of its entry and of its last reference, the tick of the last one, in hundredths of a second, and
+/// what its references have added up to. References are stamped as they come, each with a greater number. What a row is found by lies together.
 #[derive(Clone, Copy)]
 pub struct Row<K, V> {
     pub key: K,
-    pub value: V,
     pub entry: u64,
     pub last: u64,
     pub tick: u32,
+    pub value: V,
 }
 
 impl<const N: usize> Key for [u8; N] {
     ghost use Rattle.std.proofs.lemmas.Map.Lookups.{exact_bytes};
 
     ghost exact = { exact_bytes };
+
+    fn compare(&self, other: &[u8; N]) -> Ordering {
+        compare_octets(self, other)
+    }
 }
 
 /// After every list of mentions whose stamps rise, the table that took them one by one stands for them: it has one row for each key

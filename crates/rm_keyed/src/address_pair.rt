@@ -5,6 +5,7 @@ ghost use Rattle.rm_keyed.specs.PairLaws.{pair_exact, pair_rises};
 
 use crate::indexed::Indexed;
 use rm_evicting::Key;
+use std::cmp::Ordering;
 
 /// Two addresses, in order of the first and then of the second: a source and its destination, or a destination and its source.
 #[derive(Clone, Copy, PartialEq, Eq, PartialOrd, Ord, Debug)]
@@ -39,6 +40,13 @@ impl AddressPair {
 }
 
 impl Key for AddressPair {
+    fn compare(&self, other: &AddressPair) -> Ordering {
+        match self.first.compare(&other.first) {
+            Ordering::Equal => self.second.compare(&other.second),
+            order => order,
+        }
+    }
+
     ghost exact = { λ a b same. pair_exact (λ first second first_six second_six. record { first = first; second = second; first_six = first_six; second_six = second_six }) a.first b.first a.second b.second a.first_six b.first_six a.second_six b.second_six same };
 }
 

@@ -3,6 +3,7 @@
 ghost use Rattle.std.specs.Prelude.{◌≡◌};
 
 use rm_evicting::Key;
+use std::cmp::Ordering;
 
 /// Two addresses, in order of the first and then of the second: a source and its destination, or a destination and its source.
 #[derive(Clone, Copy, PartialEq, Eq, PartialOrd, Ord, Debug)]
@@ -15,6 +16,13 @@ pub struct AddressPair<A> {
 
 impl<A: Key> Key for AddressPair<A> {
     ghost use Rattle.rm_layer_matrices.specs.PairLaws.{exact_pair};
+
+    fn compare(&self, other: &AddressPair<A>) -> Ordering {
+        match self.first.compare(&other.first) {
+            Ordering::Equal => self.second.compare(&other.second),
+            order => order,
+        }
+    }
 
     ghost exact = { exact_pair A.cmp A.exact };
 }

@@ -31,7 +31,7 @@ pub(crate) fn find<K: Key, V>(
     let mut high = index.len();
     while low < high {
         let middle = low + (high - low) / 2;
-        match list.row(index[middle]).key.cmp(key) {
+        match list.row(index[middle]).key.compare(key) {
             Ordering::Less => low = middle + 1,
             Ordering::Equal => return Ok(middle),
             Ordering::Greater => high = middle,
