@@ -22,7 +22,7 @@ use Rattle.rm_history.specs.declared.run.Run.{Run}
 use Rattle.rm_history.specs.ControlColumns.{control_rows as history_rows}
 use Rattle.rm_history.specs.Collection.{history_collection}
 use Rattle.rm_hosts.specs.declared.host_room.HostRoom.{HostRoom}
-use Rattle.rm_hosts.specs.declared.host_table.HostTable.{HostTable}
+use Rattle.rm_hosts.specs.Tables.{HostTable}
 use Rattle.rm_hosts.specs.ControlColumns.{ControlColumns as HostColumns, control_rows as host_rows}
 use Rattle.rm_hosts.specs.Collection.{host_collection}
 use Rattle.rm_topn.specs.Control.{top_control}
@@ -34,7 +34,7 @@ use Rattle.rm_topn.specs.Shown.{cells_kept}
 use Rattle.rm_topn.specs.Standing.{Stands as ReportsStand}
 use Rattle.rm_topn.specs.declared.reports.Reports.{Reports}
 use Rattle.rm_matrix.specs.declared.matrix_room.MatrixRoom.{MatrixRoom}
-use Rattle.rm_matrix.specs.declared.matrix_table.MatrixTable.{MatrixTable}
+use Rattle.rm_matrix.specs.Tables.{MatrixTable}
 use Rattle.rm_matrix.specs.ControlColumns.{ControlColumns as MatrixColumns, control_rows as matrix_rows}
 use Rattle.rm_matrix.specs.Collection.{matrix_collection}
 use Rattle.rm_collectors.specs.declared.collectors.Collectors.{Collectors}

@@ -17,6 +17,7 @@ use Rattle.rm_collect.specs.Sampled.{stands_sampled}
 use Rattle.rm_history.specs.ControlColumns.{control_rows as history_rows}
 use Rattle.rm_history.specs.Collection.{history_collection}
 use Rattle.rm_history.specs.Lawful.{history_lawful}
+use Rattle.rm_sourced.specs.Collection.{source_collection}
 use Rattle.rm_hosts.specs.ControlColumns.{control_rows as host_rows}
 use Rattle.rm_hosts.specs.Collection.{host_collection}
 use Rattle.rm_hosts.specs.Lawful.{host_lawful}
@@ -73,7 +74,7 @@ all_finite settings journal now =
 
 -- they depend on what alarms read after earlier acts only
 pub all_recurring : ReadBefore collected_cells
-unfolding collected_cells history_collection host_collection matrix_collection
+unfolding collected_cells history_collection source_collection
 all_recurring =
     both_before frame_cells host_cells
     (both_before history_collection.cells matrix_collection.cells history_lawful.recurring matrix_lawful.recurring)

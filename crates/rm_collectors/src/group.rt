@@ -99,7 +99,7 @@ impl Objects for Collectors {
     }
 }
 
-#[tactic(auto, unfolding(crate::specs::Group::Stands, crate::specs::Group::collected_cells, rm_history::specs::Collection::history_collection, rm_hosts::specs::Collection::host_collection, rm_matrix::specs::Collection::matrix_collection))]
+#[tactic(auto, unfolding(crate::specs::Group::Stands, crate::specs::Group::collected_cells, rm_history::specs::Collection::history_collection, rm_sourced::specs::Collection::source_collection))]
 impl Readable for Collectors {
     ghost use Rattle.rm_collectors.specs.Group.{collected_cells, shown};
     ghost use Rattle.rm_collectors.specs.Laws.{all_recurring};

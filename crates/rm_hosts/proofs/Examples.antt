@@ -3,10 +3,11 @@ use Rattle.std.proofs.Common.{◌≡◌, ℕ, List, [], ◌∷◌, ◌++◌, map
 use Rattle.std.specs.Prelude.{pos}
 use Rattle.rm_val.specs.Val.{Val, int, counter, octets, ticks}
 use Rattle.rm_model.specs.Counting.{Counting}
-use Rattle.rm_model.specs.Journal.{Act, Assignment, passes, assigns, Journal}
+use Rattle.rm_model.specs.Journal.{Journal}
 use Rattle.rm_model.specs.Cells.{cells_of}
 use Rattle.rm_model.proofs.ExampleSettings.{plain}
 use Rattle.rm_proto.specs.Ethernet.{pair_of, is_broadcast, is_group}
+use Rattle.rm_sourced.proofs.ExampleFrames.{a, b, c, sized, frame, set_status, begun}
 use Rattle.rm_hosts.specs.Control.{control_entry}
 use Rattle.rm_hosts.specs.HostControl.{control_table}
 use Rattle.rm_hosts.specs.Host.{host_entry, host_table}
@@ -16,36 +17,13 @@ use Rattle.rm_hosts.specs.HostTime.{time_entry, time_table}
 abbrev settings : Counting
 settings = record plain { hosts = 2 }
 
--- a column of row 1 that is set to a number
-abbrev set : ℕ → ℕ → Assignment
-set column n = record { name = control_entry ++ column ∷ 1 ∷ []; value = int (pos n) }
-
--- three hosts, and the broadcast address
-abbrev address : ℕ → List ℕ
-address last = 2 ∷ 0 ∷ 0 ∷ 0 ∷ 0 ∷ last ∷ []
-
-abbrev a : List ℕ
-a = address 10
-
-abbrev b : List ℕ
-b = address 11
-
-abbrev c : List ℕ
-c = address 12
-
+-- the broadcast address
 abbrev all : List ℕ
 all = 255 ∷ 255 ∷ 255 ∷ 255 ∷ 255 ∷ 255 ∷ []
 
--- a frame from one host to another, with so many octets beside the check sequence
-abbrev sized : (original moment : ℕ) (source dest : List ℕ) → Act
-sized original moment source dest = passes (record { interface = 1; moment = moment; number = 1; octets = dest ++ source; original = original })
-
-abbrev frame : (moment : ℕ) (source dest : List ℕ) → Act
-frame = sized 60
-
--- Row 1 is made at 1100 and becomes valid at 2000.
+-- row 1 becomes valid
 abbrev before : Journal
-before = assigns 2000 (set 6 1 ∷ []) ∷ assigns 1100 (set 6 2 ∷ []) ∷ []
+before = begun control_entry
 
 -- A to B, C to B, and A to B again: A was evicted by C, and C by A
 abbrev two : Journal
@@ -135,6 +113,6 @@ unfolding pair_of is_broadcast is_group
 bad_after = refl
 
 -- under creation the row holds none
-ended : size_and_deleted (assigns 6000 (set 6 3 ∷ []) ∷ three) ≡ Some (int (pos 0)) ∷ Some (ticks 0) ∷ []
+ended : size_and_deleted (set_status control_entry 6000 3 ∷ three) ≡ Some (int (pos 0)) ∷ Some (ticks 0) ∷ []
 unfolding pair_of
 ended = refl

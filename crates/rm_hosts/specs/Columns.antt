@@ -1,11 +1,6 @@
--- The columns of hostControl, host and hostTime (RFC 1757, section 5).
+-- The columns of host and hostTime (RFC 1757, section 5).
 use Rattle.std.specs.Prelude.{ℕ, List, [], ◌∷◌, nat_eq, if◌then◌else◌}
-use Rattle.rm_keyed.specs.SourceControl.{source_columns}
 use Rattle.rm_hosts.specs.declared.host_counts.HostCounts.{HostCounts}
-
--- the numbers of the columns of hostControl
-abbrev pub control_columns : List ℕ
-control_columns = source_columns
 
 -- the numbers of the columns of host, and of hostTime
 abbrev pub host_columns : List ℕ

@@ -1,10 +1,10 @@
 -- The hosts that a control row holds after a journal. It has room for so many as the probe was set to.
-use Rattle.std.specs.Prelude.{ℕ, List, Bool, Option, find, nat_eq, sum_by}
+use Rattle.std.specs.Prelude.{ℕ, List, Bool, sum_by}
 use Rattle.std.specs.Str.{bytes_eq}
 use Rattle.rm_model.specs.Counting.{Counting}
 use Rattle.rm_model.specs.Journal.{Journal}
 use Rattle.rm_evicting.specs.Mention.{keys}
-use Rattle.rm_evicting.specs.Held.{held, held_keys, size, order, shares, last_delete}
+use Rattle.rm_evicting.specs.Held.{held, order, shares}
 use Rattle.rm_hosts.specs.declared.host_counts.HostCounts.{HostCounts}
 use Rattle.rm_hosts.specs.Mentions.{mentions_of}
 
@@ -24,15 +24,3 @@ module _ (settings : Counting) (journal : Journal) (row : ℕ) where
   -- a count of it: the sum of what its mentions add to it, from its entry on
   abbrev pub sum_of : (HostCounts → ℕ) → (address : List ℕ) → ℕ
   sum_of count address = sum_by count (shares bytes_eq settings.hosts address (mentions_of settings journal row))
-
-  -- the host of a rank, if there is one
-  abbrev pub host_of : (rank : ℕ) → Option (List ℕ)
-  host_of rank = find (λ address. nat_eq (rank_of address) rank) (held_keys bytes_eq settings.hosts addresses)
-
-  -- how many hosts are held
-  abbrev pub table_size : ℕ
-  table_size = size bytes_eq settings.hosts addresses
-
-  -- when a host last gave way to another, in hundredths of a second; 0 before
-  abbrev pub deleted_at : ℕ
-  deleted_at = last_delete bytes_eq settings.hosts (mentions_of settings journal row)

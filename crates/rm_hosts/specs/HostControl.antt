@@ -1,23 +1,11 @@
 -- The table hostControl (RFC 1757, section 5), as it is shown after a journal.
-use Rattle.std.specs.Prelude.{ℕ, pos, List, nat_eq, if◌then◌else◌}
-use Rattle.rm_val.specs.Val.{Val, int, ticks}
 use Rattle.rm_model.specs.Counting.{Counting}
 use Rattle.rm_model.specs.Journal.{Journal}
 use Rattle.rm_model.specs.Cells.{Table}
-use Rattle.rm_model.specs.ControlRows.{no_rows}
-use Rattle.rm_model.specs.ControlCells.{control_cells}
-use Rattle.rm_status.specs.Rows.{row_number}
-use Rattle.rm_status.specs.RowsShown.{with_index}
-use Rattle.rm_hosts.specs.Columns.{control_columns}
-use Rattle.rm_hosts.specs.Control.{host_control}
-use Rattle.rm_hosts.specs.Held.{table_size, deleted_at}
+use Rattle.rm_sourced.specs.Sourcing.{control_table as control_with}
+use Rattle.rm_hosts.specs.Control.{named_entry}
+use Rattle.rm_hosts.specs.Tables.{host_sourcing}
 
--- what the columns show beside the index that can't be set: hostControlTableSize and hostControlLastDeleteTime; 0 in a row that isn't valid
-abbrev pub control_other : Counting → Journal → ℕ → List ℕ → Val
-control_other settings journal column index =
-    if nat_eq column 3 then int (pos (table_size settings journal (row_number index)))
-    else ticks (deleted_at settings journal (row_number index))
-
--- the table after a journal
+-- the table after a journal, with hostControlTableSize and hostControlLastDeleteTime by the hosts of each row
 abbrev pub control_table : Counting → Journal → Table
-control_table settings journal = control_cells host_control no_rows control_columns (with_index (control_other settings journal)) journal
+control_table = control_with named_entry host_sourcing

@@ -1,14 +1,15 @@
 -- The table hostTime (RFC 1757, section 5): the same hosts by their ranks in the order of entry.
-use Rattle.std.specs.Prelude.{ℕ, List, [], ◌∷◌, Bool, false, is_some}
-use Rattle.std.specs.Option.{option_map_or}
-use Rattle.rm_val.specs.Val.{Val, null}
+use Rattle.std.specs.Prelude.{ℕ, List, [], ◌∷◌}
 use Rattle.rm_model.specs.Counting.{Counting}
 use Rattle.rm_model.specs.Journal.{Journal}
 use Rattle.rm_model.specs.Cells.{Table}
 use Rattle.rm_group.specs.Listed.{ListedTable}
+use Rattle.rm_sourced.specs.Held.{held_table}
 use Rattle.rm_hosts.specs.Columns.{host_columns}
-use Rattle.rm_hosts.specs.Held.{host_of}
+use Rattle.rm_hosts.specs.Control.{named_entry}
+use Rattle.rm_hosts.specs.Held.{rank_of}
 use Rattle.rm_hosts.specs.Host.{host_value}
+use Rattle.rm_hosts.specs.Tables.{host_sourcing}
 
 -- the identifier of hostTimeEntry
 abbrev pub time_entry : List ℕ
@@ -18,22 +19,10 @@ time_entry = 1 ∷ 3 ∷ 6 ∷ 1 ∷ 2 ∷ 1 ∷ 16 ∷ 4 ∷ 3 ∷ 1 ∷ []
 abbrev pub time_listed : ListedTable
 time_listed = record { entry = time_entry; columns = host_columns }
 
--- whether these numbers are those of a control row and of the rank of a host that it holds
-abbrev pub is_ranked : Counting → Journal → List ℕ → Bool
-is_ranked settings journal (row ∷ rank ∷ []) = is_some (host_of settings journal row rank)
-is_ranked settings journal index = false
-
--- what a column shows of the host of that rank
-abbrev pub ranked_at : Counting → Journal → ℕ → List ℕ → Val
-ranked_at settings journal column (row ∷ rank ∷ []) =
-    option_map_or (λ address. host_value settings journal row address column) (host_of settings journal row rank) null
-ranked_at settings journal column index = null
+-- the index of a host: its rank in the order of entry
+abbrev pub time_index : Counting → Journal → (row : ℕ) → (address : List ℕ) → List ℕ
+time_index settings journal row address = rank_of settings journal row address ∷ []
 
 -- the table after a journal
 abbrev pub time_table : Counting → Journal → Table
-time_table settings journal = record {
-  entry = time_entry;
-  columns = host_columns;
-  is_row = is_ranked settings journal;
-  value = ranked_at settings journal;
-}
+time_table = held_table named_entry host_sourcing time_index host_value time_listed

@@ -1,13 +1,13 @@
 -- The hosts that frames mention, by their addresses.
-use Rattle.std.specs.Prelude.{ℕ, ◌+◌, ◌*◌, ◌/◌, List, [], ◌∷◌, length, if◌then◌else◌, Option, Some, None}
+use Rattle.std.specs.Prelude.{ℕ, ◌+◌, List, [], ◌∷◌, if◌then◌else◌, Option, Some, None}
 use Rattle.rm_model.specs.Counting.{Counting}
-use Rattle.rm_model.specs.Journal.{Journal, frames_in}
-use Rattle.rm_model.specs.FrameFacts.{frame_facts}
+use Rattle.rm_model.specs.Journal.{Journal}
 use Rattle.rm_proto.specs.declared.known.Facts.{Facts}
 use Rattle.rm_proto.specs.declared.ethernet.Pair.{Pair}
 use Rattle.rm_acts.specs.Seen.{Seen}
 use Rattle.rm_evicting.specs.Mention.{Mention, refers, strays}
 use Rattle.rm_keyed.specs.Mentions.{mentions_since}
+use Rattle.rm_sourced.specs.Sourcing.{seen_mentions}
 use Rattle.rm_hosts.specs.declared.host_counts.HostCounts.{HostCounts}
 use Rattle.rm_hosts.specs.Counts.{gain_in, gain_out}
 use Rattle.rm_hosts.specs.Control.{host_control}
@@ -25,11 +25,12 @@ mentioned_by stamp tick facts (Some pair) =
     then refers pair.dest (stamp + 1) tick (gain_in facts) ∷ refers pair.source stamp tick (gain_out facts) ∷ []
     else strays pair.source (gain_out facts) ∷ []
 
--- what a frame that was seen mentions: it has two stamps for each frame before it
+-- by its facts alone, and of one that was seen
+abbrev pub mentioned_in : (stamp tick : ℕ) → Facts → List HostMention
+mentioned_in stamp tick facts = mentioned_by stamp tick facts facts.pair
+
 abbrev pub mentioned : Counting → Seen → List HostMention
-mentioned settings seen =
-    let facts = frame_facts settings seen.frame in
-    mentioned_by (2 * length (frames_in seen.before)) (seen.frame.moment / 10) facts facts.pair
+mentioned = seen_mentions mentioned_in
 
 -- the mentions of a control row, the newest first: those of the frames of its data source, since it became valid
 abbrev pub mentions_of : Counting → Journal → (row : ℕ) → List HostMention

@@ -5,7 +5,7 @@ ghost use Rattle.rm_hosts.specs.Host.{host_entry};
 ghost use Rattle.rm_hosts.specs.Shown.{kept_value, with_address, no_empty_address};
 ghost use Rattle.std.proofs.Common.{rules};
 
-use crate::host_table::HostTable;
+use crate::host_rows::HostRows;
 use crate::shown::{HOST_COLUMNS, host_value};
 use rm_group::TableObjects;
 use rm_keyed::{KeyTable, key_above, key_at};
@@ -19,10 +19,10 @@ pub(crate) const HOST_OBJECTS: TableObjects = TableObjects {
 
 /// The hosts of rows, by their addresses.
 #[derive(Clone, Copy, Drop)]
-pub(crate) struct ByAddress;
+pub struct ByAddress;
 
 impl KeyTable for ByAddress {
-    type Part = HostTable;
+    type Part = HostRows;
 
     type Key = [u8; 6];
 
@@ -46,13 +46,13 @@ impl KeyTable for ByAddress {
         true
     }
 
-    fn index_above(table: &HostTable, index: &Oid) -> Option<Oid> {
-        key_above(table.keyed.rows(), index)
+    fn index_above(rows: &HostRows, index: &Oid) -> Option<Oid> {
+        key_above(rows.keyed.rows(), index)
     }
 
-    fn value<'a>(row: u32, table: &'a HostTable, index: &Oid, column: u32) -> Option<Value<'a>> {
-        let address = key_at(table.keyed.rows(), index, 1)?;
-        Some(host_value(row, table, address, column))
+    fn value<'a>(row: u32, rows: &'a HostRows, index: &Oid, column: u32) -> Option<Value<'a>> {
+        let address = key_at(rows.keyed.rows(), index, 1)?;
+        Some(host_value(row, rows, address, column))
     }
 
     ghost not_empty = { no_empty_address };

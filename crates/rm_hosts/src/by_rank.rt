@@ -5,7 +5,7 @@ ghost use Rattle.rm_hosts.specs.HostTime.{time_entry};
 ghost use Rattle.rm_hosts.specs.Shown.{kept_value, with_rank};
 ghost use Rattle.std.proofs.Common.{rules};
 
-use crate::host_table::HostTable;
+use crate::host_rows::HostRows;
 use crate::shown::{HOST_COLUMNS, host_value};
 use rm_group::TableObjects;
 use rm_keyed::{KeyTable, key_ranked, rank_above};
@@ -19,10 +19,10 @@ pub(crate) const TIME_OBJECTS: TableObjects = TableObjects {
 
 /// The hosts of rows, by their ranks in the order of entry.
 #[derive(Clone, Copy, Drop)]
-pub(crate) struct ByRank;
+pub struct ByRank;
 
 impl KeyTable for ByRank {
-    type Part = HostTable;
+    type Part = HostRows;
 
     type Key = [u8; 6];
 
@@ -46,16 +46,16 @@ impl KeyTable for ByRank {
         true
     }
 
-    fn index_above(table: &HostTable, index: &Oid) -> Option<Oid> {
-        rank_above(&table.keyed, index)
+    fn index_above(rows: &HostRows, index: &Oid) -> Option<Oid> {
+        rank_above(&rows.keyed, index)
     }
 
-    fn value<'a>(row: u32, table: &'a HostTable, index: &Oid, column: u32) -> Option<Value<'a>> {
-        let address = key_ranked(table.keyed.rows(), index, 1)?;
-        Some(host_value(row, table, address, column))
+    fn value<'a>(row: u32, rows: &'a HostRows, index: &Oid, column: u32) -> Option<Value<'a>> {
+        let address = key_ranked(rows.keyed.rows(), index, 1)?;
+        Some(host_value(row, rows, address, column))
     }
 
-    ghost not_empty = { λ table. refl };
+    ghost not_empty = { λ rows. refl };
 
     ghost short = { Prim.search rules };
 

@@ -1,10 +1,12 @@
 // What is counted of a host.
 ghost use Rattle.std.specs.Prelude.{◌≡◌};
+ghost use Rattle.rm_hosts.specs.Columns.{counter_in};
 ghost use Rattle.rm_hosts.specs.Counts.{no_counts, with_gain, gain_in, gain_out};
 
 use rm_evicting::Blank;
 use rm_keyed::Counts;
 use rm_proto::{Cast, Facts};
+use rm_sourced::Counters;
 
 /// What is counted of a host since it entered its table (RFC 1757, section 5).
 #[derive(Clone, Copy, Debug, PartialEq, Eq)]
@@ -52,6 +54,22 @@ impl Counts for HostCounts {
         self.out_errors = self.out_errors.wrapping_add(gain.out_errors);
         self.out_broadcast = self.out_broadcast.wrapping_add(gain.out_broadcast);
         self.out_multicast = self.out_multicast.wrapping_add(gain.out_multicast);
+    }
+}
+
+impl Counters for HostCounts {
+    ghost counter_in = { counter_in };
+
+    fn counter(&self, column: u32) -> u64 {
+        match column {
+            4 => self.in_pkts,
+            5 => self.out_pkts,
+            6 => self.in_octets,
+            7 => self.out_octets,
+            8 => self.out_errors,
+            9 => self.out_broadcast,
+            _ => self.out_multicast,
+        }
     }
 }
 

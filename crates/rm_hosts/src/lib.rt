@@ -3,15 +3,13 @@
 
 mod by_address;
 mod by_rank;
-mod counted_frame;
-mod host_control;
 mod host_counts;
 mod host_room;
-mod host_table;
+mod host_rows;
 mod hosts;
 mod shown;
 
 pub use host_counts::HostCounts;
 pub use host_room::HostRoom;
-pub use host_table::HostTable;
-pub use hosts::Hosts;
+pub use host_rows::HostRows;
+pub use hosts::{HostTable, Hosts};

@@ -1,18 +1,16 @@
 // What the columns of a host show.
-ghost use Rattle.std.specs.Prelude.{◌≡◌, ◌≤◌, option_map, unwrap_or};
-ghost use Rattle.std.specs.Option.{option_map_or};
+ghost use Rattle.std.specs.Prelude.{◌≡◌, ◌≤◌, unwrap_or};
 ghost use Rattle.std.specs.Str.{bytes_eq};
-ghost use Rattle.rm_rows.specs.Table.{order_of, row_of, value_of};
+ghost use Rattle.rm_rows.specs.Table.{order_of};
 ghost use Rattle.rm_val.specs.Val.{val_of};
 ghost use Rattle.rm_val.specs.Spellable.{HasSpelling};
 ghost use Rattle.rm_keyed.specs.declared.keyed.TheConstants.{MOST_ROWS};
-ghost use Rattle.rm_hosts.specs.Columns.{counter_in};
 ghost use Rattle.rm_hosts.specs.Shown.{kept_value};
 
 use crate::host_counts::HostCounts;
-use crate::host_table::HostTable;
-use rm_columns::counter_32;
+use crate::host_rows::HostRows;
 use rm_keyed::{Keyed, MOST_ROWS};
+use rm_sourced::counter_value;
 use rm_val::Value;
 
 /// The numbers of the columns of hostTable and of hostTimeTable (RFC 1757, section 5): the address, the order of entry, the control row, and
@@ -22,20 +20,20 @@ pub(crate) const HOST_COLUMNS: &[u32] = &[1, 2, 3, 4, 5, 6, 7, 8, 9, 10];
 /// What a column of a host of a row shows.
 pub(crate) fn host_value<'a>(
     row: u32,
-    table: &HostTable,
+    rows: &HostRows,
     address: &'a [u8; 6],
     column: u32,
 ) -> Value<'a>
     requires { row ≤ 65535 }
-    ensures value { val_of result ≡ kept_value row table.now address.now column }
+    ensures value { val_of result ≡ kept_value row rows.now address.now column }
     ensures spelling { HasSpelling (val_of result) }
 {
-    let hosts = &table.keyed;
+    let hosts = &rows.keyed;
     match column {
         1 => Value::Octets(address.as_slice()),
         2 => Value::Int(rank_of(hosts, address) as i32),
         3 => Value::Int(row as i32),
-        _ => Value::Counter(counter_32(count_of(hosts, address, column))),
+        _ => counter_value(hosts, address, column),
     }
 }
 
@@ -47,29 +45,4 @@ fn rank_of(hosts: &Keyed<[u8; 6], HostCounts>, address: &[u8; 6]) -> usize
     let hosts = hosts.rows();
     prove!(hosts.len() <= MOST_ROWS as usize);
     hosts.order(address).unwrap_or(0)
-}
-
-// What a column counts of a host, 0 where there is no such host.
-fn count_of(hosts: &Keyed<[u8; 6], HostCounts>, address: &[u8; 6], column: u32) -> u64
-    ensures { result ≡ option_map_or (counter_in column) (option_map value_of (row_of bytes_eq address.now hosts.now.rows.rows)) 0 }
-{
-    match hosts.rows().get(address) {
-        Some(counts) => counter_in(counts, column),
-        None => 0,
-    }
-}
-
-// The counter in a column.
-fn counter_in(counts: &HostCounts, column: u32) -> u64
-    ensures { result ≡ counter_in column counts.now }
-{
-    match column {
-        4 => counts.in_pkts,
-        5 => counts.out_pkts,
-        6 => counts.in_octets,
-        7 => counts.out_octets,
-        8 => counts.out_errors,
-        9 => counts.out_broadcast,
-        _ => counts.out_multicast,
-    }
 }

@@ -18,10 +18,9 @@ use Rattle.rm_event.specs.EventTable.{event_table}
 use Rattle.rm_keyed.specs.SourceControl.{source_rows}
 use Rattle.rm_history.specs.ControlColumns.{control_rows as history_rows}
 use Rattle.rm_history.specs.Collection.{history_collection}
+use Rattle.rm_sourced.specs.Collection.{source_collection}
 use Rattle.rm_hosts.specs.ControlColumns.{control_rows as host_rows}
-use Rattle.rm_hosts.specs.Collection.{host_collection}
 use Rattle.rm_matrix.specs.ControlColumns.{control_rows as matrix_rows}
-use Rattle.rm_matrix.specs.Collection.{matrix_collection}
 use Rattle.rm_topn.specs.Control.{top_control}
 use Rattle.rm_capture.specs.BufferRows.{buffer_rows}
 use Rattle.rm_capture.specs.Collection.{buffer_collection}
@@ -44,7 +43,7 @@ first_made = assigns 100 (assignments_of first_set) ∷ []
 -- nothing is wrong with a binding alone
 
 pub first_alone : (place : ℕ) → place < length first_set → alone_at (alone_among objects alone) first_set place ≡ None
-unfolding source_rows layer_rows source_objects source_alone collected_objects collected_alone protocol_objects protocol_alone history_collection host_collection matrix_collection buffer_collection hl_host_collection pair_collection
+unfolding source_rows layer_rows source_objects source_alone collected_objects collected_alone protocol_objects protocol_alone history_collection source_collection buffer_collection hl_host_collection pair_collection
 first_alone zero within = refl
 first_alone (suc zero) within = refl
 first_alone (suc (suc zero)) within = refl
@@ -52,7 +51,7 @@ first_alone (suc (suc (suc zero))) within = refl
 first_alone (suc (suc (suc (suc n)))) within = absurd (omega (arith, within))
 
 pub second_alone : (place : ℕ) → place < length second_set → alone_at (alone_among objects alone) second_set place ≡ None
-unfolding source_rows layer_rows source_objects source_alone collected_objects collected_alone protocol_objects protocol_alone history_collection host_collection matrix_collection buffer_collection hl_host_collection pair_collection
+unfolding source_rows layer_rows source_objects source_alone collected_objects collected_alone protocol_objects protocol_alone history_collection source_collection buffer_collection hl_host_collection pair_collection
 second_alone zero within = refl
 second_alone (suc zero) within = refl
 second_alone (suc (suc n)) within = absurd (omega (arith, within))

@@ -3,10 +3,11 @@ use Rattle.std.proofs.Common.{◌≡◌, ℕ, List, [], ◌∷◌, ◌++◌, map
 use Rattle.std.specs.Prelude.{pos}
 use Rattle.rm_val.specs.Val.{Val, int, counter, octets, ticks}
 use Rattle.rm_model.specs.Counting.{Counting}
-use Rattle.rm_model.specs.Journal.{Act, Assignment, passes, assigns, Journal}
+use Rattle.rm_model.specs.Journal.{Journal}
 use Rattle.rm_model.specs.Cells.{cells_of}
 use Rattle.rm_model.proofs.ExampleSettings.{plain}
 use Rattle.rm_proto.specs.Ethernet.{pair_of}
+use Rattle.rm_sourced.proofs.ExampleFrames.{a, b, c, sized, frame, set_status, begun}
 use Rattle.rm_matrix.specs.Control.{control_entry}
 use Rattle.rm_matrix.specs.MatrixControl.{control_table}
 use Rattle.rm_matrix.specs.SourceDestination.{source_entry, source_table}
@@ -16,33 +17,9 @@ use Rattle.rm_matrix.specs.DestinationSource.{destination_entry, destination_tab
 abbrev settings : Counting
 settings = record plain { pairs = 2 }
 
--- a column of row 1 that is set to a number
-abbrev set : ℕ → ℕ → Assignment
-set column n = record { name = control_entry ++ column ∷ 1 ∷ []; value = int (pos n) }
-
--- three hosts
-abbrev address : ℕ → List ℕ
-address last = 2 ∷ 0 ∷ 0 ∷ 0 ∷ 0 ∷ last ∷ []
-
-abbrev a : List ℕ
-a = address 1
-
-abbrev b : List ℕ
-b = address 2
-
-abbrev c : List ℕ
-c = address 3
-
--- a frame from one host to another, with so many octets beside the check sequence
-abbrev sized : (original moment : ℕ) (source dest : List ℕ) → Act
-sized original moment source dest = passes (record { interface = 1; moment = moment; number = 1; octets = dest ++ source; original = original })
-
-abbrev frame : (moment : ℕ) (source dest : List ℕ) → Act
-frame = sized 60
-
--- Row 1 is made and becomes valid at 500.
+-- row 1 becomes valid
 abbrev before : Journal
-before = assigns 500 (set 6 1 ∷ []) ∷ assigns 400 (set 6 2 ∷ []) ∷ []
+before = begun control_entry
 
 -- A to B, B to A, and A to C, by which A to B gives way
 abbrev two : Journal
@@ -144,6 +121,6 @@ unfolding pair_of
 alone = refl
 
 -- under creation the row holds none
-ended : size_and_deleted (assigns 6000 (set 6 3 ∷ []) ∷ three) ≡ Some (int (pos 0)) ∷ Some (ticks 0) ∷ []
+ended : size_and_deleted (set_status control_entry 6000 3 ∷ three) ≡ Some (int (pos 0)) ∷ Some (ticks 0) ∷ []
 unfolding pair_of
 ended = refl

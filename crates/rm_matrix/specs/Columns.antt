@@ -1,11 +1,6 @@
--- The columns of matrixControl, matrixSD and matrixDS (RFC 1757, section 5).
+-- The columns of matrixSD and matrixDS (RFC 1757, section 5).
 use Rattle.std.specs.Prelude.{ℕ, List, [], ◌∷◌, nat_eq, if◌then◌else◌}
-use Rattle.rm_keyed.specs.SourceControl.{source_columns}
 use Rattle.rm_matrix.specs.declared.pair_counts.PairCounts.{PairCounts}
-
--- the numbers of the columns of matrixControl
-abbrev pub control_columns : List ℕ
-control_columns = source_columns
 
 -- the numbers of the columns of matrixSD, and of matrixDS
 abbrev pub pair_columns : List ℕ

@@ -2,12 +2,12 @@
 use Rattle.rm_columns.specs.RowForm.{RowForm}
 use Rattle.rm_keyed.specs.SourceControl.{source_rows}
 use Rattle.rm_keyed.specs.declared.source_columns.SourceColumns.{SourceColumns}
-use Rattle.rm_matrix.specs.declared.matrix_control.MatrixControl.{MatrixControl}
+use Rattle.rm_matrix.specs.declared.matrix_rows.MatrixRows.{MatrixRows}
 use Rattle.rm_matrix.specs.Control.{named_entry}
 pub use Rattle.rm_keyed.specs.SourceControl.{set_to}
 
 abbrev pub ControlColumns : Type 0
-ControlColumns = SourceColumns MatrixControl
+ControlColumns = SourceColumns MatrixRows
 
 -- the form of the rows
 abbrev pub control_rows : RowForm ControlColumns

@@ -7,7 +7,10 @@ use Rattle.rm_group.specs.Listed.{ListedTable}
 use Rattle.rm_keyed.specs.declared.address_pair.AddressPair.{AddressPair}
 use Rattle.rm_keyed.specs.Addresses.{pair_index}
 use Rattle.rm_matrix.specs.Columns.{pair_columns}
-use Rattle.rm_matrix.specs.Pairs.{pair_table}
+use Rattle.rm_sourced.specs.Held.{held_table}
+use Rattle.rm_matrix.specs.Control.{named_entry}
+use Rattle.rm_matrix.specs.Tables.{pair_sourcing}
+use Rattle.rm_matrix.specs.Pairs.{pair_value}
 
 -- the identifier of matrixSDEntry
 abbrev pub source_entry : List ℕ
@@ -18,9 +21,9 @@ abbrev pub source_listed : ListedTable
 source_listed = record { entry = source_entry; columns = pair_columns }
 
 -- the index of a pair: its source, and then its destination
-abbrev pub source_index : AddressPair → List ℕ
-source_index pair = pair_index pair
+abbrev pub source_index : Counting → Journal → (row : ℕ) → AddressPair → List ℕ
+source_index settings journal row pair = pair_index pair
 
 -- the table after a journal
 abbrev pub source_table : Counting → Journal → Table
-source_table settings journal = pair_table settings journal source_index source_entry
+source_table = held_table named_entry pair_sourcing source_index pair_value source_listed

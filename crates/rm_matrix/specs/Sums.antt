@@ -1,8 +1,5 @@
 -- What counts add up to.
-use Rattle.std.proofs.Common.{◌≡◌, ℕ, ◌+◌, ◌%◌, ◌^◌, List, Bool, true, false, cond, refl, nat_eq}
-use Rattle.std.specs.Prelude.{sum_by}
-use Rattle.rm_evicting.specs.Stands.{total}
-use Rattle.rm_keyed.proofs.Sums.{column_shown}
+use Rattle.std.proofs.Common.{◌≡◌, ℕ, ◌+◌, ◌%◌, ◌^◌, Bool, true, false, cond, refl, nat_eq}
 use Rattle.rm_matrix.specs.declared.pair_counts.PairCounts.{PairCounts}
 use Rattle.rm_matrix.specs.Columns.{counter_in}
 use Rattle.rm_matrix.specs.Counts.{no_counts, with_gain}
@@ -22,9 +19,8 @@ chosen_none false true = refl
 chosen_none false false = refl
 
 module _ (column : ℕ) where
-  adds : (counts gain : PairCounts) → counter_in column (with_gain counts gain) ≡ (counter_in column counts + counter_in column gain) % 2 ^ 64
+  pub adds : (counts gain : PairCounts) → counter_in column (with_gain counts gain) ≡ (counter_in column counts + counter_in column gain) % 2 ^ 64
   adds = chosen_adds (nat_eq column 4) (nat_eq column 5)
 
-  -- the counter of the total, as it is shown, is the sum of the counters
-  pub total_shown : (gains : List PairCounts) → counter_in column (total no_counts with_gain gains) % 2 ^ 32 ≡ sum_by (counter_in column) gains % 2 ^ 32
-  total_shown = column_shown no_counts with_gain (counter_in column) (counter_in column) (chosen_none (nat_eq column 4) (nat_eq column 5)) adds
+  pub none : counter_in column no_counts ≡ 0
+  none = chosen_none (nat_eq column 4) (nat_eq column 5)

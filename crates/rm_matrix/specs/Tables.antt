@@ -1,45 +1,49 @@
 -- The pairs of hosts of rows.
-use Rattle.std.specs.Prelude.{◌≡◌, ℕ, ◌+◌, ◌/◌, ◌≤◌, List, [], ◌∷◌, ◌++◌, nat_eq, if◌then◌else◌}
-use Rattle.rm_val.specs.Val.{name}
-use Rattle.rm_proto.specs.declared.known.Facts.{Facts}
+use Rattle.std.specs.Prelude.{◌≡◌, ℕ, List}
 use Rattle.rm_model.specs.Counting.{Counting}
 use Rattle.rm_model.specs.Journal.{Journal}
-use Rattle.rm_model.specs.Interfaces.{interface_name}
 use Rattle.rm_keyed.specs.Addresses.{pair_eq, reversed}
 use Rattle.rm_keyed.specs.Uncounted.{uncounted, unchanged}
 use Rattle.rm_keyed.specs.Entered.{IsOf}
 use Rattle.rm_keyed.specs.Mentions.{renamed}
-use Rattle.rm_matrix.specs.declared.matrix_table.MatrixTable.{MatrixTable}
+use Rattle.rm_keyed.specs.declared.address_pair.AddressPair.{AddressPair}
+use Rattle.rm_sourced.specs.declared.sourced.Sourced.{Sourced}
+use Rattle.rm_sourced.specs.Ready.{MayTake}
+use Rattle.rm_sourced.specs.Sourcing.{Sourcing, IsSourced}
+use Rattle.rm_matrix.specs.declared.pair_counts.PairCounts.{PairCounts}
+use Rattle.rm_matrix.specs.declared.matrix_rows.MatrixRows.{MatrixRows}
 use Rattle.rm_matrix.specs.Counts.{no_counts, with_gain}
-use Rattle.rm_matrix.specs.Control.{control_set}
-use Rattle.rm_matrix.specs.Mentions.{PairMention, mentioned_by, mentions_of}
+use Rattle.rm_matrix.specs.Control.{named_entry}
+use Rattle.rm_matrix.specs.Mentions.{PairMention, mentioned_in}
+
+-- the pairs of a row, and its data source
+abbrev pub MatrixTable : Type 0
+MatrixTable = Sourced MatrixRows
 
 -- the pairs are those of these mentions, and each is kept by its destination too
-pub record Means (mentions : List PairMention) (table : MatrixTable) : Type 0 where
-  pub pairs : IsOf pair_eq no_counts with_gain mentions table.pairs
-  pub reverse : IsOf pair_eq uncounted unchanged (renamed reversed uncounted mentions) table.reverse
-  pub room : table.reverse.rows.capacity ≡ table.pairs.rows.capacity
+pub record Means (mentions : List PairMention) (rows : MatrixRows) : Type 0 where
+  pub pairs : IsOf pair_eq no_counts with_gain mentions rows.pairs
+  pub reverse : IsOf pair_eq uncounted unchanged (renamed reversed uncounted mentions) rows.reverse
+  pub room : rows.reverse.rows.capacity ≡ rows.pairs.rows.capacity
 
--- what a frame mentions to the row whose data source is that interface
-abbrev pub taken_from : (source stamp tick : ℕ) → Facts → List PairMention
-taken_from source stamp tick facts = if nat_eq source facts.interface then mentioned_by stamp tick facts facts.pair else []
+-- a frame may be taken that passes at a moment, and whose first reference has that stamp
+pub record IsReady (stamp moment : ℕ) (rows : MatrixRows) : Type 0 where
+  pub pairs : MayTake stamp moment rows.pairs
+  pub reverse : MayTake stamp moment rows.reverse
 
--- a frame may be taken that passes at a moment, and whose reference has that stamp
-pub record IsReady (stamp moment : ℕ) (table : MatrixTable) : Type 0 where
-  pub stamps : table.pairs.stamps ≤ stamp
-  pub tick : table.pairs.tick ≤ moment / 10
-  pub reverse_stamps : table.reverse.stamps ≤ stamp
-  pub reverse_tick : table.reverse.tick ≤ moment / 10
+-- what frames enter, with room for so many pairs as the probe was set to
+abbrev pub pair_sourcing : Sourcing AddressPair PairCounts MatrixRows
+pair_sourcing = record {
+  room = λ settings. settings.pairs;
+  eq = pair_eq;
+  blank = no_counts;
+  plus = with_gain;
+  mentioned = mentioned_in;
+  entered = λ rows. rows.pairs;
+  means = Means;
+  is_ready = IsReady;
+}
 
--- the pairs of a row took a frame
-pub record Takes (facts : Facts) (stamp moment : ℕ) (table new : MatrixTable) : Type 0 where
-  pub means : (mentions : List PairMention) → Means mentions table → Means (taken_from table.source stamp (moment / 10) facts ++ mentions) new
-  pub source : new.source ≡ table.source
-  pub capacity : new.pairs.rows.capacity ≡ table.pairs.rows.capacity
-  pub ready : IsReady (stamp + 1) moment new
-
--- The pairs that are kept are those of a row after a journal: those of its mentions, with room for so many as the probe was set to.
-pub record IsTable (settings : Counting) (journal : Journal) (row : ℕ) (table : MatrixTable) : Type 0 where
-  pub source : name (interface_name table.source) ≡ control_set journal (row ∷ []) 2
-  pub capacity : table.pairs.rows.capacity ≡ settings.pairs
-  pub means : Means (mentions_of settings journal row) table
+-- The pairs that are kept are those of a row after a journal: those of its mentions.
+abbrev pub IsTable : Counting → Journal → (row : ℕ) → MatrixTable → Type 0
+IsTable = IsSourced named_entry pair_sourcing

@@ -8,7 +8,7 @@ ghost use Rattle.rm_matrix.specs.DestinationSource.{destination_entry};
 ghost use Rattle.rm_matrix.specs.Shown.{kept_value, by_destination, no_empty_destination};
 ghost use Rattle.std.proofs.Common.{rules};
 
-use crate::matrix_table::MatrixTable;
+use crate::matrix_rows::MatrixRows;
 use crate::shown::{PAIR_COLUMNS, pair_value};
 use rm_group::TableObjects;
 use rm_keyed::{AddressPair, KeyTable, key_above, key_at};
@@ -22,10 +22,10 @@ pub(crate) const DESTINATION_OBJECTS: TableObjects = TableObjects {
 
 /// The pairs of rows, by their destinations and then by their sources.
 #[derive(Clone, Copy, Drop)]
-pub(crate) struct ByDestination;
+pub struct ByDestination;
 
 impl KeyTable for ByDestination {
-    type Part = MatrixTable;
+    type Part = MatrixRows;
 
     type Key = AddressPair;
 
@@ -49,17 +49,17 @@ impl KeyTable for ByDestination {
         true
     }
 
-    fn index_above(table: &MatrixTable, index: &Oid) -> Option<Oid> {
-        key_above(table.reverse.rows(), index)
+    fn index_above(rows: &MatrixRows, index: &Oid) -> Option<Oid> {
+        key_above(rows.reverse.rows(), index)
     }
 
-    fn value<'a>(row: u32, table: &'a MatrixTable, index: &Oid, column: u32) -> Option<Value<'a>>
+    fn value<'a>(row: u32, rows: &'a MatrixRows, index: &Oid, column: u32) -> Option<Value<'a>>
         requires { row ≤ 65535 }
-        ensures value { option_map val_of result ≡ option_map (λ pair. kept_value row table.now pair column) (by_destination table.now (drop 1 index.now)) }
+        ensures value { option_map val_of result ≡ option_map (λ pair. kept_value row rows.now pair column) (by_destination rows.now (drop 1 index.now)) }
         ensures spelling { IfSome result (λ value. HasSpelling (val_of value)) }
     {
-        let pair = key_at(table.reverse.rows(), index, 1)?;
-        Some(pair_value(row, table, &pair.second, &pair.first, column))
+        let pair = key_at(rows.reverse.rows(), index, 1)?;
+        Some(pair_value(row, rows, &pair.second, &pair.first, column))
     }
 
     ghost not_empty = { no_empty_destination };

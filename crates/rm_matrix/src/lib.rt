@@ -3,15 +3,13 @@
 
 mod by_destination;
 mod by_source;
-mod counted_frame;
 mod matrix;
-mod matrix_control;
 mod matrix_room;
-mod matrix_table;
+mod matrix_rows;
 mod pair_counts;
 mod shown;
 
-pub use matrix::Matrix;
+pub use matrix::{Matrix, MatrixTable};
 pub use matrix_room::MatrixRoom;
-pub use matrix_table::MatrixTable;
+pub use matrix_rows::MatrixRows;
 pub use pair_counts::PairCounts;

@@ -1,10 +1,12 @@
 // What is counted of a pair of hosts.
 ghost use Rattle.std.specs.Prelude.{◌≡◌};
+ghost use Rattle.rm_matrix.specs.Columns.{counter_in};
 ghost use Rattle.rm_matrix.specs.Counts.{gain, no_counts, with_gain};
 
 use rm_evicting::Blank;
 use rm_keyed::Counts;
 use rm_proto::Facts;
+use rm_sourced::Counters;
 
 /// What is counted of a pair of hosts since it entered its table (RFC 1757, section 5).
 #[derive(Clone, Copy, Debug, PartialEq, Eq)]
@@ -36,6 +38,18 @@ impl Counts for PairCounts {
         self.pkts = self.pkts.wrapping_add(gain.pkts);
         self.octets = self.octets.wrapping_add(gain.octets);
         self.errors = self.errors.wrapping_add(gain.errors);
+    }
+}
+
+impl Counters for PairCounts {
+    ghost counter_in = { counter_in };
+
+    fn counter(&self, column: u32) -> u64 {
+        match column {
+            4 => self.pkts,
+            5 => self.octets,
+            _ => self.errors,
+        }
     }
 }
 

@@ -15,13 +15,12 @@ use Rattle.rm_evicting.specs.Stands.{IsRow}
 use Rattle.rm_evicting.proofs.RankLemmas.{apart-filter, members}
 use Rattle.rm_rows.specs.Table.{keys_of}
 use Rattle.rm_keyed.proofs.MentionLaws.{mentions_idle}
-use Rattle.rm_hosts.specs.declared.host_table.HostTable.{HostTable}
 use Rattle.rm_hosts.specs.Control.{host_control, control_state}
 use Rattle.rm_hosts.specs.Counts.{no_counts, with_gain}
 use Rattle.rm_hosts.specs.Indexed.{exact}
 use Rattle.rm_hosts.specs.Mentions.{HostMention, mentioned, mentions_of}
 use Rattle.rm_hosts.specs.Shown.{Entries}
-use Rattle.rm_hosts.specs.Tables.{IsTable}
+use Rattle.rm_hosts.specs.Tables.{HostTable, IsTable}
 use Rattle.rm_report.specs.declared.copied.Copied.{Copied}
 use Rattle.rm_report.specs.declared.ranked.Ranked.{Ranked}
 use Rattle.rm_report.specs.declared.rate_base.RateBase.{RateBase}
@@ -43,7 +42,7 @@ map_same f g (x ∷ xs) all = λ d. all.0 d ∷ map_same f g xs all.1 d
 
 module _ (settings : Counting) (journal : Journal) (row : ℕ) (table : HostTable) (is : IsTable settings journal row table) where
   abbrev rows : Entries
-  rows = table.keyed.rows.rows
+  rows = table.rows.keyed.rows.rows
 
   abbrev now : List HostMention
   now = mentions_of settings journal row

@@ -65,7 +65,7 @@ impl Report {
     {
         self.rows.clear();
         match hosts {
-            Some(table) => copy_hosts(&mut self.copies, table.keyed.rows(), base),
+            Some(table) => copy_hosts(&mut self.copies, table.rows.keyed.rows(), base),
             None => self.copies.clear(),
         }
     }
@@ -80,7 +80,7 @@ impl Report {
         ensures copies { self.new.copies ≡ self.old.copies }
     {
         match hosts {
-            Some(table) => rate_hosts(&mut self.rows, &self.copies, table.keyed.rows(), base),
+            Some(table) => rate_hosts(&mut self.rows, &self.copies, table.rows.keyed.rows(), base),
             None => self.rows.clear(),
         }
         rank(&mut self.rows, most as usize);

@@ -34,22 +34,22 @@ fn ranked(last: u8, rate: u64) -> Ranked {
 fn table(alloc: Global, room: u32) -> Result<HostTable, Fail>
     requires some { 1 ≤ room }
     requires most { room ≤ 4096 }
-    ensures stamps { IfOk result (λ table. table.keyed.stamps ≡ 0) }
-    ensures tick { IfOk result (λ table. table.keyed.tick ≡ 0) }
+    ensures stamps { IfOk result (λ table. table.rows.keyed.stamps ≡ 0) }
+    ensures tick { IfOk result (λ table. table.rows.keyed.tick ≡ 0) }
 {
     let mut table = HostTable::spare(alloc)?;
-    table.keyed.begin(room);
+    table.rows.keyed.begin(room);
     table.source = 1;
     Ok(table)
 }
 
 // A frame passes from one host to another, at a moment in milliseconds; its references have this stamp and the next one.
 fn pass(table: &mut HostTable, stamp: u64, moment: u32, source: u8, dest: u8)
-    requires stamps { table.old.keyed.stamps ≤ stamp }
-    requires tick { table.old.keyed.tick ≤ moment / 10 }
+    requires stamps { table.old.rows.keyed.stamps ≤ stamp }
+    requires tick { table.old.rows.keyed.tick ≤ moment / 10 }
     requires fits { stamp + 2 < 2 ^ 64 }
-    ensures stamps { table.new.keyed.stamps ≤ stamp + 2 }
-    ensures tick { table.new.keyed.tick ≤ moment / 10 }
+    ensures stamps { table.new.rows.keyed.stamps ≤ stamp + 2 }
+    ensures tick { table.new.rows.keyed.tick ≤ moment / 10 }
 {
     let octets = [2, 0, 0, 0, 0, dest, 2, 0, 0, 0, 0, source];
     table.take(&facts(&octets, 60, false), moment, stamp);

@@ -5,7 +5,7 @@ use Rattle.rm_model.specs.Journal.{Journal, last_moment}
 use Rattle.rm_collect.specs.Held.{Held}
 use Rattle.rm_hosts.specs.ControlColumns.{ControlColumns}
 use Rattle.rm_hosts.specs.declared.host_room.HostRoom.{HostRoom}
-use Rattle.rm_hosts.specs.declared.host_table.HostTable.{HostTable}
+use Rattle.rm_hosts.specs.Tables.{HostTable}
 use Rattle.rm_report.specs.Measured.{IsMeasured}
 use Rattle.rm_topn.specs.declared.course.Course.{Course}
 use Rattle.rm_topn.specs.declared.plan.Plan.{Plan}

@@ -9,7 +9,7 @@ use Rattle.rm_hosts.specs.Collection.{host_collection}
 use Rattle.rm_hosts.specs.Control.{host_control}
 use Rattle.rm_hosts.specs.ControlColumns.{ControlColumns, control_rows}
 use Rattle.rm_hosts.specs.declared.host_room.HostRoom.{HostRoom}
-use Rattle.rm_hosts.specs.declared.host_table.HostTable.{HostTable}
+use Rattle.rm_hosts.specs.Tables.{HostTable}
 use Rattle.rm_report.specs.Copies.{AreCopies}
 use Rattle.rm_report.specs.Linked.{IsLinked}
 use Rattle.rm_report.specs.RateBase.{count_of}

@@ -2,9 +2,8 @@ use Rattle.std.proofs.Common.{◌≡◌, List, sym, ◌∙◌, subst, map, Optio
 use Rattle.std.specs.Option.{option_copied}
 use Rattle.std.specs.Borrow.{Bor}
 use Rattle.rm_collect.specs.Rows.{IsKept}
-use Rattle.rm_hosts.specs.declared.host_table.HostTable.{HostTable}
 use Rattle.rm_hosts.specs.Control.{host_control}
-use Rattle.rm_hosts.specs.Tables.{IsTable}
+use Rattle.rm_hosts.specs.Tables.{HostTable, IsTable}
 use Rattle.rm_rows.specs.Table.{keys_of}
 use Rattle.rm_report.specs.declared.copied.Copied.{Copied}
 use Rattle.rm_report.specs.Copies.{AreCopies, copy_in}
@@ -16,7 +15,7 @@ returns-in-Some-clause-copies c settings journal row kept =
     let table = c.in-Some.table.now in
     let base = c.args.base in
     let its = subst (λ (o : Option (Bor HostTable)). IsKept host_control IsTable settings journal row (option_copied o)) c.in-Some.is kept in
-    let copies : c.copy_hosts.new.copies.items ≡ map (copy_in base table.keyed.rows.rows) (keys_of table.keyed.rows.rows) =
+    let copies : c.copy_hosts.new.copies.items ≡ map (copy_in base table.rows.keyed.rows.rows) (keys_of table.rows.keyed.rows.rows) =
     c.copy_hosts.ensures.copies ∙ (λ d. map (copy_in base (c.rows.ensures.value d).rows) (keys_of (c.rows.ensures.value d).rows)) in
     subst (λ (cs : List Copied). AreCopies settings journal row base cs) (sym copies) (are_copies settings journal row table its.1 base)
 

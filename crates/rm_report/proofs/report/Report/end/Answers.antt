@@ -2,9 +2,8 @@ use Rattle.std.proofs.Common.{◌≡◌, List, [], sym, ◌∙◌, ap, subst, fi
 use Rattle.std.specs.Option.{option_copied}
 use Rattle.std.specs.Borrow.{Bor}
 use Rattle.rm_collect.specs.Rows.{IsKept}
-use Rattle.rm_hosts.specs.declared.host_table.HostTable.{HostTable}
 use Rattle.rm_hosts.specs.Control.{host_control}
-use Rattle.rm_hosts.specs.Tables.{IsTable}
+use Rattle.rm_hosts.specs.Tables.{HostTable, IsTable}
 use Rattle.rm_rows.specs.Table.{keys_of}
 use Rattle.rm_report.specs.declared.ranked.Ranked.{Ranked}
 use Rattle.rm_report.specs.Kept.{Kept}
@@ -27,7 +26,7 @@ returns-clause-rows c settings from journal row linked measured are kept =
           let its = subst (λ (o : Option (Bor HostTable)). IsKept host_control IsTable settings journal row (option_copied o)) w.in-Some.is kept in
           let copies : w.deref.result.now ≡ c.args.self.now.copies = w.deref.ensures.value ∙ same in
           let rising : AreRising w.deref.result.now = subst AreRising (sym copies) are.rising in
-          let unsorted : w.rate_hosts.new.ranked.items ≡ filter gains_something (map (rated base c.args.self.now.copies table.keyed.rows.rows) (keys_of table.keyed.rows.rows)) =
+          let unsorted : w.rate_hosts.new.ranked.items ≡ filter gains_something (map (rated base c.args.self.now.copies table.rows.keyed.rows.rows) (keys_of table.rows.keyed.rows.rows)) =
           w.rate_hosts.ensures.rates rising ∙ (λ d. filter gains_something (map (rated base (copies d) (w.rows.ensures.value d).rows) (keys_of (w.rows.ensures.value d).rows))) in
           let first : AreFirst most w.rate_hosts.new.ranked.items c.rank.new.ranked.items =
           subst (λ (rs : List Ranked). AreFirst most rs c.rank.new.ranked.items) (λ d. (w.self-inside-is d).rows.items) c.rank.ensures.first in

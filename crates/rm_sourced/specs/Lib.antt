@@ -1,0 +1,11 @@
+pub mod Sourcing
+pub mod Held
+pub mod Shown
+pub mod Ready
+pub mod Counters
+pub mod Collection
+pub mod Laws
+pub mod Outer
+pub mod HeldLaws
+pub mod Frames
+pub mod Lawful
