@@ -15,7 +15,7 @@ use Rattle.rm_hosts.specs.Mentions.{HostMention, mentioned_in}
 
 -- the hosts of a row, and its data source
 abbrev pub HostTable : Type 0
-HostTable = Sourced HostRows
+HostTable = Sourced (List ℕ) HostRows
 
 -- the hosts are those of these mentions
 abbrev pub Means : List HostMention → Entered (List ℕ) HostCounts → Type 0

@@ -52,7 +52,7 @@ impl SourceTable for HostRows {
     }
 }
 
-impl SourceRows for HostRows {
+impl SourceRows<[u8; 6]> for HostRows {
     ghost use Rattle.rm_hosts.specs.Host.{host_index, host_value};
     ghost use Rattle.rm_hosts.specs.HostTime.{time_index};
     ghost use Rattle.rm_hosts.specs.Tables.{host_sourcing};
@@ -63,8 +63,6 @@ impl SourceRows for HostRows {
     type Second = ByRank;
 
     type Room = HostRoom;
-
-    type Key = [u8; 6];
 
     type Counts = HostCounts;
 

@@ -8,4 +8,4 @@ use rm_sourced::Sourced;
 pub type Hosts = Collecting<HostTable>;
 
 /// The hosts that a row of hostControl holds, and the interface whose frames it takes.
-pub type HostTable = Sourced<HostRows>;
+pub type HostTable = Sourced<[u8; 6], HostRows>;

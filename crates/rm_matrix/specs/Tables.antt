@@ -18,7 +18,7 @@ use Rattle.rm_matrix.specs.Mentions.{PairMention, mentioned_in}
 
 -- the pairs of a row, and its data source
 abbrev pub MatrixTable : Type 0
-MatrixTable = Sourced MatrixRows
+MatrixTable = Sourced AddressPair MatrixRows
 
 -- the pairs are those of these mentions, and each is kept by its destination too
 pub record Means (mentions : List PairMention) (rows : MatrixRows) : Type 0 where

@@ -56,7 +56,7 @@ impl SourceTable for MatrixRows {
     }
 }
 
-impl SourceRows for MatrixRows {
+impl SourceRows<AddressPair> for MatrixRows {
     ghost use Rattle.rm_matrix.specs.Pairs.{pair_value};
     ghost use Rattle.rm_matrix.specs.SourceDestination.{source_index};
     ghost use Rattle.rm_matrix.specs.DestinationSource.{destination_index};
@@ -68,8 +68,6 @@ impl SourceRows for MatrixRows {
     type Second = ByDestination;
 
     type Room = MatrixRoom;
-
-    type Key = AddressPair;
 
     type Counts = PairCounts;
 

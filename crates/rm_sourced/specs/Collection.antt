@@ -19,7 +19,7 @@ use Rattle.rm_sourced.specs.Sourcing.{Sourcing, Takes, IsSourced, control_table}
 use Rattle.rm_sourced.specs.Shown.{ShownTable, kept_table, table_after}
 
 -- what the columns of the control table show beside the index that can't be set, by the parts
-abbrev pub kept_other : {K C R : Type 0} → Sourcing K C R → List (Slot (Sourced R)) → (column : ℕ) → List ℕ → Val
+abbrev pub kept_other : {K C R : Type 0} → Sourcing K C R → List (Slot (Sourced K R)) → (column : ℕ) → List ℕ → Val
 kept_other sourcing parts column index = source_value (option_map (λ part. sourcing.entered part.rows) (part_in parts (row_number index))) column
 
 module _ (entry : TableEntry) {K C R : Type 0} (sourcing : Sourcing K C R) (first second : ShownTable K R) where
@@ -32,7 +32,7 @@ module _ (entry : TableEntry) {K C R : Type 0} (sourcing : Sourcing K C R) (firs
   source_cells settings journal name = option_or (cells_of (control_table entry sourcing settings journal) name) (cells_of_two (table_after first entry sourcing settings journal) (table_after second entry sourcing settings journal) name)
 
   -- Each row has rows of its own, with room for as many as all share. A frame has two stamps.
-  unfoldable pub source_collection : {T S : Type 0} → (S → ℕ) → Collection (SourceColumns T) (Sourced R) S (Unit {0})
+  unfoldable pub source_collection : {T S : Type 0} → (S → ℕ) → Collection (SourceColumns T) (Sourced K R) S (Unit {0})
   source_collection room_in = record {
     suits = λ shared settings journal. sourcing.room settings ≡ room_in shared;
     in_range = λ columns. Unit {0};

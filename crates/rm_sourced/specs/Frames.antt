@@ -18,7 +18,7 @@ use Rattle.rm_sourced.specs.Sourcing.{Sourcing, Takes, IsSourced, mentions_of, s
 
 module _ (entry : TableEntry) {K C R : Type 0} (sourcing : Sourcing K C R) where
   -- a frame
-  module _ (settings : Counting) (journal : Journal) (row : ℕ) (frame : Frame) (part new : Sourced R) (valid : state_of (source_control entry) no_rows journal (row ∷ []) ≡ Valid) (is : IsSourced entry sourcing settings journal row part) where
+  module _ (settings : Counting) (journal : Journal) (row : ℕ) (frame : Frame) (part new : Sourced K R) (valid : state_of (source_control entry) no_rows journal (row ∷ []) ≡ Valid) (is : IsSourced entry sourcing settings journal row part) where
     abbrev stamp : ℕ
     stamp = 2 * length (frames_in journal)
 
@@ -43,7 +43,7 @@ module _ (entry : TableEntry) {K C R : Type 0} (sourcing : Sourcing K C R) where
     }
 
   -- an act that is no frame
-  pub goes_on : (settings : Counting) (earlier later : Journal) (row : ℕ) (part : Sourced R) → GoesOn (source_control entry) row earlier later → IsSourced entry sourcing settings earlier row part → IsSourced entry sourcing settings later row part
+  pub goes_on : (settings : Counting) (earlier later : Journal) (row : ℕ) (part : Sourced K R) → GoesOn (source_control entry) row earlier later → IsSourced entry sourcing settings earlier row part → IsSourced entry sourcing settings later row part
   goes_on settings earlier later row part going is = record {
     source = is.source ∙ sym (going.set 2 refl refl);
     capacity = is.capacity;

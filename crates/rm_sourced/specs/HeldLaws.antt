@@ -83,7 +83,7 @@ module _ (entry : TableEntry) {K C R : Type 0} (sourcing : Sourcing K C R) where
     key_with row numbers = held_with entry sourcing settings journal row (table.index settings journal row) numbers
 
     -- a key that is found is held
-    of_found : (row : ℕ) (part : Sourced R) → IsSourced entry sourcing settings journal row part → (numbers : List ℕ) (column : ℕ) (o : Option K) → key_with row numbers ≡ o
+    of_found : (row : ℕ) (part : Sourced K R) → IsSourced entry sourcing settings journal row part → (numbers : List ℕ) (column : ℕ) (o : Option K) → key_with row numbers ≡ o
         → option_map (λ key. table.value_of row part.rows key column) o ≡ if_key row column o
     of_found row part is numbers column None e = refl
     of_found row part is numbers column (Some key) e =
@@ -92,7 +92,7 @@ module _ (entry : TableEntry) {K C R : Type 0} (sourcing : Sourcing K C R) where
         (sym (held_listed sourcing.eq exact (sourcing.room settings) key (keys (mentions_of entry sourcing settings journal row)))
         ∙ found_member sourcing.eq exact (λ other. bytes_eq (table.index settings journal row other) numbers) among key e) column)
 
-    of_row : (row : ℕ) (numbers : List ℕ) (column : ℕ) (o : Option (Sourced R)) → IsKept control (IsSourced entry sourcing) settings journal row o
+    of_row : (row : ℕ) (numbers : List ℕ) (column : ℕ) (o : Option (Sourced K R)) → IsKept control (IsSourced entry sourcing) settings journal row o
         → cell_in (key_in_rows table.key_at) (value_in_rows table.value_of) true row o numbers column ≡ if_key row column (key_with row numbers)
     of_row row numbers column None idle =
         sym (ap (λ (mentions : List (Mention K C)). if_key row column (key_of_index sourcing.eq (sourcing.room settings) mentions (table.index settings journal row) numbers))
@@ -101,7 +101,7 @@ module _ (entry : TableEntry) {K C R : Type 0} (sourcing : Sourcing K C R) where
         ap (option_map (λ key. table.value_of row part.rows key column)) (laws.found settings journal row part is.1 numbers)
         ∙ of_found row part is.1 numbers column (key_with row numbers) refl
 
-    module _ (parts : List (Slot (Sourced R))) (are : AreSourced entry sourcing settings journal parts) where
+    module _ (parts : List (Slot (Sourced K R))) (are : AreSourced entry sourcing settings journal parts) where
       abbrev IsSame : Bool → Type 0
       IsSame opened =
           (name : List ℕ) → cells_of (parts_table (key_in_rows table.key_at) (value_in_rows table.value_of) opened table.listed.entry table.listed.columns parts) name ≡ cells_of (table_after table entry sourcing settings journal) name

@@ -49,8 +49,8 @@ module _ (entry : TableEntry) {K C R : Type 0} (sourcing : Sourcing K C R) where
       subst (λ stamp. sourcing.is_ready stamp moment new) same ready
 
   module _ (entered : (mentions : List (Mention K C)) (rows : R) → sourcing.means mentions rows → IsOf sourcing.eq sourcing.blank sourcing.plus mentions (sourcing.entered rows))
-      (settings : Counting) (journal : Journal) (parts : List (Slot (Sourced R))) (are : AreSourced entry sourcing settings journal parts) where
-    rows_are : (row : ℕ) (o : Option (Sourced R)) → IsKept (source_control entry) (IsSourced entry sourcing) settings journal row o
+      (settings : Counting) (journal : Journal) (parts : List (Slot (Sourced K R))) (are : AreSourced entry sourcing settings journal parts) where
+    rows_are : (row : ℕ) (o : Option (Sourced K R)) → IsKept (source_control entry) (IsSourced entry sourcing) settings journal row o
         → AreRowsOf sourcing.eq sourcing.blank sourcing.plus (sourcing.room settings) (mentions_of entry sourcing settings journal row) (option_map (λ part. sourcing.entered part.rows) o)
     rows_are row None idle = mentions_idle (source_control entry) (seen_mentions sourcing.mentioned settings) journal row idle
     rows_are row (Some part) is = (entered (mentions_of entry sourcing settings journal row) part.rows is.1.means, is.1.capacity)
@@ -69,7 +69,7 @@ module _ (entry : TableEntry) {K C R : Type 0} (sourcing : Sourcing K C R) where
 
   module _ (first second : ShownTable K R) (laws : IsLawful entry sourcing first second) where
     -- what rows and parts show in all three tables is what these have after the journal
-    module _ {T S : Type 0} (room_in : S → ℕ) (settings : Counting) (journal : Journal) (parts : List (Slot (Sourced R))) (are : AreSourced entry sourcing settings journal parts)
+    module _ {T S : Type 0} (room_in : S → ℕ) (settings : Counting) (journal : Journal) (parts : List (Slot (Sourced K R))) (are : AreSourced entry sourcing settings journal parts)
         (now : ℕ) (rows : List (Row (SourceColumns T))) (held : AreControlRows (source_control entry) rows) (is : AreRowsAfter (source_control entry) no_rows set_to rows journal) where
       same_cells : (name : List ℕ) → kept (source_rows entry) (source_collection entry sourcing first second room_in) rows parts now name ≡ source_cells entry sourcing first second settings journal name
       unfolding source_rows source_collection

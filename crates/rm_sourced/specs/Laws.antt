@@ -19,15 +19,15 @@ use Rattle.rm_sourced.specs.Collection.{source_cells}
 
 module _ (entry : TableEntry) {K C R : Type 0} (sourcing : Sourcing K C R) where
   -- what is kept of each row is that after a journal
-  abbrev pub AreSourced : Counting → Journal → List (Slot (Sourced R)) → Type 0
+  abbrev pub AreSourced : Counting → Journal → List (Slot (Sourced K R)) → Type 0
   AreSourced settings journal parts = (row : ℕ) → IsKept (source_control entry) (IsSourced entry sourcing) settings journal row (part_in parts row)
 
   -- the table always has rows, and the rows of a control row after a journal have the keys that this holds by their indexes, and show what it shows of them
   pub record IsShown (table : ShownTable K R) : Type 0 where
     pub always : (now : ℕ) → table.is_open now ≡ true
-    pub found : (settings : Counting) (journal : Journal) (row : ℕ) (part : Sourced R) → IsSourced entry sourcing settings journal row part
+    pub found : (settings : Counting) (journal : Journal) (row : ℕ) (part : Sourced K R) → IsSourced entry sourcing settings journal row part
         → (numbers : List ℕ) → table.key_at part.rows numbers ≡ held_with entry sourcing settings journal row (table.index settings journal row) numbers
-    pub same : (settings : Counting) (journal : Journal) (row : ℕ) (part : Sourced R) → IsSourced entry sourcing settings journal row part
+    pub same : (settings : Counting) (journal : Journal) (row : ℕ) (part : Sourced K R) → IsSourced entry sourcing settings journal row part
         → (key : K) → held sourcing.eq (sourcing.room settings) key (keys (mentions_of entry sourcing settings journal row)) ≡ true
         → (column : ℕ) → table.value_of row part.rows key column ≡ table.value settings journal row key column
 

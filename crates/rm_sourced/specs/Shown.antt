@@ -14,10 +14,10 @@ use Rattle.rm_sourced.specs.Held.{held_table}
 
 module _ {K R : Type 0} where
   -- the key of the row that has an index in the rows of a data source, and what a column shows of a key
-  abbrev pub key_in_rows : (R → List ℕ → Option K) → Sourced R → List ℕ → Option K
+  abbrev pub key_in_rows : (R → List ℕ → Option K) → Sourced K R → List ℕ → Option K
   key_in_rows key_at part = key_at part.rows
 
-  abbrev pub value_in_rows : ((row : ℕ) → R → K → (column : ℕ) → Val) → (row : ℕ) → Sourced R → K → (column : ℕ) → Val
+  abbrev pub value_in_rows : ((row : ℕ) → R → K → (column : ℕ) → Val) → (row : ℕ) → Sourced K R → K → (column : ℕ) → Val
   value_in_rows value_of row part = value_of row part.rows
 
 -- A table that shows rows `R` by their keys `K`: as the group lists it, and whether it has rows at a moment; by the rows that are kept, the key
@@ -44,7 +44,7 @@ module _ {K R : Type 0} where
 
   module _ (table : ShownTable K R) where
     -- as the parts show it at a moment that are kept
-    abbrev pub kept_table : (now : ℕ) → List (Slot (Sourced R)) → Table
+    abbrev pub kept_table : (now : ℕ) → List (Slot (Sourced K R)) → Table
     kept_table now parts = parts_table (key_in_rows table.key_at) (value_in_rows table.value_of) (table.is_open now) table.listed.entry table.listed.columns parts
 
     -- after a journal

@@ -48,7 +48,7 @@ module _ {K C R : Type 0} (sourcing : Sourcing K C R) where
   taken_from source stamp tick facts = if nat_eq source facts.interface then sourcing.mentioned stamp tick facts else []
 
   -- the rows of a data source took a frame
-  pub record Takes (facts : Facts) (stamp moment : ℕ) (part new : Sourced R) : Type 0 where
+  pub record Takes (facts : Facts) (stamp moment : ℕ) (part new : Sourced K R) : Type 0 where
     pub means : (mentions : List (Mention K C)) → sourcing.means mentions part.rows → sourcing.means (taken_from part.source stamp (moment / 10) facts ++ mentions) new.rows
     pub source : new.source ≡ part.source
     pub capacity : (sourcing.entered new.rows).rows.capacity ≡ (sourcing.entered part.rows).rows.capacity
@@ -61,7 +61,7 @@ module _ (entry : TableEntry) {K C R : Type 0} (sourcing : Sourcing K C R) where
   mentions_of settings = mentions_since (source_control entry) (seen_mentions sourcing.mentioned settings)
 
   -- What is kept is that of a control row after a journal: of its mentions, with room for so many rows as the probe was set to.
-  pub record IsSourced (settings : Counting) (journal : Journal) (row : ℕ) (part : Sourced R) : Type 0 where
+  pub record IsSourced (settings : Counting) (journal : Journal) (row : ℕ) (part : Sourced K R) : Type 0 where
     pub source : name (interface_name part.source) ≡ value_of (source_control entry) no_rows journal (row ∷ []) 2
     pub capacity : (sourcing.entered part.rows).rows.capacity ≡ sourcing.room settings
     pub means : sourcing.means (mentions_of settings journal row) part.rows

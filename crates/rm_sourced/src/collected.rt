@@ -5,6 +5,7 @@ use crate::of_source::OfSource;
 use crate::source_rows::SourceRows;
 use crate::sourced::Sourced;
 use rm_collect::{ByFacts, ByItself, Collected, RowColumns, SampledTables};
+use rm_evicting::Key;
 use rm_group::{Assigns, Passing, TableObjects};
 use rm_keyed::{
     KeyTable, PartRows, SourceColumns, SourceTable, cell_of_two, judge_two, next_of_two,
@@ -16,7 +17,7 @@ use rm_status::Row;
 use rm_val::{Oid, Value};
 
 #[tactic(auto, unfolding(crate::specs::Collection::source_collection, rm_keyed::specs::SourceControl::source_rows))]
-impl<R: SourceRows> Collected for Sourced<R> {
+impl<K: Key, R: SourceRows<K>> Collected for Sourced<K, R> {
     ghost use Rattle.rm_sourced.specs.Shown.{shown_by};
     ghost use Rattle.rm_sourced.specs.Collection.{source_collection};
     ghost use Rattle.rm_sourced.specs.Lawful.{source_lawful};
@@ -35,7 +36,7 @@ impl<R: SourceRows> Collected for Sourced<R> {
     }
 
     // A frame has two stamps, for two references.
-    fn pass(parts: &mut Pool<Sourced<R>>, _judged: &[()], passing: &Passing<'_>, before: u32) {
+    fn pass(parts: &mut Pool<Sourced<K, R>>, _judged: &[()], passing: &Passing<'_>, before: u32) {
         let stamp = 2 * u64::from(before);
         parts.change_each(&CountedFrame {
             facts: &passing.facts,
@@ -45,7 +46,7 @@ impl<R: SourceRows> Collected for Sourced<R> {
     }
 
     fn other(
-        parts: &Pool<Sourced<R>>,
+        parts: &Pool<Sourced<K, R>>,
         index: u32,
         _row: &Row<SourceColumns<R>>,
         column: u32,
@@ -59,7 +60,7 @@ impl<R: SourceRows> Collected for Sourced<R> {
 
     fn inner_cell<'a, C: RowColumns<SourceColumns<R>>>(
         _rows: &'a C,
-        parts: &'a Pool<Sourced<R>>,
+        parts: &'a Pool<Sourced<K, R>>,
         name: &Oid,
         now: u32,
     ) -> Option<Value<'a>> {
@@ -70,7 +71,7 @@ impl<R: SourceRows> Collected for Sourced<R> {
 
     fn inner_after<'a, C: RowColumns<SourceColumns<R>>>(
         _rows: &'a C,
-        parts: &'a Pool<Sourced<R>>,
+        parts: &'a Pool<Sourced<K, R>>,
         name: &Oid,
         now: u32,
         out: &mut Oid,
@@ -105,7 +106,7 @@ impl<R: SourceRows> Collected for Sourced<R> {
     ghost spelled = { λ columns. tt };
 }
 
-impl<R: SourceRows> ByFacts for Sourced<R> {
+impl<K: Key, R: SourceRows<K>> ByFacts for Sourced<K, R> {
     ghost use Rattle.rm_sourced.specs.Lawful.{unjudged, all_within};
 
     ghost unjudged = { unjudged R.SourceTable.entry R.sourcing _ _ R R.room_in };
@@ -113,7 +114,7 @@ impl<R: SourceRows> ByFacts for Sourced<R> {
     ghost all_within = { all_within R.SourceTable.entry R.sourcing _ _ R R.room_in };
 }
 
-impl<R: SourceRows> ByItself for Sourced<R> {
+impl<K: Key, R: SourceRows<K>> ByItself for Sourced<K, R> {
     ghost use Rattle.rm_sourced.specs.Lawful.{by_itself};
 
     ghost by_itself = { by_itself R.SourceTable.entry R.sourcing _ _ R R.room_in };

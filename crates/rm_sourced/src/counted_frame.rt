@@ -3,6 +3,7 @@ ghost use Rattle.std.specs.Prelude.{◌+◌, ◌<◌, ◌^◌};
 
 use crate::source_rows::SourceRows;
 use crate::sourced::Sourced;
+use rm_evicting::Key;
 use rm_pool::Change;
 use rm_proto::Facts;
 
@@ -18,14 +19,14 @@ pub(crate) struct CountedFrame<'a> {
     ghost fits: { stamp + 2 < 2 ^ 64 },
 }
 
-impl<R: SourceRows> Change<Sourced<R>> for CountedFrame<'_> {
+impl<K: Key, R: SourceRows<K>> Change<Sourced<K, R>> for CountedFrame<'_> {
     ghost use Rattle.rm_sourced.specs.Sourcing.{Takes};
 
     ghost allows = { λ s row part. R.sourcing.is_ready s.stamp s.moment part.rows };
 
     ghost makes = { λ s row part new. Takes R.sourcing s.facts.now s.stamp s.moment part new };
 
-    fn change(&self, _row: u32, part: &mut Sourced<R>) {
+    fn change(&self, _row: u32, part: &mut Sourced<K, R>) {
         part.take(self.facts, self.moment, self.stamp);
     }
 }

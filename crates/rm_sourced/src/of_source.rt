@@ -15,7 +15,7 @@ pub(crate) struct OfSource<T> {
 impl<T: KeyTable> KeyTable for OfSource<T> {
     ghost use Rattle.rm_sourced.specs.Shown.{key_in_rows, value_in_rows};
 
-    type Part = Sourced<T::Part>;
+    type Part = Sourced<T::Key, T::Part>;
 
     type Key = T::Key;
 
@@ -39,13 +39,13 @@ impl<T: KeyTable> KeyTable for OfSource<T> {
         T::is_open(now)
     }
 
-    fn index_above(part: &Sourced<T::Part>, numbers: &Oid) -> Option<Oid> {
+    fn index_above(part: &Sourced<T::Key, T::Part>, numbers: &Oid) -> Option<Oid> {
         T::index_above(&part.rows, numbers)
     }
 
     fn value<'a>(
         row: u32,
-        part: &'a Sourced<T::Part>,
+        part: &'a Sourced<T::Key, T::Part>,
         index: &Oid,
         column: u32,
     ) -> Option<Value<'a>> {

@@ -16,36 +16,33 @@ use rm_keyed::{Counts, KeyTable, Keyed, SourceTable};
 use rm_pool::Part;
 use rm_proto::Facts;
 
-/// The rows that frames of a data source enter for a row of a control table, as the hosts that a row of hostControl holds. They name the
-/// control table, and two tables show them.
-pub trait SourceRows: SourceTable + Part {
+/// The rows that frames of a data source enter for a row of a control table, as the hosts that a row of hostControl holds, by
+/// keys of theirs. They name the control table, and two tables show them.
+pub trait SourceRows<K: Key>: SourceTable + Part {
     /// The first of the tables that show the rows, and the second.
-    type First: KeyTable<Part = Self, Key = Self::Key>;
+    type First: KeyTable<Part = Self, Key = K>;
 
-    type Second: KeyTable<Part = Self, Key = Self::Key>;
+    type Second: KeyTable<Part = Self, Key = K>;
 
     /// What all control rows share: for how many rows each has room.
     type Room: Drop;
-
-    /// The keys of the rows.
-    type Key: Key;
 
     /// What the mentions of a key add up to.
     type Counts: Counts;
 
     /// What frames enter.
-    ghost sourcing: { Sourcing Self.Key Self.Counts Self };
+    ghost sourcing: { Sourcing K Self.Counts Self };
 
     /// For how many rows there is room.
     ghost room_in: { Self.Room → ℕ };
 
     /// The index of a key in a control row after a journal, behind the number of that row: in the first table, and in the second.
-    ghost first_index: { Counting → Journal → ℕ → Self.Key → List ℕ };
+    ghost first_index: { Counting → Journal → ℕ → K → List ℕ };
 
-    ghost second_index: { Counting → Journal → ℕ → Self.Key → List ℕ };
+    ghost second_index: { Counting → Journal → ℕ → K → List ℕ };
 
     /// What a column of both shows of a key that a control row holds after a journal.
-    ghost value: { Counting → Journal → ℕ → Self.Key → ℕ → Val };
+    ghost value: { Counting → Journal → ℕ → K → ℕ → Val };
 
     /// Begins anew, without rows.
     fn begin(&mut self, room: &Self::Room)
@@ -57,13 +54,13 @@ pub trait SourceRows: SourceTable + Part {
     fn take(&mut self, facts: &Facts, moment: u32, stamp: u64)
         requires ready { sourcing.is_ready stamp moment self.old }
         requires fits { stamp + 2 < 2 ^ 64 }
-        ensures means { (mentions : List (Mention Self.Key Self.Counts)) → sourcing.means mentions self.old
+        ensures means { (mentions : List (Mention K Self.Counts)) → sourcing.means mentions self.old
             → sourcing.means (sourcing.mentioned stamp (moment / 10) facts.now ++ mentions) self.new }
         ensures capacity { (sourcing.entered self.new).rows.capacity ≡ (sourcing.entered self.old).rows.capacity }
         ensures ready { sourcing.is_ready (stamp + 2) moment self.new };
 
     /// The rows by their keys.
-    fn entered(&self) -> &Keyed<Self::Key, Self::Counts>
+    fn entered(&self) -> &Keyed<K, Self::Counts>
         ensures { result.now ≡ sourcing.entered self.now };
 
     /// The tables, the control table first.

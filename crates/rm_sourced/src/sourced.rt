@@ -4,34 +4,42 @@ ghost use Rattle.rm_evicting.specs.Mention.{Mention};
 ghost use Rattle.rm_sourced.specs.Sourcing.{taken_from};
 
 use crate::source_rows::SourceRows;
+use rm_evicting::Key;
 use rm_pool::Part;
 use rm_proto::Facts;
 use rm_val::NoMemory;
 use std::alloc::Global;
+use std::marker::PhantomData;
 
 /// The rows that the frames of a data source entered for a control row.
 #[derive(Drop)]
-pub struct Sourced<R> {
+pub struct Sourced<K, R> {
     /// The interface whose frames it takes.
     pub source: u32,
     /// The rows.
     pub rows: R,
+    // The keys of the rows: who names what is kept names these too.
+    keys: PhantomData<K>,
 }
 
-impl<R: Part> Part for Sourced<R> {
-    fn spare(alloc: Global) -> Result<Sourced<R>, NoMemory> {
+impl<K, R: Part> Part for Sourced<K, R> {
+    fn spare(alloc: Global) -> Result<Sourced<K, R>, NoMemory> {
         let rows = R::spare(alloc)?;
-        Ok(Sourced { source: 0, rows })
+        Ok(Sourced {
+            source: 0,
+            rows,
+            keys: PhantomData,
+        })
     }
 }
 
-impl<R: SourceRows> Sourced<R> {
+impl<K: Key, R: SourceRows<K>> Sourced<K, R> {
     /// Takes a frame that passed at a moment in milliseconds, where it is of the interface. Its first reference has this stamp, and a second
     /// one the next.
     pub fn take(&mut self, facts: &Facts, moment: u32, stamp: u64)
         requires ready { R.sourcing.is_ready stamp moment self.old.rows }
         requires fits { stamp + 2 < 2 ^ 64 }
-        ensures means { (mentions : List (Mention R.Key R.Counts)) → R.sourcing.means mentions self.old.rows
+        ensures means { (mentions : List (Mention K R.Counts)) → R.sourcing.means mentions self.old.rows
             → R.sourcing.means (taken_from R.sourcing self.old.source stamp (moment / 10) facts.now ++ mentions) self.new.rows }
         ensures source { self.new.source ≡ self.old.source }
         ensures capacity { (R.sourcing.entered self.new.rows).rows.capacity ≡ (R.sourcing.entered self.old.rows).rows.capacity }

@@ -8,7 +8,7 @@ use Rattle.rm_keyed.specs.Mentions.{renamed}
 use Rattle.rm_matrix.specs.Mentions.{PairMention}
 use Rattle.rm_matrix.specs.Tables.{Means}
 use Rattle.rm_matrix.proofs.Taking.{good_taken, bad_taken}
-use Rattle.rm_matrix.proofs.matrix_rows.MatrixRowsSourceRows.take.Goals as goal
+use Rattle.rm_matrix.proofs.matrix_rows.MatrixRowsSourceRowsAddressPair.take.Goals as goal
 
 pub returns-then-facts-clause-means : goal.returns-then-facts-clause-means
 returns-then-facts-clause-means c mentions means =

@@ -2,7 +2,7 @@ use Rattle.std.proofs.Common.{◌/◌, List, subst}
 use Rattle.rm_hosts.specs.Mentions.{HostMention}
 use Rattle.rm_hosts.specs.Tables.{Means}
 use Rattle.rm_hosts.proofs.Taking.{good_taken, bad_taken}
-use Rattle.rm_hosts.proofs.host_rows.HostRowsSourceRows.take.Goals as goal
+use Rattle.rm_hosts.proofs.host_rows.HostRowsSourceRowsArrayU86.take.Goals as goal
 
 pub returns-then-facts-clause-means : goal.returns-then-facts-clause-means
 returns-then-facts-clause-means c mentions means =
