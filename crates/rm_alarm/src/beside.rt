@@ -1,12 +1,12 @@
 // Alarms beside the group whose variables they sample.
 use crate::alarms::Alarms;
-use rm_group::{Assigns, Beside, Denied, Group, Look, Readable, Sight};
+use rm_group::{Assigns, Beside, Denied, Group, Look, Readable, Sight, Stores};
 use rm_model::Verdict;
 use std::alloc::Global;
 
 // Alarms look at what the group shows: when a Set is judged, and when it is prepared, so that an alarm that becomes valid starts
 // from what its variable read before the Set.
-impl<G: Readable> Beside<G> for Alarms {
+impl<G: Readable + Stores> Beside<G> for Alarms {
     ghost use Rattle.rm_model.specs.ControlRows.{no_rows};
     ghost use Rattle.rm_model.specs.Judgement.{rows_after};
     ghost use Rattle.rm_acts.specs.Alarms.{alarm_table};

@@ -13,7 +13,7 @@ use crate::columns::ALARM_OBJECTS;
 use crate::judging::judge_variables;
 use crate::laws::frames_pass;
 use rm_group::{
-    Assigns, Denied, Group, Look, Passing, TableObjects, Tables, Unfired, lower_verdict,
+    Assigns, Denied, Group, Look, Passing, Stores, TableObjects, Tables, Unfired, lower_verdict,
 };
 use rm_model::Verdict;
 use rm_val::{Oid, Value};
@@ -31,8 +31,6 @@ impl Group for Alarms {
 
     ghost frames = { λ s. 0 };
 
-    ghost stocked = { λ s. Unit {0} };
-
     ghost cells = { λ settings journal now. cells_of (alarms_table settings journal) };
 
     ghost alone = { alarm_alone };
@@ -40,13 +38,7 @@ impl Group for Alarms {
     ghost together = { λ settings journal now readings bindings place.
         alarm_together readings (rows_after alarm_table no_rows journal) bindings place };
 
-    ghost reserves = { λ settings journal bindings index. ⊥ };
-
-    ghost accepts = { λ s now readings bindings. AreFine s bindings };
-
-    ghost prepared = { λ s now bindings. AreFine s bindings };
-
-    ghost released = { HasForgotten };
+    ghost accepts = { λ s now bindings. AreFine s bindings };
 
     ghost finite = { λ settings journal now. alarms_finite settings journal };
 
@@ -71,6 +63,16 @@ impl Group for Alarms {
         let variables = judge_variables(&self.rows, set, now, look);
         lower_verdict(rows, variables)
     }
+}
+
+impl Stores for Alarms {
+    ghost stocked = { λ s. Unit {0} };
+
+    ghost reserves = { λ settings journal bindings index. ⊥ };
+
+    ghost prepared = { λ s now bindings. AreFine s bindings };
+
+    ghost released = { HasForgotten };
 
     fn prepare<A: Assigns, L: Look>(
         &mut self,

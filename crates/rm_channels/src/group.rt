@@ -1,12 +1,12 @@
 // Filters, channels and buffers, as one group of objects: what the pair of them does.
 use crate::channels::{Channels, Groups};
-use rm_group::{Assigns, Commits, Denied, Group, Look, NeverDue, Objects, Readable};
+use rm_group::{Assigns, Commits, Denied, Group, Look, NeverDue, Objects, Readable, Stores};
 use rm_model::Verdict;
 use rm_val::{Oid, Value};
 use std::alloc::Global;
 
 impl Group for Channels {
-    ghost use Rattle.rm_channels.specs.Group.{Stands, AreFine, ArePrepared, IsStocked, AreReleased, channel_cells, channel_alone, channel_together, ChannelReserves, frames_given, last_given};
+    ghost use Rattle.rm_channels.specs.Group.{Stands, AreFine, channel_cells, channel_alone, channel_together, frames_given, last_given};
     ghost use Rattle.rm_channels.specs.Laws.{all_finite};
 
     ghost stands = { Stands };
@@ -17,21 +17,13 @@ impl Group for Channels {
 
     ghost frames = { frames_given };
 
-    ghost stocked = { IsStocked };
-
     ghost cells = { channel_cells };
 
     ghost alone = { channel_alone };
 
     ghost together = { λ settings journal now readings. channel_together journal };
 
-    ghost reserves = { λ settings. ChannelReserves };
-
-    ghost accepts = { λ s now readings. AreFine s };
-
-    ghost prepared = { λ s now. ArePrepared s };
-
-    ghost released = { AreReleased };
+    ghost accepts = { λ s now. AreFine s };
 
     ghost finite = { all_finite };
 
@@ -54,6 +46,18 @@ impl Group for Channels {
     fn judge_rows<A: Assigns, L: Look>(&self, set: &A, now: u32, look: &L) -> Verdict {
         self.groups.judge_rows(set, now, look)
     }
+}
+
+impl Stores for Channels {
+    ghost use Rattle.rm_channels.specs.Group.{ArePrepared, IsStocked, AreReleased, ChannelReserves};
+
+    ghost stocked = { IsStocked };
+
+    ghost reserves = { λ settings. ChannelReserves };
+
+    ghost prepared = { λ s now. ArePrepared s };
+
+    ghost released = { AreReleased };
 
     fn prepare<A: Assigns, L: Look>(
         &mut self,

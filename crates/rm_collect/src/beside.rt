@@ -2,7 +2,9 @@
 use crate::collected::Collected;
 use crate::collecting::Collecting;
 use crate::turned::{ByOther, complete};
-use rm_group::{Assigns, Beside, Denied, Group, Look, NeverDue, Readable, TableObjects, Tables};
+use rm_group::{
+    Assigns, Beside, Denied, Group, Look, NeverDue, Readable, Stores, TableObjects, Tables,
+};
 use rm_model::Verdict;
 use rm_val::{Oid, Value};
 use std::alloc::Global;
@@ -18,9 +20,8 @@ pub struct CollectingBeside<P: Collected> {
 impl<P: Collected> Group for CollectingBeside<P> {
     ghost use Rattle.rm_model.specs.ControlRows.{no_rows};
     ghost use Rattle.rm_model.specs.Judgement.{second_pass, rows_after};
-    ghost use Rattle.rm_model.specs.Reserves.{Reserves};
     ghost use Rattle.rm_collect.specs.Collection.{alone};
-    ghost use Rattle.rm_collect.specs.Group.{Stands, AreFine, IsStocked, IsPrepared, IsReleased, frames_given, last_given};
+    ghost use Rattle.rm_collect.specs.Group.{Stands, AreFine, frames_given, last_given};
 
     ghost stands = { λ s. Stands P.Columns.form P.collection s.collecting };
 
@@ -30,21 +31,13 @@ impl<P: Collected> Group for CollectingBeside<P> {
 
     ghost frames = { λ s. frames_given s.collecting };
 
-    ghost stocked = { λ s. IsStocked s.collecting };
-
     ghost cells = { P.collection.cells };
 
     ghost alone = { alone P.Columns.form P.collection };
 
     ghost together = { λ settings journal now readings bindings place. second_pass P.Columns.form.table (rows_after P.Columns.form.table no_rows journal) bindings place };
 
-    ghost reserves = { λ settings journal bindings index. Reserves P.Columns.form.table (rows_after P.Columns.form.table no_rows journal) bindings index };
-
-    ghost accepts = { λ s now readings bindings. AreFine P.Columns.form P.collection s.collecting bindings };
-
-    ghost prepared = { λ s now bindings. IsPrepared P.Columns.form P.collection s.collecting bindings };
-
-    ghost released = { λ s. IsReleased P.Columns.form s.collecting };
+    ghost accepts = { λ s now bindings. AreFine P.Columns.form P.collection s.collecting bindings };
 
     ghost finite = { P.laws.finite };
 
@@ -67,6 +60,21 @@ impl<P: Collected> Group for CollectingBeside<P> {
     fn judge_rows<A: Assigns, L: Look>(&self, set: &A, now: u32, look: &L) -> Verdict {
         self.collecting.judge_rows(set, now, look)
     }
+}
+
+impl<P: Collected> Stores for CollectingBeside<P> {
+    ghost use Rattle.rm_model.specs.ControlRows.{no_rows};
+    ghost use Rattle.rm_model.specs.Judgement.{rows_after};
+    ghost use Rattle.rm_model.specs.Reserves.{Reserves};
+    ghost use Rattle.rm_collect.specs.Group.{IsStocked, IsPrepared, IsReleased};
+
+    ghost stocked = { λ s. IsStocked s.collecting };
+
+    ghost reserves = { λ settings journal bindings index. Reserves P.Columns.form.table (rows_after P.Columns.form.table no_rows journal) bindings index };
+
+    ghost prepared = { λ s now bindings. IsPrepared P.Columns.form P.collection s.collecting bindings };
+
+    ghost released = { λ s. IsReleased P.Columns.form s.collecting };
 
     fn prepare<A: Assigns, L: Look>(
         &mut self,
@@ -84,7 +92,7 @@ impl<P: Collected> Group for CollectingBeside<P> {
 }
 
 // What a Set turns is turned once the other group has done it.
-impl<G: Group, P: ByOther<G>> Beside<G> for CollectingBeside<P> {
+impl<G: Stores, P: ByOther<G>> Beside<G> for CollectingBeside<P> {
     ghost use Rattle.rm_model.specs.ControlRows.{no_rows};
     ghost use Rattle.rm_model.specs.Judgement.{second_pass, rows_after};
     ghost use Rattle.rm_collect.specs.Group.{HasBegun, IsPrepared};

@@ -3,8 +3,8 @@ use crate::collected::{ByFacts, Collected};
 use crate::collecting::Collecting;
 use crate::turned::ByItself;
 use rm_group::{
-    Assigns, Commits, Denied, Group, Look, NeverDue, Passing, Readable, TableObjects, Tables,
-    Unfired, Unsampled, lower_verdict,
+    Assigns, Commits, Denied, Group, Look, NeverDue, Passing, Readable, Stores, TableObjects,
+    Tables, Unfired, Unsampled, lower_verdict,
 };
 use rm_model::Verdict;
 use rm_val::{Oid, Value};
@@ -13,9 +13,8 @@ use std::alloc::Global;
 impl<P: Collected> Group for Collecting<P> {
     ghost use Rattle.rm_model.specs.ControlRows.{no_rows};
     ghost use Rattle.rm_model.specs.Judgement.{second_pass, rows_after};
-    ghost use Rattle.rm_model.specs.Reserves.{Reserves};
     ghost use Rattle.rm_collect.specs.Collection.{alone};
-    ghost use Rattle.rm_collect.specs.Group.{Stands, AreFine, IsStocked, IsPrepared, IsReleased, frames_given, last_given};
+    ghost use Rattle.rm_collect.specs.Group.{Stands, AreFine, frames_given, last_given};
 
     ghost stands = { Stands P.Columns.form P.collection };
 
@@ -25,21 +24,13 @@ impl<P: Collected> Group for Collecting<P> {
 
     ghost frames = { frames_given };
 
-    ghost stocked = { IsStocked };
-
     ghost cells = { P.collection.cells };
 
     ghost alone = { alone P.Columns.form P.collection };
 
     ghost together = { λ settings journal now readings bindings place. second_pass P.Columns.form.table (rows_after P.Columns.form.table no_rows journal) bindings place };
 
-    ghost reserves = { λ settings journal bindings index. Reserves P.Columns.form.table (rows_after P.Columns.form.table no_rows journal) bindings index };
-
-    ghost accepts = { λ s now readings bindings. AreFine P.Columns.form P.collection s bindings };
-
-    ghost prepared = { λ s now bindings. IsPrepared P.Columns.form P.collection s bindings };
-
-    ghost released = { IsReleased P.Columns.form };
+    ghost accepts = { λ s now bindings. AreFine P.Columns.form P.collection s bindings };
 
     ghost finite = { P.laws.finite };
 
@@ -62,6 +53,21 @@ impl<P: Collected> Group for Collecting<P> {
     fn judge_rows<A: Assigns, L: Look>(&self, set: &A, _now: u32, _look: &L) -> Verdict {
         self.table.rows.judge_rows(set)
     }
+}
+
+impl<P: Collected> Stores for Collecting<P> {
+    ghost use Rattle.rm_model.specs.ControlRows.{no_rows};
+    ghost use Rattle.rm_model.specs.Judgement.{rows_after};
+    ghost use Rattle.rm_model.specs.Reserves.{Reserves};
+    ghost use Rattle.rm_collect.specs.Group.{IsStocked, IsPrepared, IsReleased};
+
+    ghost stocked = { IsStocked };
+
+    ghost reserves = { λ settings journal bindings index. Reserves P.Columns.form.table (rows_after P.Columns.form.table no_rows journal) bindings index };
+
+    ghost prepared = { λ s now bindings. IsPrepared P.Columns.form P.collection s bindings };
+
+    ghost released = { IsReleased P.Columns.form };
 
     fn prepare<A: Assigns, L: Look>(
         &mut self,

@@ -2,15 +2,15 @@
 use crate::collectors::{Collectors, Groups};
 use rm_group::{
     Assigns, Commits, Denied, Due, FallsDue, Group, Look, Objects, Passing, Readable, Steps,
-    Unfired, Unsampled,
+    Stores, Unfired, Unsampled,
 };
 use rm_model::Verdict;
 use rm_val::{Oid, Value};
 use std::alloc::Global;
 
-#[tactic(auto, unfolding(crate::specs::Group::Stands, crate::specs::Group::collected_cells, crate::specs::Group::collected_alone, crate::specs::Group::collected_together, crate::specs::Group::CollectedReserves))]
+#[tactic(auto, unfolding(crate::specs::Group::Stands, crate::specs::Group::collected_cells, crate::specs::Group::collected_alone, crate::specs::Group::collected_together))]
 impl Group for Collectors {
-    ghost use Rattle.rm_collectors.specs.Group.{Stands, IsAskable, AreFine, ArePrepared, IsStocked, AreReleased, collected_cells, collected_alone, collected_together, CollectedReserves, frames_given, last_given};
+    ghost use Rattle.rm_collectors.specs.Group.{Stands, IsAskable, AreFine, collected_cells, collected_alone, collected_together, frames_given, last_given};
     ghost use Rattle.rm_collectors.specs.Laws.{all_finite};
 
     ghost stands = { Stands };
@@ -21,21 +21,13 @@ impl Group for Collectors {
 
     ghost frames = { frames_given };
 
-    ghost stocked = { IsStocked };
-
     ghost cells = { collected_cells };
 
     ghost alone = { collected_alone };
 
     ghost together = { λ settings journal now readings. collected_together journal };
 
-    ghost reserves = { λ settings. CollectedReserves };
-
-    ghost accepts = { λ s now readings. AreFine s };
-
-    ghost prepared = { λ s now. ArePrepared s };
-
-    ghost released = { AreReleased };
+    ghost accepts = { λ s now. AreFine s };
 
     ghost finite = { all_finite };
 
@@ -58,6 +50,19 @@ impl Group for Collectors {
     fn judge_rows<A: Assigns, L: Look>(&self, set: &A, now: u32, look: &L) -> Verdict {
         self.groups.judge_rows(set, now, look)
     }
+}
+
+#[tactic(auto, unfolding(crate::specs::Group::Stands, crate::specs::Group::CollectedReserves))]
+impl Stores for Collectors {
+    ghost use Rattle.rm_collectors.specs.Group.{ArePrepared, IsStocked, AreReleased, CollectedReserves};
+
+    ghost stocked = { IsStocked };
+
+    ghost reserves = { λ settings. CollectedReserves };
+
+    ghost prepared = { λ s now. ArePrepared s };
+
+    ghost released = { AreReleased };
 
     fn prepare<A: Assigns, L: Look>(
         &mut self,

@@ -2,12 +2,11 @@
 use crate::directory::{CHANGE_OBJECTS, Directory};
 use crate::row::DIRECTORY_OBJECTS;
 use rm_group::{
-    Assigns, Commits, Denied, Group, Look, NeverDue, Passing, Readable, TableObjects, Tables,
+    Assigns, Commits, Group, Look, NeverDue, Passing, Readable, Storeless, TableObjects, Tables,
     Unfired, Unsampled,
 };
 use rm_model::Verdict;
 use rm_val::{Oid, Value};
-use std::alloc::Global;
 
 /// The tables of the group.
 const OBJECTS: &[TableObjects] = &[DIRECTORY_OBJECTS, CHANGE_OBJECTS];
@@ -26,21 +25,13 @@ impl Group for Directory {
 
     ghost frames = { λ s. 0 };
 
-    ghost stocked = { λ s. Unit {0} };
-
     ghost cells = { λ settings journal now. directory_cells journal };
 
     ghost alone = { directory_alone };
 
     ghost together = { λ settings journal now readings bindings place. directory_together journal bindings place };
 
-    ghost reserves = { λ settings journal bindings index. ⊥ };
-
-    ghost accepts = { λ s now readings bindings. AreFine s bindings };
-
-    ghost prepared = { λ s now bindings. AreFine s bindings };
-
-    ghost released = { λ s. Unit {0} };
+    ghost accepts = { λ s now bindings. AreFine s bindings };
 
     ghost finite = { λ settings journal now. directory_finite journal };
 
@@ -63,19 +54,9 @@ impl Group for Directory {
     fn judge_rows<A: Assigns, L: Look>(&self, set: &A, _now: u32, _look: &L) -> Verdict {
         self.judge_together(set)
     }
-
-    fn prepare<A: Assigns, L: Look>(
-        &mut self,
-        _alloc: Global,
-        _set: &A,
-        _now: u32,
-        _look: &L,
-    ) -> Result<(), Denied> {
-        Ok(())
-    }
-
-    fn discard(&mut self) {}
 }
+
+impl Storeless for Directory {}
 
 impl Commits for Directory {
     ghost use Rattle.std.specs.Prelude.{◌≡◌, ℕ, ◌≤◌, List, ◌∷◌};

@@ -4,7 +4,7 @@ ghost use Rattle.std.specs.Prelude.{IfOk, None};
 ghost use Rattle.rm_val.specs.Spellable.{IsSpellable};
 
 use rm_dir::{Directory, judge_locals};
-use rm_group::{Assignments, Commits, Group, Look};
+use rm_group::{Assignments, Commits, Group, Look, Stores};
 use rm_model::{Reading, Verdict};
 use rm_path::{Protocol, ProtocolIdentifier};
 use rm_proto::{Cast, Facts, Ports};

@@ -4,7 +4,9 @@ use crate::distribution::Distribution;
 use crate::row::{CONTROL_OBJECTS, DistributionRow};
 use crate::stats::{Counted, STATS_OBJECTS};
 use rm_dir::Directory;
-use rm_group::{Assigns, Beside, Denied, Group, Look, NeverDue, Readable, TableObjects, Tables};
+use rm_group::{
+    Assigns, Beside, Denied, Group, Look, NeverDue, Readable, Storeless, TableObjects, Tables,
+};
 use rm_model::Verdict;
 use rm_nested::{cell_of_both, judge_both, next_of_both};
 use rm_val::{Oid, Value};
@@ -29,21 +31,13 @@ impl Group for Distribution {
 
     ghost frames = { λ s. s.frames };
 
-    ghost stocked = { λ s. Unit {0} };
-
     ghost cells = { λ settings journal now. dist_cells settings journal };
 
     ghost alone = { dist_alone };
 
     ghost together = { λ settings journal now readings bindings place. second_pass dist_control (rows_after dist_control no_rows journal) bindings place };
 
-    ghost reserves = { λ settings journal bindings index. ⊥ };
-
-    ghost accepts = { λ s now readings bindings. AreFine s bindings };
-
-    ghost prepared = { λ s now bindings. AreFine s bindings };
-
-    ghost released = { λ s. Unit {0} };
+    ghost accepts = { λ s now bindings. AreFine s bindings };
 
     ghost finite = { λ settings journal now. dist_finite settings journal };
 
@@ -69,19 +63,9 @@ impl Group for Distribution {
     fn judge_rows<A: Assigns, L: Look>(&self, set: &A, _now: u32, _look: &L) -> Verdict {
         self.rows.judge_rows(set)
     }
-
-    fn prepare<A: Assigns, L: Look>(
-        &mut self,
-        _alloc: Global,
-        _set: &A,
-        _now: u32,
-        _look: &L,
-    ) -> Result<(), Denied> {
-        Ok(())
-    }
-
-    fn discard(&mut self) {}
 }
+
+impl Storeless for Distribution {}
 
 // What isn't active any more by a Set isn't counted any more once the directory has done the Set.
 impl Beside<Directory> for Distribution {

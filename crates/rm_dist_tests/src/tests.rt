@@ -7,7 +7,7 @@ use rm_dir::Directory;
 use rm_dist::Distribution;
 use rm_group::{
     Assignments, Both, Commits, FallsDue, Group, Look, MOST_FRAMES, MOST_OCTETS, Objects, Passing,
-    Readable, Steps,
+    Readable, Steps, Stores,
 };
 use rm_model::{Reading, Verdict};
 use rm_proto::{Cast, Facts, Ports};

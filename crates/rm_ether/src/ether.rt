@@ -5,14 +5,13 @@ use crate::cell::Counters;
 use crate::change::{Adding, Resting};
 use crate::row::{ETHER_OBJECTS, StatisticsRow};
 use rm_group::{
-    Assigns, Commits, Denied, Group, Look, MOST_FRAMES, NeverDue, Passing, Readable, TableObjects,
-    Tables, Unfired, Unsampled,
+    Assigns, Commits, Group, Look, MOST_FRAMES, NeverDue, Passing, Readable, Storeless,
+    TableObjects, Tables, Unfired, Unsampled,
 };
 use rm_model::{State, Verdict};
 use rm_proto::Facts;
 use rm_status::Controls;
 use rm_val::{Oid, Value};
-use std::alloc::Global;
 
 /// The tables of the group.
 const OBJECTS: &[TableObjects] = &[ETHER_OBJECTS];
@@ -84,21 +83,13 @@ impl Group for Ether {
 
     ghost frames = { frames_given };
 
-    ghost stocked = { λ s. Unit {0} };
-
     ghost cells = { λ settings journal now. cells_of (ether_table settings journal) };
 
     ghost alone = { ether_alone };
 
     ghost together = { λ settings journal now readings bindings place. second_pass ether_stats (rows_after ether_stats (ether_beginning settings) journal) bindings place };
 
-    ghost reserves = { λ settings journal bindings index. ⊥ };
-
-    ghost accepts = { λ s now readings bindings. AreFine s bindings };
-
-    ghost prepared = { λ s now bindings. AreFine s bindings };
-
-    ghost released = { λ s. Unit {0} };
+    ghost accepts = { λ s now bindings. AreFine s bindings };
 
     ghost finite = { λ settings journal now. ether_finite settings journal };
 
@@ -121,19 +112,9 @@ impl Group for Ether {
     fn judge_rows<A: Assigns, L: Look>(&self, set: &A, _now: u32, _look: &L) -> Verdict {
         self.rows.judge_rows(set)
     }
-
-    fn prepare<A: Assigns, L: Look>(
-        &mut self,
-        _alloc: Global,
-        _set: &A,
-        _now: u32,
-        _look: &L,
-    ) -> Result<(), Denied> {
-        Ok(())
-    }
-
-    fn discard(&mut self) {}
 }
+
+impl Storeless for Ether {}
 
 impl Commits for Ether {
     fn commit<A: Assigns>(&mut self, set: &A, now: u32) {

@@ -4,7 +4,7 @@ use crate::entries::{Entries, LOG_OBJECTS};
 use crate::event_cell::Sent;
 use crate::event_row::{EVENT_OBJECTS, EventRow};
 use crate::events::Events;
-use rm_group::{Assigns, Commits, Denied, Group, Look, TableObjects, Tables};
+use rm_group::{Assigns, Commits, Denied, Group, Look, Stores, TableObjects, Tables};
 use rm_model::Verdict;
 use rm_nested::{cell_of_both, judge_both, next_of_both};
 use rm_val::{Oid, Value};
@@ -16,10 +16,9 @@ const OBJECTS: &[TableObjects] = &[EVENT_OBJECTS, LOG_OBJECTS];
 impl Group for Events {
     ghost use Rattle.rm_model.specs.ControlRows.{no_rows};
     ghost use Rattle.rm_model.specs.Judgement.{second_pass, rows_after};
-    ghost use Rattle.rm_model.specs.Reserves.{Reserves};
     ghost use Rattle.rm_event.specs.EventTable.{event_table};
     ghost use Rattle.rm_event.specs.Finite.{event_finite};
-    ghost use Rattle.rm_event.specs.Group.{event_cells, event_alone, AreFine, IsStocked, IsPrepared, IsReleased};
+    ghost use Rattle.rm_event.specs.Group.{event_cells, event_alone, AreFine};
     ghost use Rattle.rm_event.specs.Standing.{Stands};
 
     ghost stands = { Stands };
@@ -30,21 +29,13 @@ impl Group for Events {
 
     ghost frames = { λ s. 0 };
 
-    ghost stocked = { IsStocked };
-
     ghost cells = { λ settings journal now. event_cells settings journal };
 
     ghost alone = { event_alone };
 
     ghost together = { λ settings journal now readings bindings place. second_pass event_table (rows_after event_table no_rows journal) bindings place };
 
-    ghost reserves = { λ settings journal bindings index. Reserves event_table (rows_after event_table no_rows journal) bindings index };
-
-    ghost accepts = { λ s now readings bindings. AreFine s bindings };
-
-    ghost prepared = { λ s now bindings. IsPrepared s bindings };
-
-    ghost released = { IsReleased };
+    ghost accepts = { λ s now bindings. AreFine s bindings };
 
     ghost finite = { λ settings journal now. event_finite settings journal };
 
@@ -71,6 +62,22 @@ impl Group for Events {
     fn judge_rows<A: Assigns, L: Look>(&self, set: &A, _now: u32, _look: &L) -> Verdict {
         self.rows.judge_rows(set)
     }
+}
+
+impl Stores for Events {
+    ghost use Rattle.rm_model.specs.ControlRows.{no_rows};
+    ghost use Rattle.rm_model.specs.Judgement.{rows_after};
+    ghost use Rattle.rm_model.specs.Reserves.{Reserves};
+    ghost use Rattle.rm_event.specs.EventTable.{event_table};
+    ghost use Rattle.rm_event.specs.Group.{IsStocked, IsPrepared, IsReleased};
+
+    ghost stocked = { IsStocked };
+
+    ghost reserves = { λ settings journal bindings index. Reserves event_table (rows_after event_table no_rows journal) bindings index };
+
+    ghost prepared = { λ s now bindings. IsPrepared s bindings };
+
+    ghost released = { IsReleased };
 
     fn prepare<A: Assigns, L: Look>(
         &mut self,

@@ -15,12 +15,11 @@ use crate::channel::Channel;
 use crate::channel_row::CHANNEL_OBJECTS;
 use rm_columns::{ControlRow, Numbered};
 use rm_group::{
-    Assigns, Commits, Denied, Group, Look, Readable, TableObjects, Tables, instance_of,
+    Assigns, Commits, Group, Look, Readable, Storeless, TableObjects, Tables, instance_of,
 };
 use rm_model::{Instance, Verdict};
 use rm_status::{Controls, OtherColumns, Row};
 use rm_val::{Oid, Value};
-use std::alloc::Global;
 
 /// The tables of the group.
 const OBJECTS: &[TableObjects] = &[CHANNEL_OBJECTS];
@@ -146,21 +145,13 @@ impl Group for ChannelTable {
 
     ghost frames = { λ s. 0 };
 
-    ghost stocked = { λ s. Unit {0} };
-
     ghost cells = { λ settings journal now. cells_of (channels_shown settings journal) };
 
     ghost alone = { channel_alone };
 
     ghost together = { λ settings journal now readings bindings place. second_pass channel_table (rows_after channel_table no_rows journal) bindings place };
 
-    ghost reserves = { λ settings journal bindings index. ⊥ };
-
-    ghost accepts = { λ s now readings bindings. AreChannelsFine s bindings };
-
-    ghost prepared = { λ s now bindings. AreChannelsFine s bindings };
-
-    ghost released = { λ s. Unit {0} };
+    ghost accepts = { λ s now bindings. AreChannelsFine s bindings };
 
     ghost finite = { λ settings journal now. channels_finite settings journal };
 
@@ -183,19 +174,9 @@ impl Group for ChannelTable {
     fn judge_rows<A: Assigns, L: Look>(&self, set: &A, _now: u32, _look: &L) -> Verdict {
         self.rows.judge_rows(set)
     }
-
-    fn prepare<A: Assigns, L: Look>(
-        &mut self,
-        _alloc: Global,
-        _set: &A,
-        _now: u32,
-        _look: &L,
-    ) -> Result<(), Denied> {
-        Ok(())
-    }
-
-    fn discard(&mut self) {}
 }
+
+impl Storeless for ChannelTable {}
 
 impl Commits for ChannelTable {
     fn commit<A: Assigns>(&mut self, set: &A, _now: u32) {

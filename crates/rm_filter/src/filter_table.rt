@@ -1,11 +1,10 @@
 // filterTable, as a group of objects.
 
 use crate::filter_row::{FILTER_OBJECTS, FilterRow};
-use rm_group::{Assigns, Commits, Denied, Group, Look, Readable, TableObjects, Tables};
+use rm_group::{Assigns, Commits, Group, Look, Readable, Storeless, TableObjects, Tables};
 use rm_model::Verdict;
 use rm_status::{Controls, OtherColumns, Row};
 use rm_val::{Oid, Value};
-use std::alloc::Global;
 
 /// The tables of the group.
 const OBJECTS: &[TableObjects] = &[FILTER_OBJECTS];
@@ -60,21 +59,13 @@ impl Group for FilterTable {
 
     ghost frames = { λ s. 0 };
 
-    ghost stocked = { λ s. Unit {0} };
-
     ghost cells = { λ settings journal now. cells_of (filters_shown journal) };
 
     ghost alone = { filter_alone };
 
     ghost together = { λ settings journal now readings bindings place. second_pass filter_table (rows_after filter_table no_rows journal) bindings place };
 
-    ghost reserves = { λ settings journal bindings index. ⊥ };
-
-    ghost accepts = { λ s now readings bindings. AreFiltersFine s bindings };
-
-    ghost prepared = { λ s now bindings. AreFiltersFine s bindings };
-
-    ghost released = { λ s. Unit {0} };
+    ghost accepts = { λ s now bindings. AreFiltersFine s bindings };
 
     ghost finite = { λ settings journal now. filters_finite journal };
 
@@ -97,19 +88,9 @@ impl Group for FilterTable {
     fn judge_rows<A: Assigns, L: Look>(&self, set: &A, _now: u32, _look: &L) -> Verdict {
         self.rows.judge_rows(set)
     }
-
-    fn prepare<A: Assigns, L: Look>(
-        &mut self,
-        _alloc: Global,
-        _set: &A,
-        _now: u32,
-        _look: &L,
-    ) -> Result<(), Denied> {
-        Ok(())
-    }
-
-    fn discard(&mut self) {}
 }
+
+impl Storeless for FilterTable {}
 
 impl Commits for FilterTable {
     fn commit<A: Assigns>(&mut self, set: &A, _now: u32) {

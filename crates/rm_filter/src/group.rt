@@ -4,10 +4,9 @@ use crate::channel_table::ChannelTable;
 use crate::filter_row::FILTER_OBJECTS;
 use crate::filter_table::FilterTable;
 use crate::filters::Filters;
-use rm_group::{Assigns, Both, Commits, Denied, Group, Look, Readable, TableObjects, Tables};
+use rm_group::{Assigns, Both, Commits, Group, Look, Readable, Storeless, TableObjects, Tables};
 use rm_model::Verdict;
 use rm_val::{Oid, Value};
-use std::alloc::Global;
 
 /// The tables of the group.
 const OBJECTS: &[TableObjects] = &[FILTER_OBJECTS, CHANNEL_OBJECTS];
@@ -24,21 +23,13 @@ impl Group for Filters {
 
     ghost frames = { λ s. 0 };
 
-    ghost stocked = { λ s. Unit {0} };
-
     ghost cells = { λ settings journal now. filter_cells settings journal };
 
     ghost alone = { filters_alone };
 
     ghost together = { λ settings journal now readings bindings place. filters_together journal bindings place };
 
-    ghost reserves = { λ settings journal bindings index. ⊥ };
-
-    ghost accepts = { λ s now readings bindings. AreFine s bindings };
-
-    ghost prepared = { λ s now bindings. AreFine s bindings };
-
-    ghost released = { λ s. Unit {0} };
+    ghost accepts = { λ s now bindings. AreFine s bindings };
 
     ghost finite = { λ settings journal now. cells_finite settings journal };
 
@@ -61,19 +52,9 @@ impl Group for Filters {
     fn judge_rows<A: Assigns, L: Look>(&self, set: &A, now: u32, look: &L) -> Verdict {
         self.tables.judge_rows(set, now, look)
     }
-
-    fn prepare<A: Assigns, L: Look>(
-        &mut self,
-        _alloc: Global,
-        _set: &A,
-        _now: u32,
-        _look: &L,
-    ) -> Result<(), Denied> {
-        Ok(())
-    }
-
-    fn discard(&mut self) {}
 }
+
+impl Storeless for Filters {}
 
 impl Commits for Filters {
     fn commit<A: Assigns>(&mut self, set: &A, now: u32) {

@@ -10,14 +10,14 @@ ghost use Rattle.rm_group.specs.Passing.{IsOf};
 use crate::beside::Beside;
 use crate::both::Both;
 use crate::bounds::{MOST_FRAMES, MOST_OCTETS};
-use crate::group::Group;
 use crate::passing::Passing;
+use crate::stores::Stores;
 use crate::system::System;
 use rm_acts::Firing;
 
 /// A group to which an act that is no Set makes a difference step by step: the act begins, its firings are taken one by one, and it
 /// has ended where all were taken.
-pub trait Steps: Group {
+pub trait Steps: Stores {
     /// The group is in an act after a journal, of which it has taken these firings.
     ghost under_way: { Self → Counting → Act → Journal → List Fires → Type 0 };
 
@@ -32,7 +32,7 @@ pub trait Steps: Group {
             → Self.Group.askable self.old passing.now.moment → under_way self.new settings (passes frame) earlier [] }
         ensures clock { Self.Group.clock self.new ≤ passing.now.moment }
         ensures frames { Self.Group.frames self.new ≤ Self.Group.frames self.old + 1 }
-        ensures stocked { Self.Group.stocked self.old → Self.Group.stocked self.new };
+        ensures stocked { Self.Stores.stocked self.old → Self.Stores.stocked self.new };
 
     /// Takes a firing of the act that is under way, at its moment in milliseconds.
     fn take(&mut self, firing: &Firing, moment: u32)
@@ -40,7 +40,7 @@ pub trait Steps: Group {
             → under_way self.old settings act earlier some → under_way self.new settings act earlier (some ++ firing.now ∷ []) }
         ensures clock { Self.Group.clock self.new ≡ Self.Group.clock self.old }
         ensures frames { Self.Group.frames self.new ≡ Self.Group.frames self.old }
-        ensures stocked { Self.Group.stocked self.old → Self.Group.stocked self.new };
+        ensures stocked { Self.Stores.stocked self.old → Self.Stores.stocked self.new };
 
     /// An act has ended where all of its firings were taken.
     ghost ends: { (s : Self) (settings : Counting) (act : Act) (earlier : Journal)
@@ -49,7 +49,7 @@ pub trait Steps: Group {
 
 /// A group to which firings make no difference: once an act has begun, it stands for the journal with that act. What implements it is
 /// in `Steps` too.
-pub trait Unfired: Group {
+pub trait Unfired: Stores {
     /// Takes a frame that passes, whose moment isn't below that of the last act, and at which the group may be asked. Fewer than `MOST_FRAMES` frames were given before.
     fn take_frame(&mut self, passing: &Passing<'_>)
         requires later { Self.Group.clock self.old ≤ passing.now.moment }
@@ -61,7 +61,7 @@ pub trait Unfired: Group {
             → Self.Group.askable self.old passing.now.moment → Self.Group.stands self.new settings (passes frame ∷ earlier) }
         ensures clock { Self.Group.clock self.new ≤ passing.now.moment }
         ensures frames { Self.Group.frames self.new ≤ Self.Group.frames self.old + 1 }
-        ensures stocked { Self.Group.stocked self.old → Self.Group.stocked self.new };
+        ensures stocked { Self.Stores.stocked self.old → Self.Stores.stocked self.new };
 }
 
 impl<G: Unfired> Steps for G {

@@ -10,15 +10,15 @@ ghost use Rattle.rm_group.specs.Alone.{AreFineAlone, IsWithin};
 use crate::assigns::Assigns;
 use crate::commits::Commits;
 use crate::denied::Denied;
-use crate::group::Group;
 use crate::look::Look;
+use crate::stores::Stores;
 use rm_model::Verdict;
 use std::alloc::Global;
 
 /// A group beside a first one, with which it is one group (`Both`). It may look at the first one when a Set is judged and made
 /// ready for, and once the first one has done it: what it keeps of a Set may be whole only then. A group that does a Set by
 /// itself stands beside every other.
-pub trait Beside<G: Group>: Group {
+pub trait Beside<G: Stores>: Stores {
     /// What the probe was set to is as the group needs it beside the first one.
     ghost tied: { Counting → Type 0 };
 
@@ -35,7 +35,7 @@ pub trait Beside<G: Group>: Group {
     /// The second pass of a Set (`judge_rows`), beside the first group.
     fn judge_beside<A: Assigns, L: Look>(&self, first: &G, set: &A, now: u32, look: &L) -> Verdict
         requires alone { AreFineAlone Self.Group.alone (A.bindings set.now) }
-        ensures accepted { result ≡ Verdict.Fine → Self.Group.accepts self.now now (L.readings look.now now) (A.bindings set.now) }
+        ensures accepted { result ≡ Verdict.Fine → Self.Group.accepts self.now now (A.bindings set.now) }
         ensures verdict { let bindings = A.bindings set.now in (settings : Counting) (journal : Journal) → tied settings
             → G.stands first.now settings journal → Self.Group.stands self.now settings journal → last_moment journal ≤ now
             → G.askable first.now now → Self.Group.askable self.now now
@@ -52,18 +52,18 @@ pub trait Beside<G: Group>: Group {
         look: &L,
     ) -> Result<(), Denied>
         requires later { Self.Group.clock self.old ≤ now }
-        requires accepted { Self.Group.accepts self.old now (L.readings look.now now) (A.bindings set.now) }
-        requires stocked { Self.Group.stocked self.old }
+        requires accepted { Self.Group.accepts self.old now (A.bindings set.now) }
+        requires stocked { Self.Stores.stocked self.old }
         ensures clock { Self.Group.clock self.new ≡ Self.Group.clock self.old }
         ensures askable { (moment : ℕ) → Self.Group.askable self.old moment → Self.Group.askable self.new moment }
         ensures frames { Self.Group.frames self.new ≡ Self.Group.frames self.old }
-        ensures stocked { Self.Group.stocked self.new }
+        ensures stocked { Self.Stores.stocked self.new }
         ensures stands { (settings : Counting) (journal : Journal) → Self.Group.stands self.old settings journal
             → Self.Group.stands self.new settings journal }
         ensures ready { OnOk result (ready self.new first.now now (A.bindings set.now)) }
-        ensures released { OnErr result (Self.Group.released self.old → Self.Group.released self.new) }
+        ensures released { OnErr result (Self.Stores.released self.old → Self.Stores.released self.new) }
         ensures denied { IfErr result (λ denied. (settings : Counting) (journal : Journal) → Self.Group.stands self.old settings journal
-            → Self.Group.reserves settings journal (A.bindings set.now) denied.index) }
+            → Self.Stores.reserves settings journal (A.bindings set.now) denied.index) }
         ensures within { IfErr result (λ denied. denied.index ≤ length (A.bindings set.now)) };
 
     /// Begins a Set at a moment in milliseconds, for which both groups were made ready, and which the first one hasn't done yet. No
@@ -72,30 +72,30 @@ pub trait Beside<G: Group>: Group {
         requires later { Self.Group.clock self.old ≤ now }
         requires first_ready { G.prepared first.now now (A.bindings set.now) }
         requires ready { ready self.old first.now now (A.bindings set.now) }
-        requires stocked { Self.Group.stocked self.old }
+        requires stocked { Self.Stores.stocked self.old }
         ensures clock { Self.Group.clock self.new ≤ now }
         ensures frames { Self.Group.frames self.new ≡ Self.Group.frames self.old }
-        ensures stocked { Self.Group.stocked self.new }
+        ensures stocked { Self.Stores.stocked self.new }
         ensures begun { (settings : Counting) (journal : Journal) (values : Assignments) → tied settings
             → G.stands first.now settings journal → Self.Group.stands self.old settings journal → last_moment journal ≤ now
             → G.askable first.now now → Self.Group.askable self.old now
             → ((name : List ℕ) → value_given values name ≡ value_given (A.bindings set.now) name)
             → begun self.new settings (assigns now values ∷ journal) }
-        ensures released { Self.Group.released self.new };
+        ensures released { Self.Stores.released self.new };
 
     /// Completes a Set that was begun at a moment in milliseconds, and which the first group has done. No memory is taken.
     fn complete(&mut self, first: &G, now: u32)
         requires later { Self.Group.clock self.old ≤ now }
         ensures clock { Self.Group.clock self.new ≤ now }
         ensures frames { Self.Group.frames self.new ≡ Self.Group.frames self.old }
-        ensures stocked { Self.Group.stocked self.old → Self.Group.stocked self.new }
+        ensures stocked { Self.Stores.stocked self.old → Self.Stores.stocked self.new }
         ensures stands { (settings : Counting) (journal : Journal) → tied settings → G.stands first.now settings journal
             → last_moment journal ≡ now → begun self.old settings journal → Self.Group.stands self.new settings journal }
-        ensures released { Self.Group.released self.old → Self.Group.released self.new };
+        ensures released { Self.Stores.released self.old → Self.Stores.released self.new };
 }
 
 // A group that does a Set by itself has nothing to look at.
-impl<G: Group, H: Commits> Beside<G> for H {
+impl<G: Stores, H: Commits> Beside<G> for H {
     ghost tied = { λ settings. Unit {0} };
 
     ghost together_beside = { H.together };

@@ -20,6 +20,7 @@ use crate::look::Look;
 use crate::lower::lower_verdict;
 use crate::nearer::choose_nearer;
 use crate::objects::Objects;
+use crate::stores::Stores;
 use rm_model::Verdict;
 use rm_val::{Oid, Value};
 use std::alloc::Global;
@@ -34,7 +35,7 @@ pub struct Both<G, H> {
     pub second: H,
 }
 
-impl<G: Group, H: Beside<G>> Group for Both<G, H> {
+impl<G: Stores, H: Beside<G>> Group for Both<G, H> {
     ghost stands = { λ s settings journal. StandAsOne (G.stands s.first settings journal) (H.stands s.second settings journal) (H.tied settings) };
 
     ghost clock = { λ s. max (G.clock s.first) (H.clock s.second) };
@@ -43,8 +44,6 @@ impl<G: Group, H: Beside<G>> Group for Both<G, H> {
 
     ghost frames = { λ s. max (G.frames s.first) (H.frames s.second) };
 
-    ghost stocked = { λ s. G.stocked s.first × H.stocked s.second };
-
     ghost cells = { λ settings journal now name. option_or (G.cells settings journal now name) (H.cells settings journal now name) };
 
     ghost alone = { λ name value. option_or (G.alone name value) (H.alone name value) };
@@ -52,13 +51,7 @@ impl<G: Group, H: Beside<G>> Group for Both<G, H> {
     ghost together = { λ settings journal now readings bindings place.
         option_or (G.together settings journal now readings bindings place) (H.together_beside settings journal now readings bindings place) };
 
-    ghost reserves = { λ settings journal bindings index. G.reserves settings journal bindings index ⊎ H.reserves settings journal bindings index };
-
-    ghost accepts = { λ s now readings bindings. G.accepts s.first now readings bindings × H.accepts s.second now readings bindings };
-
-    ghost prepared = { λ s now bindings. G.prepared s.first now bindings × H.ready s.second s.first now bindings };
-
-    ghost released = { λ s. G.released s.first × H.released s.second };
+    ghost accepts = { λ s now bindings. G.accepts s.first now bindings × H.accepts s.second now bindings };
 
     ghost finite = { λ settings journal now.
         both_finite (G.cells settings journal now) (H.cells settings journal now) (G.finite settings journal now) (H.finite settings journal now) };
@@ -109,6 +102,16 @@ impl<G: Group, H: Beside<G>> Group for Both<G, H> {
         let second = self.second.judge_beside(&self.first, set, now, look);
         lower_verdict(first, second)
     }
+}
+
+impl<G: Stores, H: Beside<G>> Stores for Both<G, H> {
+    ghost stocked = { λ s. G.stocked s.first × H.stocked s.second };
+
+    ghost reserves = { λ settings journal bindings index. G.reserves settings journal bindings index ⊎ H.reserves settings journal bindings index };
+
+    ghost prepared = { λ s now bindings. G.prepared s.first now bindings × H.ready s.second s.first now bindings };
+
+    ghost released = { λ s. G.released s.first × H.released s.second };
 
     fn prepare<A: Assigns, L: Look>(
         &mut self,
@@ -141,7 +144,7 @@ impl<G: Commits, H: Beside<G>> Commits for Both<G, H> {
     }
 }
 
-impl<G: Objects, H: Objects + Beside<G>> Objects for Both<G, H> {
+impl<G: Objects + Stores, H: Objects + Beside<G>> Objects for Both<G, H> {
     ghost objects = { λ name. G.objects name || H.objects name };
 
     ghost settable = { λ name. G.settable name || H.settable name };

@@ -6,6 +6,7 @@ ghost use Rattle.rm_group.specs.declared.due.Due.{Due as Falling};
 use crate::beside::Beside;
 use crate::both::Both;
 use crate::group::Group;
+use crate::stores::Stores;
 use crate::system::System;
 
 /// What falls due: its moment in milliseconds, its kind and its number.
@@ -61,7 +62,7 @@ impl NeverDue for System {
     ghost always_asked = { λ s moment. tt };
 }
 
-impl<G: FallsDue, H: FallsDue + Beside<G>> FallsDue for Both<G, H> {
+impl<G: FallsDue + Stores, H: FallsDue + Beside<G>> FallsDue for Both<G, H> {
     ghost falls_due = { λ s due. G.falls_due s.first due ⊎ H.falls_due s.second due };
 
     ghost left = { λ s latest. G.left s.first latest + H.left s.second latest };

@@ -1,5 +1,5 @@
 // A group of objects.
-ghost use Rattle.std.specs.Prelude.{◌≡◌, ℕ, ◌≤◌, List, length, Option, IfSome, OnSome, IfNone, OnOk, OnErr, IfErr};
+ghost use Rattle.std.specs.Prelude.{◌≡◌, ℕ, ◌≤◌, List, length, Option, IfSome, OnSome, IfNone};
 ghost use Rattle.std.specs.Option.{option_map};
 ghost use Rattle.rm_val.specs.Val.{Val, val_of};
 ghost use Rattle.rm_val.specs.declared.error.ErrorStatus.{ErrorStatus as Fault};
@@ -14,16 +14,14 @@ ghost use Rattle.rm_group.specs.Look.{Readings};
 ghost use Rattle.rm_group.specs.Alone.{alone_at, AreFineAlone, IsWithin};
 
 use crate::assigns::Assigns;
-use crate::denied::Denied;
 use crate::look::Look;
 use rm_model::Verdict;
 use rm_val::{Oid, Value};
-use std::alloc::Global;
 
 /// A group of objects. It stands for a journal where all that it keeps is what that journal gives.
 ///
-/// A Set is judged in two passes, prepared and then committed, all at one moment. Until it is committed or discarded, the
-/// group is given nothing else. A group commits it by itself (`Commits`), or beside another one (`Beside`).
+/// A Set is judged in two passes, prepared (`Stores`) and then committed, all at one moment. Until it is committed or discarded,
+/// the group is given nothing else. A group commits it by itself (`Commits`), or beside another one (`Beside`).
 pub trait Group {
     /// What the group keeps is what a journal gives, by what the probe was set to.
     ghost stands: { Self → Counting → Journal → Type 0 };
@@ -38,10 +36,6 @@ pub trait Group {
     /// How many frames the group was given.
     ghost frames: { Self → ℕ };
 
-    /// The group has the storage of one row of each of its tables whose rows take storage while they are valid. A group without
-    /// such a table always has.
-    ghost stocked: { Self → Type 0 };
-
     /// The group's cells after a journal, at a moment in milliseconds, by what the probe was set to.
     ghost cells: { Counting → Journal → ℕ → Cells };
 
@@ -52,17 +46,8 @@ pub trait Group {
     /// milliseconds and by what is read then.
     ghost together: { Counting → Journal → ℕ → Readings → Bindings → ℕ → Option Fault };
 
-    /// After a journal there may be no memory for the row that the binding with that number, from 1, makes valid.
-    ghost reserves: { Counting → Journal → Bindings → ℕ → Type 0 };
-
-    /// Both passes found nothing wrong with a Set at a moment in milliseconds, by what is read then.
-    ghost accepts: { Self → ℕ → Readings → Bindings → Type 0 };
-
-    /// The group is ready to commit a Set at a moment in milliseconds.
-    ghost prepared: { Self → ℕ → Bindings → Type 0 };
-
-    /// The group holds nothing for a Set that is to be committed.
-    ghost released: { Self → Type 0 };
+    /// Both passes found nothing wrong with a Set at a moment in milliseconds.
+    ghost accepts: { Self → ℕ → Bindings → Type 0 };
 
     /// Where the group's variables begin: none has a name below this one, whatever the journal and the moment. So a group that begins
     /// behind a variable that was found needn't be asked for a nearer one. By default it is the empty name, which no name is below.
@@ -98,43 +83,10 @@ pub trait Group {
     /// be asked: the bindings of each row together. The first pass found nothing wrong.
     fn judge_rows<A: Assigns, L: Look>(&self, set: &A, now: u32, look: &L) -> Verdict
         requires alone { AreFineAlone alone (A.bindings set.now) }
-        ensures accepted { result ≡ Verdict.Fine → accepts self.now now (L.readings look.now now) (A.bindings set.now) }
+        ensures accepted { result ≡ Verdict.Fine → accepts self.now now (A.bindings set.now) }
         ensures verdict { let bindings = A.bindings set.now in (settings : Counting) (journal : Journal) → stands self.now settings journal → last_moment journal ≤ now
             → askable self.now now → IsFirstFault (length bindings) (together settings journal now (L.readings look.now now) bindings) result }
         ensures within { IsWithin (length (A.bindings set.now)) result };
-
-    /// Makes ready for a Set at a moment in milliseconds, with which both passes found nothing wrong, in a group that is
-    /// stocked. Denied where there is no memory for a row that the Set makes valid beside another; a group that held nothing
-    /// then holds nothing. No variable changes.
-    fn prepare<A: Assigns, L: Look>(
-        &mut self,
-        alloc: Global,
-        set: &A,
-        now: u32,
-        look: &L,
-    ) -> Result<(), Denied>
-        requires later { clock self.old ≤ now }
-        requires accepted { accepts self.old now (L.readings look.now now) (A.bindings set.now) }
-        requires stocked { stocked self.old }
-        ensures clock { clock self.new ≡ clock self.old }
-        ensures askable { (moment : ℕ) → askable self.old moment → askable self.new moment }
-        ensures frames { frames self.new ≡ frames self.old }
-        ensures stocked { stocked self.new }
-        ensures stands { (settings : Counting) (journal : Journal) → stands self.old settings journal → stands self.new settings journal }
-        ensures ready { OnOk result (prepared self.new now (A.bindings set.now)) }
-        ensures released { OnErr result (released self.old → released self.new) }
-        ensures denied { IfErr result (λ denied. (settings : Counting) (journal : Journal) → stands self.old settings journal
-            → reserves settings journal (A.bindings set.now) denied.index) }
-        ensures within { IfErr result (λ denied. denied.index ≤ length (A.bindings set.now)) };
-
-    /// Gives back what was made ready for a Set that isn't committed. No variable changes.
-    fn discard(&mut self)
-        ensures clock { clock self.new ≡ clock self.old }
-        ensures askable { (moment : ℕ) → askable self.old moment → askable self.new moment }
-        ensures frames { frames self.new ≡ frames self.old }
-        ensures stocked { stocked self.old → stocked self.new }
-        ensures stands { (settings : Counting) (journal : Journal) → stands self.old settings journal → stands self.new settings journal }
-        ensures released { released self.new };
 
     /// The cells are finitely many, after every journal and at every moment.
     ghost finite: { (settings : Counting) (journal : Journal) (now : ℕ) → AreFinite (cells settings journal now) };

@@ -25,6 +25,7 @@ mod read_only;
 mod readable;
 mod row_indexes;
 mod search;
+mod stores;
 mod system;
 mod wrong;
 
@@ -51,5 +52,6 @@ pub use read_only::judge_read_only;
 pub use readable::{Readable, Sight, reading_of};
 pub use row_indexes::RowIndexes;
 pub use search::next_name;
+pub use stores::{Storeless, Stores};
 pub use system::System;
 pub use wrong::wrong_at;

@@ -14,6 +14,7 @@ use crate::beside::Beside;
 use crate::both::Both;
 use crate::group::Group;
 use crate::look::Look;
+use crate::stores::Stores;
 use crate::system::{System, scalar};
 use rm_model::Reading;
 use rm_val::{Oid, Value};
@@ -56,7 +57,7 @@ impl Readable for System {
     ghost recurring = { λ settings one other journal alike now name. refl };
 }
 
-impl<G: Readable, H: Readable + Beside<G>> Readable for Both<G, H> {
+impl<G: Readable + Stores, H: Readable + Beside<G>> Readable for Both<G, H> {
     ghost sampleable = { λ settings journal now name. option_or (G.sampleable settings journal now name) (H.sampleable settings journal now name) };
 
     ghost shown = { λ s now name. option_or (G.shown s.first now name) (H.shown s.second now name) };

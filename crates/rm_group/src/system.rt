@@ -11,7 +11,6 @@ ghost use Rattle.rm_group.specs.System.{system_entry, system_columns, system_tab
 
 use crate::assigns::Assigns;
 use crate::commits::Commits;
-use crate::denied::Denied;
 use crate::group::Group;
 use crate::instance::instance_of;
 use crate::look::Look;
@@ -19,9 +18,9 @@ use crate::objects::{TableObjects, Tables};
 use crate::one_row::OneRow;
 use crate::read_only::judge_read_only;
 use crate::search::next_name;
+use crate::stores::Storeless;
 use rm_model::Verdict;
 use rm_val::{Oid, Value};
-use std::alloc::Global;
 
 /// The group's objects: sysDescr and sysUpTime.
 const OBJECTS: TableObjects = TableObjects {
@@ -50,21 +49,13 @@ impl Group for System {
 
     ghost frames = { λ s. 0 };
 
-    ghost stocked = { λ s. Unit {0} };
-
     ghost cells = { λ settings journal now. cells_of (system_table now) };
 
     ghost alone = { read_only (is_of_column system_entry system_columns) };
 
     ghost together = { λ settings journal now readings bindings place. None };
 
-    ghost reserves = { λ settings journal bindings index. ⊥ };
-
-    ghost accepts = { λ s now readings bindings. Unit {0} };
-
-    ghost prepared = { λ s now bindings. Unit {0} };
-
-    ghost released = { λ s. Unit {0} };
+    ghost accepts = { λ s now bindings. Unit {0} };
 
     ghost finite = { λ settings journal now. one_row_finite (system_table now) (0 ∷ []) (λ index row. row) };
 
@@ -88,19 +79,9 @@ impl Group for System {
     fn judge_rows<A: Assigns, L: Look>(&self, _set: &A, _now: u32, _look: &L) -> Verdict {
         Verdict::Fine
     }
-
-    fn prepare<A: Assigns, L: Look>(
-        &mut self,
-        _alloc: Global,
-        _set: &A,
-        _now: u32,
-        _look: &L,
-    ) -> Result<(), Denied> {
-        Ok(())
-    }
-
-    fn discard(&mut self) {}
 }
+
+impl Storeless for System {}
 
 impl Commits for System {
     fn commit<A: Assigns>(&mut self, _set: &A, _now: u32) {}

@@ -12,7 +12,7 @@ use crate::tests::seen::Seen;
 use crate::tests::shared::{First, Set, Stamp};
 use crate::tests::slot::Slot;
 use crate::tests::sparse::Sparse;
-use rm_group::{Assignments, Both, Commits, Group, Objects, System, next_name};
+use rm_group::{Assignments, Both, Commits, Group, Objects, Stores, System, next_name};
 use rm_model::Verdict;
 use rm_val::{ErrorStatus, Oid, Value};
 use std::alloc::Global;
@@ -164,7 +164,7 @@ enum Outcome {
 }
 
 // Judges a Set at the moment 1000, and makes ready for it.
-fn prepare<G: Group>(alloc: Global, groups: &mut G, set: &Assignments<'static, 2>) -> Outcome
+fn prepare<G: Stores>(alloc: Global, groups: &mut G, set: &Assignments<'static, 2>) -> Outcome
     requires later { G.clock groups.old ≤ 1000 }
     requires stocked { G.stocked groups.old }
 {

@@ -4,7 +4,7 @@ ghost use Rattle.rm_model.specs.Journal.{Journal};
 ghost use Rattle.rm_dir.specs.Group.{Stands as IsDirectory};
 
 use rm_dir::Directory;
-use rm_group::{Beside, Both, Group};
+use rm_group::{Beside, Both, Group, Stores};
 
 /// A group that has the directory of protocols in it, so that tables that count by the directory may stand beside it.
 pub trait HasDirectory: Group {
@@ -19,7 +19,7 @@ impl HasDirectory for Directory {
     }
 }
 
-impl<G: HasDirectory, H: Beside<G>> HasDirectory for Both<G, H> {
+impl<G: HasDirectory + Stores, H: Beside<G>> HasDirectory for Both<G, H> {
     fn directory(&self) -> &Directory {
         self.first.directory()
     }

@@ -1,16 +1,17 @@
 // The directory and the tables that count by it, as one group of objects: what the pairs of them do.
 use crate::protocol_tables::{Groups, ProtocolTables};
 use rm_group::{
-    Assigns, Commits, Denied, Group, Look, NeverDue, Objects, Passing, Readable, Steps, Unfired,
+    Assigns, Commits, Denied, Group, Look, NeverDue, Objects, Passing, Readable, Steps, Stores,
+    Unfired,
 };
 use rm_layer_tables::locals_above_ip;
 use rm_model::Verdict;
 use rm_val::{Oid, Value};
 use std::alloc::Global;
 
-#[tactic(auto, unfolding(crate::specs::Group::Stands, crate::specs::Group::protocol_cells, crate::specs::Group::protocol_alone, crate::specs::Group::protocol_together, crate::specs::Group::ProtocolReserves))]
+#[tactic(auto, unfolding(crate::specs::Group::Stands, crate::specs::Group::protocol_cells, crate::specs::Group::protocol_alone, crate::specs::Group::protocol_together))]
 impl Group for ProtocolTables {
-    ghost use Rattle.rm_protocols.specs.Group.{Stands, AreFine, ArePrepared, IsStocked, AreReleased, ProtocolReserves, protocol_cells, protocol_alone, protocol_together, frames_given, last_given};
+    ghost use Rattle.rm_protocols.specs.Group.{Stands, AreFine, protocol_cells, protocol_alone, protocol_together, frames_given, last_given};
     ghost use Rattle.rm_protocols.specs.Laws.{all_finite};
 
     ghost stands = { Stands };
@@ -21,21 +22,13 @@ impl Group for ProtocolTables {
 
     ghost frames = { frames_given };
 
-    ghost stocked = { IsStocked };
-
     ghost cells = { protocol_cells };
 
     ghost alone = { protocol_alone };
 
     ghost together = { λ settings journal now readings. protocol_together journal };
 
-    ghost reserves = { λ settings. ProtocolReserves };
-
-    ghost accepts = { λ s now readings. AreFine s };
-
-    ghost prepared = { λ s now. ArePrepared s };
-
-    ghost released = { AreReleased };
+    ghost accepts = { λ s now. AreFine s };
 
     ghost finite = { all_finite };
 
@@ -58,6 +51,19 @@ impl Group for ProtocolTables {
     fn judge_rows<A: Assigns, L: Look>(&self, set: &A, now: u32, look: &L) -> Verdict {
         self.groups.judge_rows(set, now, look)
     }
+}
+
+#[tactic(auto, unfolding(crate::specs::Group::Stands, crate::specs::Group::ProtocolReserves))]
+impl Stores for ProtocolTables {
+    ghost use Rattle.rm_protocols.specs.Group.{ArePrepared, IsStocked, AreReleased, ProtocolReserves};
+
+    ghost stocked = { IsStocked };
+
+    ghost reserves = { λ settings. ProtocolReserves };
+
+    ghost prepared = { λ s now. ArePrepared s };
+
+    ghost released = { AreReleased };
 
     fn prepare<A: Assigns, L: Look>(
         &mut self,

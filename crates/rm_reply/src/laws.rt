@@ -14,12 +14,12 @@ ghost use Rattle.rm_reply.specs.Responses.{IsReplyBy};
 ghost use Rattle.rm_reply.specs.Sets.{given_by};
 ghost use Rattle.rm_reply.specs.Storage.{IsGrantedBy, IsGrantedOrDenied};
 
-use rm_group::{Group, Objects, next_or_none};
+use rm_group::{Group, Objects, Stores, next_or_none};
 use rm_pdu::{Kind, bindings_lengthen, empty_messages_are_short};
 
 /// A law: a request has one reply at most after a journal, and leaves one journal, where it is no SetRequest that reserves
 /// storage.
-pub fn one_reply<G: Group + Objects>()
+pub fn one_reply<G: Stores + Objects>()
     ensures { (settings : Counting) (journal : Journal) (now : ℕ) (may_write : Bool) (request a b : Message) (after later : Journal)
         → (request.kind ≡ Kind.Set → (index : ℕ) → G.reserves settings journal (given_by request.bindings) index → ⊥)
         → IsReplyBy (G.cells settings journal now) G.objects G.alone (G.together settings journal now nothing_read) (G.reserves settings journal) may_write now journal request.kind request a after
@@ -31,7 +31,7 @@ pub fn one_reply<G: Group + Objects>()
 
 /// A law: a reply is the one that its request has where there is memory for all that it reserves, or it denies a SetRequest
 /// storage, and leaves the journal.
-pub fn granted_or_denied<G: Group + Objects>()
+pub fn granted_or_denied<G: Stores + Objects>()
     ensures { (settings : Counting) (journal : Journal) (now : ℕ) (may_write : Bool) (request reply : Message) (after : Journal)
         → IsReplyBy (G.cells settings journal now) G.objects G.alone (G.together settings journal now nothing_read) (G.reserves settings journal) may_write now journal request.kind request reply after
         → IsGrantedOrDenied (IsGrantedBy (G.cells settings journal now) G.objects G.alone (G.together settings journal now nothing_read) may_write now journal request)
@@ -41,7 +41,7 @@ pub fn granted_or_denied<G: Group + Objects>()
 }
 
 /// A law: a request whose community has at most 127 octets has a reply.
-pub fn every_reply<G: Group + Objects>()
+pub fn every_reply<G: Stores + Objects>()
     ensures { (settings : Counting) (journal : Journal) (now : ℕ) (may_write : Bool) (request : Message) → is_read true request.kind ≡ true
         → length request.community ≤ 127 → (reply : Message) × (after : Journal)
         × IsReplyBy (G.cells settings journal now) G.objects G.alone (G.together settings journal now nothing_read) (G.reserves settings journal) may_write now journal request.kind request reply after }

@@ -1,13 +1,13 @@
 // The groups whose variables alarms may sample, as one group of objects: what the pairs of them do.
 use crate::sources::{Groups, Sources};
-use rm_group::{Assigns, Commits, Denied, Due, FallsDue, Group, Look, Objects, Readable};
+use rm_group::{Assigns, Commits, Denied, Due, FallsDue, Group, Look, Objects, Readable, Stores};
 use rm_model::Verdict;
 use rm_val::{Oid, Value};
 use std::alloc::Global;
 
-#[tactic(auto, unfolding(crate::specs::Group::Stands, crate::specs::Group::source_cells, crate::specs::Group::source_alone, crate::specs::Group::source_together, crate::specs::Group::SourceReserves))]
+#[tactic(auto, unfolding(crate::specs::Group::Stands, crate::specs::Group::source_cells, crate::specs::Group::source_alone, crate::specs::Group::source_together))]
 impl Group for Sources {
-    ghost use Rattle.rm_sources.specs.Group.{Stands, IsAskable, AreFine, ArePrepared, IsStocked, AreReleased, source_cells, source_alone, source_together, SourceReserves, frames_given, last_given};
+    ghost use Rattle.rm_sources.specs.Group.{Stands, IsAskable, AreFine, source_cells, source_alone, source_together, frames_given, last_given};
     ghost use Rattle.rm_sources.specs.Laws.{all_finite};
 
     ghost stands = { Stands };
@@ -18,21 +18,13 @@ impl Group for Sources {
 
     ghost frames = { frames_given };
 
-    ghost stocked = { IsStocked };
-
     ghost cells = { source_cells };
 
     ghost alone = { source_alone };
 
     ghost together = { λ settings journal now readings. source_together settings journal };
 
-    ghost reserves = { λ settings. SourceReserves };
-
-    ghost accepts = { λ s now readings. AreFine s };
-
-    ghost prepared = { λ s now. ArePrepared s };
-
-    ghost released = { AreReleased };
+    ghost accepts = { λ s now. AreFine s };
 
     ghost finite = { all_finite };
 
@@ -55,6 +47,19 @@ impl Group for Sources {
     fn judge_rows<A: Assigns, L: Look>(&self, set: &A, now: u32, look: &L) -> Verdict {
         self.groups.judge_rows(set, now, look)
     }
+}
+
+#[tactic(auto, unfolding(crate::specs::Group::Stands, crate::specs::Group::SourceReserves))]
+impl Stores for Sources {
+    ghost use Rattle.rm_sources.specs.Group.{ArePrepared, IsStocked, AreReleased, SourceReserves};
+
+    ghost stocked = { IsStocked };
+
+    ghost reserves = { λ settings. SourceReserves };
+
+    ghost prepared = { λ s now. ArePrepared s };
+
+    ghost released = { AreReleased };
 
     fn prepare<A: Assigns, L: Look>(
         &mut self,

@@ -1,6 +1,6 @@
 // The reports beside the group of the hosts.
 use crate::reports::Reports;
-use rm_group::{Assigns, Beside, Denied, Group, Look};
+use rm_group::{Assigns, Beside, Denied, Group, Look, Stores};
 use rm_hosts::Hosts;
 use rm_model::Verdict;
 use std::alloc::Global;

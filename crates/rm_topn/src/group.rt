@@ -3,7 +3,7 @@
 use crate::control_columns::{CONTROL_OBJECTS, ControlColumns};
 use crate::reports::Reports;
 use crate::top_rows::{REPORT_OBJECTS, TopRows};
-use rm_group::{Assigns, Denied, Group, Look, Readable, TableObjects, Tables};
+use rm_group::{Assigns, Denied, Group, Look, Readable, Stores, TableObjects, Tables};
 use rm_model::Verdict;
 use rm_nested::judge_both;
 use rm_val::{Oid, Value};
@@ -15,10 +15,9 @@ const OBJECTS: &[TableObjects] = &[CONTROL_OBJECTS, REPORT_OBJECTS];
 impl Group for Reports {
     ghost use Rattle.rm_model.specs.ControlRows.{no_rows};
     ghost use Rattle.rm_model.specs.Judgement.{second_pass, rows_after};
-    ghost use Rattle.rm_model.specs.Reserves.{Reserves};
     ghost use Rattle.rm_topn.specs.Control.{top_control};
     ghost use Rattle.rm_topn.specs.Finite.{top_finite};
-    ghost use Rattle.rm_topn.specs.Group.{top_alone, AreFine, IsPrepared, IsReleased, IsStocked};
+    ghost use Rattle.rm_topn.specs.Group.{top_alone, AreFine};
     ghost use Rattle.rm_topn.specs.Held.{AreAskable};
     ghost use Rattle.rm_topn.specs.HostTop.{top_cells};
     ghost use Rattle.rm_topn.specs.Standing.{Stands};
@@ -31,21 +30,13 @@ impl Group for Reports {
 
     ghost frames = { λ s. s.frames };
 
-    ghost stocked = { IsStocked };
-
     ghost cells = { top_cells };
 
     ghost alone = { top_alone };
 
     ghost together = { λ settings journal now readings bindings place. second_pass top_control (rows_after top_control no_rows journal) bindings place };
 
-    ghost reserves = { λ settings journal bindings index. Reserves top_control (rows_after top_control no_rows journal) bindings index };
-
-    ghost accepts = { λ s now readings bindings. AreFine s bindings };
-
-    ghost prepared = { λ s now bindings. IsPrepared s bindings };
-
-    ghost released = { IsReleased };
+    ghost accepts = { λ s now bindings. AreFine s bindings };
 
     ghost finite = { top_finite };
 
@@ -68,6 +59,22 @@ impl Group for Reports {
     fn judge_rows<A: Assigns, L: Look>(&self, set: &A, _now: u32, _look: &L) -> Verdict {
         self.rows.judge_rows(set)
     }
+}
+
+impl Stores for Reports {
+    ghost use Rattle.rm_model.specs.ControlRows.{no_rows};
+    ghost use Rattle.rm_model.specs.Judgement.{rows_after};
+    ghost use Rattle.rm_model.specs.Reserves.{Reserves};
+    ghost use Rattle.rm_topn.specs.Control.{top_control};
+    ghost use Rattle.rm_topn.specs.Group.{IsPrepared, IsReleased, IsStocked};
+
+    ghost stocked = { IsStocked };
+
+    ghost reserves = { λ settings journal bindings index. Reserves top_control (rows_after top_control no_rows journal) bindings index };
+
+    ghost prepared = { λ s now bindings. IsPrepared s bindings };
+
+    ghost released = { IsReleased };
 
     fn prepare<A: Assigns, L: Look>(
         &mut self,

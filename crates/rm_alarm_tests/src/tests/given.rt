@@ -4,7 +4,7 @@ ghost use Rattle.rm_val.specs.Val.{val_of};
 ghost use Rattle.rm_val.specs.Spellable.{HasSpelling};
 
 use rm_alarm::Watched;
-use rm_group::{Assignments, Commits, Group, Look, Readable};
+use rm_group::{Assignments, Commits, Group, Look, Readable, Stores};
 use rm_model::{Reading, Verdict};
 use rm_val::{ErrorStatus, Oid, Value};
 use std::alloc::Global;

@@ -10,12 +10,11 @@ ghost use Rattle.rm_alarm_tests.specs.MadeUp.{made_up_entry, made_up_table};
 
 use rm_acts::Firing;
 use rm_group::{
-    Assigns, Commits, Denied, Group, Look, OneRow, Passing, Readable, RowIndexes, Steps, Unsampled,
-    instance_of, judge_read_only, next_name,
+    Assigns, Commits, Group, Look, OneRow, Passing, Readable, RowIndexes, Steps, Storeless,
+    Unsampled, instance_of, judge_read_only, next_name,
 };
 use rm_model::Verdict;
 use rm_val::{Oid, Value};
-use std::alloc::Global;
 
 const COLUMNS: [u32; 1] = [2];
 
@@ -78,21 +77,13 @@ impl Group for Passed {
 
     ghost frames = { λ s. s.frames };
 
-    ghost stocked = { λ s. Unit {0} };
-
     ghost cells = { λ settings journal now. cells_of (made_up_table true false (length (frames_in journal))) };
 
     ghost alone = { read_only (is_of_column made_up_entry (2 ∷ [])) };
 
     ghost together = { λ settings journal now readings bindings place. None };
 
-    ghost reserves = { λ settings journal bindings index. ⊥ };
-
-    ghost accepts = { λ s now readings bindings. Unit {0} };
-
-    ghost prepared = { λ s now bindings. Unit {0} };
-
-    ghost released = { λ s. Unit {0} };
+    ghost accepts = { λ s now bindings. Unit {0} };
 
     ghost finite = { λ settings journal now.
         one_row_finite (made_up_table true false (length (frames_in journal))) (0 ∷ [])
@@ -116,19 +107,9 @@ impl Group for Passed {
     fn judge_rows<A: Assigns, L: Look>(&self, _set: &A, _now: u32, _look: &L) -> Verdict {
         Verdict::Fine
     }
-
-    fn prepare<A: Assigns, L: Look>(
-        &mut self,
-        _alloc: Global,
-        _set: &A,
-        _now: u32,
-        _look: &L,
-    ) -> Result<(), Denied> {
-        Ok(())
-    }
-
-    fn discard(&mut self) {}
 }
+
+impl Storeless for Passed {}
 
 impl Commits for Passed {
     fn commit<A: Assigns>(&mut self, _set: &A, _now: u32) {}

@@ -4,7 +4,7 @@ ghost use Rattle.rm_collect.specs.Group.{IsStocked, frames_given, last_given};
 
 use rm_capture::Buffers;
 use rm_filter::Accepted;
-use rm_group::{Assignments, Commits, Group, Look, MOST_FRAMES, Passing, Readable};
+use rm_group::{Assignments, Commits, Group, Look, MOST_FRAMES, Passing, Readable, Stores};
 use rm_model::{Reading, Verdict};
 use rm_proto::facts;
 use rm_val::{ErrorStatus, Oid, Value};

@@ -4,7 +4,7 @@ ghost use Rattle.rm_collect.specs.Group.{IsStocked, frames_given, last_given};
 
 use crate::tests::made_up::Tally;
 use rm_collect::Collecting;
-use rm_group::{Assignments, Commits, Group, Look};
+use rm_group::{Assignments, Commits, Group, Look, Stores};
 use rm_model::{Reading, Verdict};
 use rm_val::{ErrorStatus, Oid, Value};
 use std::alloc::Global;

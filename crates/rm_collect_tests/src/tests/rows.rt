@@ -6,7 +6,7 @@ use crate::tests::given::{answer, name_of};
 use crate::tests::made_up::{STATUS, Tally};
 use rm_acts::Firing;
 use rm_collect::Collecting;
-use rm_group::{FallsDue, Group, MOST_FRAMES, Objects, Passing, Readable, Steps, Tables};
+use rm_group::{FallsDue, Group, MOST_FRAMES, Objects, Passing, Readable, Steps, Stores, Tables};
 use rm_proto::facts;
 use rm_val::{ErrorStatus, Oid, Value};
 use std::alloc::Global;

@@ -6,7 +6,7 @@ ghost use Rattle.rm_ether.specs.Group.{frames_given, last_given};
 
 use rm_columns::interface_name;
 use rm_ether::Ether;
-use rm_group::{Assignments, Commits, Group, Look};
+use rm_group::{Assignments, Commits, Group, Look, Stores};
 use rm_model::{Reading, Verdict};
 use rm_val::{ErrorStatus, Oid, Value};
 use std::alloc::Global;

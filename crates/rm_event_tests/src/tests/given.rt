@@ -5,7 +5,7 @@ ghost use Rattle.rm_val.specs.Spellable.{HasSpelling};
 ghost use Rattle.rm_event.specs.Group.{IsStocked};
 
 use rm_event::Events;
-use rm_group::{Assignments, Commits, Group, Look};
+use rm_group::{Assignments, Commits, Group, Look, Stores};
 use rm_model::{Reading, Verdict};
 use rm_val::{ErrorStatus, Oid, Value};
 use std::alloc::Global;

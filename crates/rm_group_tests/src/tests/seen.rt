@@ -9,12 +9,11 @@ ghost use Rattle.rm_model.proofs.Finite.{one_row_finite};
 ghost use Rattle.std.proofs.lemmas.Bool.{and_parts};
 
 use rm_group::{
-    Assigns, Commits, Denied, Group, Look, OneRow, RowIndexes, instance_of, judge_read_only,
+    Assigns, Commits, Group, Look, OneRow, RowIndexes, Storeless, instance_of, judge_read_only,
     next_name,
 };
 use rm_model::Verdict;
 use rm_val::{Oid, Value};
-use std::alloc::Global;
 
 /// The columns sysObjectID and sysContact, of which each is the number of frames.
 const COLUMNS: [u32; 2] = [2, 4];
@@ -67,19 +66,11 @@ impl Group for Seen {
 
     ghost frames = { λ s. s.frames };
 
-    ghost stocked = { λ s. Unit {0} };
-
     ghost alone = { read_only (is_of_column (1 ∷ 3 ∷ 6 ∷ 1 ∷ 2 ∷ 1 ∷ 1 ∷ []) (2 ∷ 4 ∷ [])) };
 
     ghost together = { λ settings journal now readings bindings place. None };
 
-    ghost reserves = { λ settings journal bindings index. ⊥ };
-
-    ghost accepts = { λ s now readings bindings. Unit {0} };
-
-    ghost prepared = { λ s now bindings. Unit {0} };
-
-    ghost released = { λ s. Unit {0} };
+    ghost accepts = { λ s now bindings. Unit {0} };
 
     ghost finite = { λ settings journal now. one_row_finite (record {
       entry = 1 ∷ 3 ∷ 6 ∷ 1 ∷ 2 ∷ 1 ∷ 1 ∷ [];
@@ -110,19 +101,9 @@ impl Group for Seen {
     fn judge_rows<A: Assigns, L: Look>(&self, _set: &A, _now: u32, _look: &L) -> Verdict {
         Verdict::Fine
     }
-
-    fn prepare<A: Assigns, L: Look>(
-        &mut self,
-        _alloc: Global,
-        _set: &A,
-        _now: u32,
-        _look: &L,
-    ) -> Result<(), Denied> {
-        Ok(())
-    }
-
-    fn discard(&mut self) {}
 }
+
+impl Storeless for Seen {}
 
 impl Commits for Seen {
     fn commit<A: Assigns>(&mut self, _set: &A, _now: u32) {}

@@ -3,7 +3,7 @@ ghost use Rattle.std.specs.Prelude.{◌≡◌, [], false, None};
 ghost use Rattle.std.proofs.lemmas.Float.{T_from_true};
 ghost use Rattle.rm_model.specs.Journal.{last_moment};
 
-use rm_group::{Assigns, Beside, Commits, Denied, Group, Look};
+use rm_group::{Assigns, Beside, Commits, Denied, Group, Look, Storeless, Stores};
 use rm_model::Verdict;
 use rm_val::{Oid, Value};
 use std::alloc::Global;
@@ -34,21 +34,13 @@ impl<K> Group for Stamp<K> {
 
     ghost frames = { λ s. 0 };
 
-    ghost stocked = { λ s. Unit {0} };
-
     ghost cells = { λ settings journal now name. None };
 
     ghost alone = { λ name value. None };
 
     ghost together = { λ settings journal now readings bindings place. None };
 
-    ghost reserves = { λ settings journal bindings index. ⊥ };
-
-    ghost accepts = { λ s now readings bindings. Unit {0} };
-
-    ghost prepared = { λ s now bindings. Unit {0} };
-
-    ghost released = { λ s. Unit {0} };
+    ghost accepts = { λ s now bindings. Unit {0} };
 
     ghost finite = { λ settings journal now. record { names = []; listed = λ name has. absurd (T_from_true false has) } };
 
@@ -67,19 +59,9 @@ impl<K> Group for Stamp<K> {
     fn judge_rows<A: Assigns, L: Look>(&self, _set: &A, _now: u32, _look: &L) -> Verdict {
         Verdict::Fine
     }
-
-    fn prepare<A: Assigns, L: Look>(
-        &mut self,
-        _alloc: Global,
-        _set: &A,
-        _now: u32,
-        _look: &L,
-    ) -> Result<(), Denied> {
-        Ok(())
-    }
-
-    fn discard(&mut self) {}
 }
+
+impl<K> Storeless for Stamp<K> {}
 
 impl Commits for Stamp<Set> {
     fn commit<A: Assigns>(&mut self, _set: &A, now: u32) {

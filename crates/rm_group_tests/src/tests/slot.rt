@@ -5,7 +5,7 @@ ghost use Rattle.rm_model.specs.Cells.{is_of_column};
 ghost use Rattle.rm_model.specs.Judgement.{unless};
 ghost use Rattle.std.proofs.lemmas.Float.{T_from_true};
 
-use rm_group::{Assigns, Commits, Denied, Group, Look, is_of_column};
+use rm_group::{Assigns, Commits, Denied, Group, Look, Stores, is_of_column};
 use rm_model::Verdict;
 use rm_val::{ErrorStatus, Oid, Value};
 use std::alloc::Global;
@@ -29,21 +29,13 @@ impl Group for Slot {
 
     ghost frames = { λ s. 0 };
 
-    ghost stocked = { λ s. Unit {0} };
-
     ghost cells = { λ settings journal now name. None };
 
     ghost alone = { λ name value. unless (not (is_of_column (1 ∷ 3 ∷ 6 ∷ 1 ∷ 2 ∷ 1 ∷ 1 ∷ []) (3 ∷ 5 ∷ []) name)) WrongValue };
 
     ghost together = { λ settings journal now readings bindings place. None };
 
-    ghost reserves = { λ settings journal bindings index. index ≡ length bindings };
-
-    ghost accepts = { λ s now readings bindings. Unit {0} };
-
-    ghost prepared = { λ s now bindings. Unit {0} };
-
-    ghost released = { λ s. s.held ≡ false };
+    ghost accepts = { λ s now bindings. Unit {0} };
 
     ghost finite = { λ settings journal now. record { names = []; listed = λ name has. absurd (T_from_true false has) } };
 
@@ -70,6 +62,16 @@ impl Group for Slot {
     fn judge_rows<A: Assigns, L: Look>(&self, _set: &A, _now: u32, _look: &L) -> Verdict {
         Verdict::Fine
     }
+}
+
+impl Stores for Slot {
+    ghost stocked = { λ s. Unit {0} };
+
+    ghost reserves = { λ settings journal bindings index. index ≡ length bindings };
+
+    ghost prepared = { λ s now bindings. Unit {0} };
+
+    ghost released = { λ s. s.held ≡ false };
 
     fn prepare<A: Assigns, L: Look>(
         &mut self,

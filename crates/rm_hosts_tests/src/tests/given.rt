@@ -2,7 +2,7 @@
 ghost use Rattle.std.specs.Prelude.{◌≡◌, ◌≤◌, [], ◌∷◌, None};
 ghost use Rattle.rm_collect.specs.Group.{IsStocked, frames_given, last_given};
 
-use rm_group::{Assignments, Commits, Group, Look};
+use rm_group::{Assignments, Commits, Group, Look, Stores};
 use rm_hosts::Hosts;
 use rm_model::{Reading, Verdict};
 use rm_val::{ErrorStatus, Oid, Value};

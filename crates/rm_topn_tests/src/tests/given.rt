@@ -3,7 +3,7 @@ ghost use Rattle.std.specs.Prelude.{◌≡◌, ◌≤◌, [], ◌∷◌, None, m
 ghost use Rattle.rm_collect.specs.Group.{IsStocked as IsHeldStocked, frames_given, last_given};
 ghost use Rattle.rm_topn.specs.Group.{IsStocked};
 
-use rm_group::{Assignments, Both, Commits, Group, Look};
+use rm_group::{Assignments, Both, Commits, Group, Look, Stores};
 use rm_hosts::Hosts;
 use rm_model::{Reading, Verdict};
 use rm_topn::Reports;

@@ -13,7 +13,7 @@ pub returns-in-None-clause-reply : goal.returns-in-None-clause-reply
 returns-in-None-clause-reply g c settings journal m stands later askable asked =
     let cells = g.G.Group.cells settings journal c.args.now in
     let together = g.G.Group.together settings journal c.args.now nothing_read in
-    let reserves = g.G.Group.reserves settings journal in
+    let reserves = g.G.Stores.reserves settings journal in
     let (whole, is_asked, asks) = c.requires.asked in
     let kind : c.args.request.now.message.kind ≡ Set = set_kind _ (ap is_request is_asked.told.kind ∙ asks) (sym c.in-None.ensures.built) in
     let same : m.kind ≡ Set = sym asked.told.kind ∙ kind in

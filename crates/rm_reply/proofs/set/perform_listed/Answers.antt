@@ -8,7 +8,7 @@ returns-clause-judged g c m asked settings journal stands later askable =
     let (after, stood, judges) = c.perform.ensures.judged settings journal stands later askable in (
       after,
       stood,
-      judges_asked (alone_among g.G.Objects.objects g.G.Group.alone) (g.G.Group.together settings journal c.args.now nothing_read) (g.G.Group.reserves settings journal) c.args.now journal m c.give.new.given c.perform.result after
+      judges_asked (alone_among g.G.Objects.objects g.G.Group.alone) (g.G.Group.together settings journal c.args.now nothing_read) (g.G.Stores.reserves settings journal) c.args.now journal m c.give.new.given c.perform.result after
           (c.give.ensures m asked) judges,
     )
 

@@ -13,7 +13,7 @@ returns-then-is_barred-clause-reply g c m asked settings journal stands later as
       stands,
       (
         returning m NoAccess 1,
-        no_access (alone_among g.G.Objects.objects g.G.Group.alone) (g.G.Group.together settings journal c.args.now nothing_read) (g.G.Group.reserves settings journal) c.args.may_write c.args.now journal m fits barred,
+        no_access (alone_among g.G.Objects.objects g.G.Group.alone) (g.G.Group.together settings journal c.args.now nothing_read) (g.G.Stores.reserves settings journal) c.args.may_write c.args.now journal m fits barred,
         c.telling.ensures m returned,
       ),
     )
@@ -26,4 +26,4 @@ returns-clause-reply g c m asked settings journal stands later askable =
     let alone = alone_among g.G.Objects.objects g.G.Group.alone in
     let together = g.G.Group.together settings journal c.args.now nothing_read in
     let (after, stood, judges) = c.perform_asked-verdict.ensures.judged m asked settings journal stands later askable in
-    (after, stood, (telling m verdict, told alone together (g.G.Group.reserves settings journal) c.args.may_write c.args.now journal m fits verdict after may judges, c.told.ensures m returned))
+    (after, stood, (telling m verdict, told alone together (g.G.Stores.reserves settings journal) c.args.may_write c.args.now journal m fits verdict after may judges, c.told.ensures m returned))

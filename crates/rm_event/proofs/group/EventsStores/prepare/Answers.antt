@@ -3,7 +3,7 @@ use Rattle.rm_event.specs.EventTable.{event_table}
 use Rattle.rm_event.specs.EventRows.{set_to}
 use Rattle.rm_event.specs.Standing.{Stands}
 use Rattle.rm_pool.proofs.RoomLemmas.{denied_after}
-use Rattle.rm_event.proofs.group.EventsGroup.prepare.Goals as goal
+use Rattle.rm_event.proofs.group.EventsStores.prepare.Goals as goal
 
 pub returns-clause-denied : goal.returns-clause-denied
 returns-clause-denied g c =

@@ -8,7 +8,7 @@ use Rattle.rm_collect.specs.Group.{Stands, AreFine}
 use Rattle.rm_collect.specs.Held.{Held}
 use Rattle.rm_collect.proofs.InRange.{first_fine}
 use Rattle.rm_collect.proofs.Standing.{still_stands}
-use Rattle.rm_collect.proofs.group.CollectingGroup.prepare.Goals as goal
+use Rattle.rm_collect.proofs.group.CollectingStores.prepare.Goals as goal
 
 pub make_room-requires : goal.make_room-requires
 make_room-requires g c =

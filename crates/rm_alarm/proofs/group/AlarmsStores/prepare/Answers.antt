@@ -1,4 +1,4 @@
-use Rattle.rm_alarm.proofs.group.AlarmsGroup.prepare.Goals as goal
+use Rattle.rm_alarm.proofs.group.AlarmsStores.prepare.Goals as goal
 
 pub returns-clause-stands : goal.returns-clause-stands
 returns-clause-stands g c settings journal is = record {

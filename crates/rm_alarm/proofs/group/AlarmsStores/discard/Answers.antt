@@ -1,4 +1,4 @@
-use Rattle.rm_alarm.proofs.group.AlarmsGroup.discard.Goals as goal
+use Rattle.rm_alarm.proofs.group.AlarmsStores.discard.Goals as goal
 
 pub returns-clause-stands : goal.returns-clause-stands
 returns-clause-stands c settings journal is = record {

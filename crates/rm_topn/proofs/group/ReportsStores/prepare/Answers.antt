@@ -3,7 +3,7 @@ use Rattle.rm_pool.proofs.RoomLemmas.{denied_after}
 use Rattle.rm_topn.specs.Control.{top_control}
 use Rattle.rm_topn.specs.ControlColumns.{set_to}
 use Rattle.rm_topn.specs.Standing.{Stands}
-use Rattle.rm_topn.proofs.group.ReportsGroup.prepare.Goals as goal
+use Rattle.rm_topn.proofs.group.ReportsStores.prepare.Goals as goal
 
 pub returns-clause-denied : goal.returns-clause-denied
 returns-clause-denied g c =
