@@ -1,10 +1,12 @@
 -- Octets of one length stand in the order of their numbers.
-use Rattle.std.proofs.Common.{◌≡◌, ℕ, suc, ◌+◌, ◌*◌, ◌<◌, List, [], ◌∷◌, length, slice_index, refl, sym, ap, ◌∙◌, arith}
+use Rattle.std.proofs.Common.{◌≡◌, ℕ, suc, ◌+◌, ◌*◌, ◌-◌, ◌^◌, ◌<◌, ◌≤◌, List, [], ◌∷◌, length, take, drop, slice_index, refl, ap, ◌∙◌, arith}
+use Rattle.std.proofs.lemmas.List.{take_all}
 use Rattle.std.specs.declared.cmp.Ordering.{Ordering}
 use Rattle.std.specs.declared.cmp.Ordering.TheVariants.{Less, Equal, Greater}
 use Rattle.std.specs.Ordering.{nat_cmp, ordering_then, MatchOrdering}
 use Rattle.std.specs.Cmp.{ranks, nat_cmp_is}
 use Rattle.std.specs.Cmp.Lexicographic.{slice_cmp}
+use Rattle.byteorder.specs.Endian.{big_number}
 use Rattle.rm_evicting.specs.Octets.{with_octets, number_of}
 
 then_equal : (o : Ordering) → ordering_then o Equal ≡ o
@@ -42,3 +44,14 @@ behind a b (x ∷ xs) (y ∷ ys) e p q =
 pub in_order : (xs ys : List ℕ) → length xs ≡ length ys → ((i : ℕ) → slice_index xs i < 256) → ((i : ℕ) → slice_index ys i < 256)
     → slice_cmp nat_cmp xs ys ≡ nat_cmp (number_of xs) (number_of ys)
 in_order = behind 0 0
+
+-- four octets may be read at once
+pub four_first : (xs : List ℕ) → 4 ≤ length xs → with_octets (big_number 4 xs) (take (length xs - 4) (drop 4 xs)) ≡ number_of xs
+four_first [] h = absurd (omega (arith, h))
+four_first (a ∷ []) h = absurd (omega (arith, h))
+four_first (a ∷ b ∷ []) h = absurd (omega (arith, h))
+four_first (a ∷ b ∷ c ∷ []) h = absurd (omega (arith, h))
+four_first (a ∷ b ∷ c ∷ d ∷ rest) h = ap (with_octets (big_number 4 (a ∷ b ∷ c ∷ d ∷ rest))) (take_all (length (a ∷ b ∷ c ∷ d ∷ rest) - 4) rest (omega arith)) ∙ ap (λ n. with_octets n rest) (same a b c d)
+  where
+    same : (a b c d : ℕ) → a * 256 ^ 3 + (b * 256 ^ 2 + (c * 256 ^ 1 + (d * 256 ^ 0 + 0))) ≡ (((0 * 256 + a) * 256 + b) * 256 + c) * 256 + d
+    same a b c d = omega arith

@@ -3,21 +3,34 @@
 ghost use Rattle.std.specs.Prelude.{◌≡◌, ℕ, ◌<◌, ◌≤◌, length, slice_index};
 ghost use Rattle.std.specs.Ordering.{nat_cmp};
 ghost use Rattle.std.specs.Cmp.Lexicographic.{slice_cmp};
-ghost use Rattle.rm_evicting.specs.Octets.{number_of as number_in};
+ghost use Rattle.rm_evicting.specs.Octets.{with_octets, number_of as number_in};
 
+use byteorder::{BigEndian, ByteOrder};
 use std::cmp::Ordering;
 
-// The number that a few octets are, the first one highest.
+// What a number becomes where a few octets are put behind it.
+fn with_octets(front: u32, octets: &[u8]) -> u64
+    requires { length octets.now ≤ 4 }
+    ensures { result ≡ with_octets front octets.now }
+{
+    let mut number = u64::from(front);
+    for octet in octets {
+        number = number * 256 + u64::from(*octet);
+    }
+    number
+}
+
+// The number that a few octets are, the first one highest. The first four of them are read at once.
 fn number_of(octets: &[u8]) -> u64
     requires { length octets.now ≤ 8 }
     ensures value { result ≡ number_in octets.now }
     ensures octets { (place : ℕ) → slice_index octets.now place < 256 }
 {
-    let mut number = 0;
-    for octet in octets {
-        number = number * 256 + u64::from(*octet);
+    if octets.len() < 4 {
+        with_octets(0, octets)
+    } else {
+        with_octets(BigEndian::read_u32(octets), &octets[4..])
     }
-    number
 }
 
 /// The order of octets, of which there are as many on both sides. It is told at once where they are no more than those of a u64.
