@@ -1,3 +1,2 @@
 pub mod Counts
-pub mod HostRow
 pub mod Gains

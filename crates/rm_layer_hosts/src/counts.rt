@@ -1,7 +1,9 @@
 // What is counted of hosts.
 
 ghost use Rattle.std.specs.Prelude.{◌≡◌};
-ghost use Rattle.rm_layer_hosts.specs.Counts.{no_traffic, no_counts, more_traffic, plus};
+ghost use Rattle.rm_layer_hosts.specs.Counts.{no_traffic, more_traffic, host_tally};
+
+use rm_upper::Counts;
 
 /// Packets and octets, in and out.
 #[derive(Clone, Copy, PartialEq, Eq, Debug)]
@@ -50,24 +52,32 @@ pub struct NetworkCounts {
     pub out_non_unicast_pkts: u64,
 }
 
-impl NetworkCounts {
-    /// Nothing.
-    pub fn none() -> NetworkCounts
-        ensures { result ≡ no_counts }
-    {
+#[tactic(auto, unfolding(crate::specs::Counts::host_tally))]
+impl Counts for NetworkCounts {
+    type Application = Traffic;
+
+    ghost tally = { host_tally };
+
+    fn none() -> NetworkCounts {
         NetworkCounts {
             traffic: Traffic::none(),
             out_non_unicast_pkts: 0,
         }
     }
 
-    /// Adds a gain, modulo 2^64.
-    pub fn add(&mut self, gain: &NetworkCounts)
-        ensures { self.new ≡ plus self.old gain.now }
-    {
+    // Sums go on modulo 2^64.
+    fn add(&mut self, gain: &NetworkCounts) {
         self.traffic.add(&gain.traffic);
         self.out_non_unicast_pkts = self
             .out_non_unicast_pkts
             .wrapping_add(gain.out_non_unicast_pkts);
+    }
+
+    fn no_application() -> Traffic {
+        Traffic::none()
+    }
+
+    fn add_to(application: &mut Traffic, gain: &NetworkCounts) {
+        application.add(&gain.traffic);
     }
 }

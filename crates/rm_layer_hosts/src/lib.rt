@@ -9,4 +9,3 @@ mod host_row;
 pub use counts::{NetworkCounts, Traffic};
 pub use frames::{Named, pass};
 pub use gains::{received, sent};
-pub use host_row::HostRow;

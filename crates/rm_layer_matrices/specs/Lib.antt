@@ -1,4 +1,3 @@
 pub mod AddressPairs
 pub mod PairLaws
 pub mod PairCounts
-pub mod PairRow

@@ -7,4 +7,3 @@ mod pair_row;
 
 pub use address_pair::AddressPair;
 pub use pair_counts::PairCounts;
-pub use pair_row::PairRow;

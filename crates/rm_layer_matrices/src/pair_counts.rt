@@ -1,9 +1,10 @@
 // What is counted of pairs of addresses.
 
 ghost use Rattle.std.specs.Prelude.{◌≡◌};
-ghost use Rattle.rm_layer_matrices.specs.PairCounts.{carried, no_counts, plus};
+ghost use Rattle.rm_layer_matrices.specs.PairCounts.{carried, pair_tally};
 
 use rm_proto::Facts;
+use rm_upper::Counts;
 
 /// What a row of nlMatrixSDTable counts, and one of nlMatrixDSTable, alMatrixSDTable and alMatrixDSTable: packets and octets.
 #[derive(Clone, Copy, PartialEq, Eq, Debug)]
@@ -15,21 +16,6 @@ pub struct PairCounts {
 }
 
 impl PairCounts {
-    /// Nothing.
-    pub fn none() -> PairCounts
-        ensures { result ≡ no_counts }
-    {
-        PairCounts { pkts: 0, octets: 0 }
-    }
-
-    /// Adds a gain, modulo 2^64.
-    pub fn add(&mut self, gain: &PairCounts)
-        ensures { self.new ≡ plus self.old gain.now }
-    {
-        self.pkts = self.pkts.wrapping_add(gain.pkts);
-        self.octets = self.octets.wrapping_add(gain.octets);
-    }
-
     /// What a good frame adds to the counts of its pair (RFC 2021, nlMatrixSDEntry).
     pub fn carried(facts: &Facts) -> PairCounts
         ensures { result ≡ carried facts.now }
@@ -38,5 +24,30 @@ impl PairCounts {
             pkts: 1,
             octets: u64::from(facts.length),
         }
+    }
+}
+
+#[tactic(auto, unfolding(crate::specs::PairCounts::pair_tally))]
+impl Counts for PairCounts {
+    type Application = PairCounts;
+
+    ghost tally = { pair_tally };
+
+    fn none() -> PairCounts {
+        PairCounts { pkts: 0, octets: 0 }
+    }
+
+    // Sums go on modulo 2^64.
+    fn add(&mut self, gain: &PairCounts) {
+        self.pkts = self.pkts.wrapping_add(gain.pkts);
+        self.octets = self.octets.wrapping_add(gain.octets);
+    }
+
+    fn no_application() -> PairCounts {
+        Self::none()
+    }
+
+    fn add_to(application: &mut PairCounts, gain: &PairCounts) {
+        application.add(gain);
     }
 }

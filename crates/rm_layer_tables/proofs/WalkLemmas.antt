@@ -14,7 +14,7 @@ use Rattle.rm_rows.specs.Table.{row_of}
 use Rattle.rm_layers.specs.Applications.{Application, AreApart, application_at}
 use Rattle.rm_layers.specs.Marks.{StandsAt, IsAboveAt, IsAboveName, IsAboveApplication, IsNextInstance, pair_cmp}
 use Rattle.rm_upper.specs.Cells.{counted, counted_by, network_in, application_in_row}
-use Rattle.rm_upper.specs.Kept.{NetworkRow}
+use Rattle.rm_upper.specs.declared.network_row.NetworkRow.{NetworkRow}
 use Rattle.rm_upper.specs.LayerTable.{LayerTable}
 use Rattle.rm_upper.specs.Shown.{protocols, shown_all}
 use Rattle.rm_upper.specs.Sound.{AreSound}

@@ -2,6 +2,7 @@
 ghost use Rattle.std.specs.Prelude.{◌≡◌, ℕ, ◌<◌, ◌∷◌};
 ghost use Rattle.rm_model.specs.Counting.{Counting};
 ghost use Rattle.rm_model.specs.Journal.{Assignments, Journal, assigns};
+ghost use Rattle.rm_layers.specs.Applications.{AreApart};
 ghost use Rattle.rm_upper.specs.Shown.{protocols};
 ghost use Rattle.rm_layer_events.specs.Side.{next_stamp};
 ghost use Rattle.rm_layer_slots.specs.On.{is_ip_on};
@@ -12,14 +13,15 @@ ghost use Rattle.rm_layer_tables.specs.Standing.{AreOn, IsHeld, HasBegun};
 use rm_evicting::Key;
 use rm_upper::{LayerCounts, LayerTable};
 
-/// Turns ip on or off, and the protocols above ip, by those that are on now in slots. A protocol that is on still has the slot that it had,
-/// and each other one is on from a stamp, which is that of the next frame.
+/// Turns ip on or off, and the protocols above ip, by those that are on now, each in one slot. A protocol that is on still has the slot
+/// that it had, and each other one is on from a stamp, which is that of the next frame.
 pub(crate) fn turn<K: Key, N: LayerCounts>(
     table: &mut LayerTable<K, N>,
     on: bool,
     slots: &[Option<u32>; 32],
     stamp: u64,
 )
+    requires apart { AreApart slots.now }
     ensures on { table.new.on ≡ on }
     ensures slots { protocols table.new.layered.slots ≡ slots.now }
     ensures room { table.new.layered.table.room ≡ table.old.layered.table.room }

@@ -1,4 +1,7 @@
 pub mod KeptLemmas
+pub mod FilledLemmas
+pub mod SlotLemmas
+pub mod PathLemmas
 pub mod CreditLemmas
 pub mod SeenLemmas
 pub mod SeenTables

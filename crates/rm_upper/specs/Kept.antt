@@ -3,13 +3,8 @@ use Rattle.std.specs.Prelude.{ℕ, ◌+◌, Bool, true, false, cond, ◌&&◌, L
 use Rattle.std.specs.List.{list_any}
 use Rattle.rm_upper.specs.declared.slots.Slot.{Slot}
 use Rattle.rm_upper.specs.declared.slots.KeptApplication.{KeptApplication}
+pub use Rattle.rm_upper.specs.declared.network_row.NetworkRow.{NetworkRow}
 use Rattle.rm_upper.specs.Tally.{Tally}
-
--- what is kept of a network row: the tick of its first contribution, its sums, and in each slot an application row or none
-pub record NetworkRow (N A : Type 0) : Type 0 where
-  pub created : Option ℕ
-  pub sums : N
-  pub applications : List (Option (KeptApplication A))
 
 module _ {N A : Type 0} (tally : Tally N A) where
   -- the one that a contribution makes

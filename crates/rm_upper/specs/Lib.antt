@@ -1,5 +1,6 @@
 pub mod Tally
 pub mod Kept
+pub mod Filled
 pub mod Shown
 pub mod Standing
 pub mod Sound

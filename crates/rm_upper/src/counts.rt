@@ -3,7 +3,8 @@
 ghost use Rattle.std.specs.Prelude.{◌≡◌, ◌≤◌, length};
 ghost use Rattle.rm_upper.specs.Tally.{Tally};
 ghost use Rattle.rm_upper.specs.Kept.{NetworkRow, is_among, all_made};
-ghost use Rattle.rm_upper.specs.Shown.{blank_row, gained_value};
+ghost use Rattle.rm_layers.specs.Applications.{AreApart};
+ghost use Rattle.rm_upper.specs.Shown.{blank_row, gained_value, protocols};
 ghost use Rattle.rm_upper.specs.Cells.{counted_by};
 
 use crate::slots::{KeptApplication, Slot};
@@ -18,6 +19,14 @@ pub trait Counts: Copy {
     /// What rows make of gains.
     ghost tally: { Tally Self Self.Application };
 
+    /// What a network row counts that was just entered.
+    fn none() -> Self
+        ensures { result ≡ tally.blank };
+
+    /// Adds a gain to it.
+    fn add(&mut self, gain: &Self)
+        ensures { self.new ≡ tally.add self.old gain.now };
+
     /// What an application row counts before its first contribution.
     fn no_application() -> Self::Application
         ensures { result ≡ tally.none };
@@ -29,14 +38,14 @@ pub trait Counts: Copy {
 
 /// Counts that are kept in network rows.
 pub trait LayerCounts: Counts {
-    /// What is kept of a network row: the tick of its first contribution, in hundredths of a second, what its contributions add up to, and
-    /// in each slot the application row of the protocol there, if it has one.
+    /// What is kept of a network row: a `NetworkRow`, named here so that its size is known where it is made.
     type Row: Blank;
 
     /// How contracts see what is kept.
     ghost seen: { Self.Row → NetworkRow Self Self.Application };
 
-    /// A network row takes a contribution, which comes to the slots of the protocols on its path. Tells how many application rows it makes.
+    /// A network row takes a contribution, which comes to the slots of the protocols on its path; no protocol has two. Tells how many
+    /// application rows it makes.
     fn gain(
         row: &mut Self::Row,
         slots: &[Option<Slot>; 32],
@@ -45,6 +54,7 @@ pub trait LayerCounts: Counts {
         tick: u32,
         gain: &Self,
     ) -> u32
+        requires apart { AreApart (protocols slots.now) }
         ensures value { seen row.new ≡ gained_value Self.tally slots.now path.now stamp tick (seen row.old) gain.now }
         ensures made { result ≡ all_made (is_among path.now) slots.now (seen row.old).applications }
         ensures few { result ≤ 32 };

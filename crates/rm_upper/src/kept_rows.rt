@@ -30,7 +30,8 @@ impl<K: Key, N: LayerCounts> Model for KeptRows<K, N> {
 
 impl<K: Key, N: LayerCounts> KeptRows<K, N> {
     ghost use Rattle.rm_rows.specs.Table.{IsNextKey, IsNextMark, keys_of, pair_copied, key_at, row_of};
-    ghost use Rattle.rm_upper.specs.Shown.{blank_row, gained_value, made_in, applications_of};
+    ghost use Rattle.rm_layers.specs.Applications.{AreApart};
+    ghost use Rattle.rm_upper.specs.Shown.{blank_row, gained_value, made_in, applications_of, protocols};
     ghost use Rattle.rm_upper.specs.Cells.{network_in};
 
     /// No rows, and memory for so many. NoMemory where there is none.
@@ -54,7 +55,7 @@ impl<K: Key, N: LayerCounts> KeptRows<K, N> {
         matches!(self.rows.touch(key, stamp, tick), Touch::Held)
     }
 
-    /// A contribution comes to the row of a key, where there is one. Tells how many application rows it makes.
+    /// A contribution comes to the row of a key, where there is one; no protocol has two slots. Tells how many application rows it makes.
     pub(crate) fn gain(
         &mut self,
         key: &K,
@@ -64,6 +65,7 @@ impl<K: Key, N: LayerCounts> KeptRows<K, N> {
         tick: u32,
         gain: &N,
     ) -> u32
+        requires apart { AreApart (protocols slots.now) }
         ensures rows { self.new ≡ record { room = self.old.room; capacity = self.old.capacity; rows = credited K.eq (gained_value N.tally slots.now path.now stamp tick) key.now gain.now self.old.rows } }
         ensures made { result ≡ made_in K.eq slots.now path.now key.now self.old.rows }
         ensures few { result ≤ 32 }

@@ -35,6 +35,7 @@ impl<K: Key, N: LayerCounts> Model for LayerTable<K, N> {
 }
 
 impl<K: Key, N: LayerCounts> LayerTable<K, N> {
+    ghost use Rattle.rm_layers.specs.Applications.{AreApart};
     ghost use Rattle.rm_upper.specs.Shown.{protocols, Agrees};
     ghost use Rattle.rm_upper.specs.Standing.{StandsFor};
 
@@ -98,9 +99,10 @@ impl<K: Key, N: LayerCounts> LayerTable<K, N> {
         self.on = on;
     }
 
-    /// Turns protocols on and off, by the one above ip that is on in each slot now. Those that are new are on from a stamp, which is above
-    /// those of all references so far.
+    /// Turns protocols on and off, by the one above ip that is on in each slot now; no protocol has two slots. Those that are new are on
+    /// from a stamp, which is above those of all references so far.
     pub fn retune(&mut self, now: &[Option<u32>; 32], stamp: u64)
+        requires apart { AreApart now.now }
         ensures on { self.new.on ≡ self.old.on }
         ensures slots { protocols self.new.layered.slots ≡ now.now }
         ensures capacity { self.new.layered.table.capacity ≡ self.old.layered.table.capacity }
@@ -114,10 +116,11 @@ impl<K: Key, N: LayerCounts> LayerTable<K, N> {
     }
 
     /// Begins anew, as the control row becomes active, with a capacity within the room that was reserved, with the protocol above ip that
-    /// is on in each slot, and with ip on or off.
+    /// is on in each slot, of which no protocol has two, and with ip on or off.
     pub fn begin(&mut self, capacity: usize, now: &[Option<u32>; 32], on: bool)
         requires some { 1 ≤ capacity }
         requires within { capacity ≤ self.old.layered.table.room }
+        requires apart { AreApart now.now }
         ensures on { self.new.on ≡ on }
         ensures slots { protocols self.new.layered.slots ≡ now.now }
         ensures capacity { self.new.layered.table.capacity ≡ capacity }

@@ -2,14 +2,17 @@
 //! within each those of the protocols above ip.
 #![tactic(auto)]
 
+mod applications;
 mod counts;
 mod kept_rows;
 mod layer_table;
+mod network_row;
 mod network_rows;
 mod slots;
 mod walk;
 
 pub use counts::{Counted, Counts, LayerCounts};
 pub use layer_table::LayerTable;
+pub use network_row::NetworkRow;
 pub use network_rows::NetworkRows;
-pub use slots::{KeptApplication, Slot, take_all};
+pub use slots::{KeptApplication, Slot};

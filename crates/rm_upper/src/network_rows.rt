@@ -28,15 +28,18 @@ impl<K: Key, N: LayerCounts> Model for NetworkRows<K, N> {
     ghost use Rattle.std.specs.Prelude.{◌<◌};
     ghost use Rattle.rm_upper.specs.Standing.{Layered};
     ghost use Rattle.rm_upper.specs.Sound.{AreSound};
+    ghost use Rattle.rm_layers.specs.Applications.{AreApart};
+    ghost use Rattle.rm_upper.specs.Shown.{protocols};
 
     ghost Value = { Layered K N N.Application };
 
     ghost view = { λ s. record { table = s.rows; slots = s.slots; network_inserts = s.network_inserts; application_inserts = s.application_inserts } };
 
-    ghost invariant = { λ s. (0 < s.rows.capacity) × AreSound K.eq s.rows.rows };
+    ghost invariant = { λ s. (0 < s.rows.capacity) × AreSound K.eq s.rows.rows × AreApart (protocols s.slots) };
 }
 
 impl<K: Key, N: LayerCounts> NetworkRows<K, N> {
+    ghost use Rattle.rm_layers.specs.Applications.{AreApart};
     ghost use Rattle.rm_upper.specs.Shown.{protocols, Agrees};
     ghost use Rattle.rm_upper.specs.Standing.{StandsFor, referred, slots_after};
     ghost use Rattle.rm_upper.specs.Sound.{AreSound};
@@ -84,9 +87,10 @@ impl<K: Key, N: LayerCounts> NetworkRows<K, N> {
         self.application_inserts += made as u64;
     }
 
-    /// Turns protocols on and off, by the one above ip that is on in each slot now. Those that are new are on from a stamp, which is above
-    /// those of all references so far.
+    /// Turns protocols on and off, by the one above ip that is on in each slot now; no protocol has two slots. Those that are new are on
+    /// from a stamp, which is above those of all references so far.
     pub fn retune(&mut self, now: &[Option<u32>; 32], stamp: u64)
+        requires apart { AreApart now.now }
         ensures kept { self.new ≡ record { table = self.old.table; slots = slots_after stamp self.old.slots now.now; network_inserts = self.old.network_inserts; application_inserts = self.old.application_inserts } }
         ensures slots { protocols self.new.slots ≡ now.now }
         ensures stands { (turnings earlier : List (Event K N)) → AreUpTo stamp earlier → AreTuned (protocols self.old.slots) earlier → AreTuned now.now (turnings ++ earlier)
@@ -104,10 +108,11 @@ impl<K: Key, N: LayerCounts> NetworkRows<K, N> {
     }
 
     /// Begins anew, as the control row becomes active, with a capacity within the room that was reserved, and with the protocol above ip
-    /// that is on in each slot.
+    /// that is on in each slot; no protocol has two.
     pub fn begin(&mut self, capacity: usize, now: &[Option<u32>; 32])
         requires some { 1 ≤ capacity }
         requires within { capacity ≤ self.old.table.room }
+        requires apart { AreApart now.now }
         ensures kept { self.new ≡ record { table = record { room = self.old.table.room; capacity = capacity; rows = [] }; slots = slots_after 0 (replicate 32 None) now.now; network_inserts = 0; application_inserts = 0 } }
         ensures slots { protocols self.new.slots ≡ now.now }
         ensures stands { (earlier : List (Event K N)) → StandsFor N.tally K.eq (begins ∷ earlier) self.new }

@@ -1,8 +1,10 @@
-// Application rows in slots. A row from before its protocol was last turned on is none.
+// Slots of protocols, and the application row in one. A row from before its protocol was last turned on is none.
 
-ghost use Rattle.std.specs.Prelude.{◌≡◌, ◌≤◌, length};
+ghost use Rattle.std.specs.Prelude.{◌≡◌, ◌<◌, true, false, length, slice_index_or, IfSome, IfNone, None};
+ghost use Rattle.rm_layers.specs.Applications.{is_in, has_slot};
+ghost use Rattle.rm_upper.specs.Shown.{protocol_of, protocols};
 ghost use Rattle.rm_upper.specs.Standing.{slot_after, slots_after};
-ghost use Rattle.rm_upper.specs.Kept.{is_among, first, taken, is_made, kept_with, makes_here, all_with, all_made};
+ghost use Rattle.rm_upper.specs.Kept.{first, taken, is_made};
 
 use crate::counts::Counts;
 
@@ -29,8 +31,8 @@ pub struct KeptApplication<A> {
     pub sums: A,
 }
 
-// Whether a contribution to a slot makes an application row there.
-fn makes<A: Copy>(slot: &Slot, kept: &Option<KeptApplication<A>>) -> bool
+/// Whether a contribution to a slot makes an application row there.
+pub(crate) fn makes<A: Copy>(slot: &Slot, kept: &Option<KeptApplication<A>>) -> bool
     ensures { result ≡ is_made slot.now kept.now }
 {
     match kept {
@@ -53,8 +55,8 @@ fn made<N: Counts>(stamp: u64, tick: u32, gain: &N) -> KeptApplication<N::Applic
     }
 }
 
-// The application row of a slot with one contribution more.
-fn take<N: Counts>(
+/// The application row of a slot with one contribution more.
+pub(crate) fn take<N: Counts>(
     slot: &Slot,
     kept: &Option<KeptApplication<N::Application>>,
     stamp: u64,
@@ -77,57 +79,27 @@ fn take<N: Counts>(
     }
 }
 
-// A contribution comes to a slot, where its protocol is on the path. Tells whether it makes an application row there.
-fn take_at<N: Counts>(
-    slot: &Option<Slot>,
-    kept: &mut Option<KeptApplication<N::Application>>,
-    path: &[u32],
-    stamp: u64,
-    tick: u32,
-    gain: &N,
-) -> bool
-    ensures kept { kept.new ≡ kept_with N.tally (is_among path.now) stamp tick gain.now slot.now kept.old }
-    ensures made { result ≡ makes_here (is_among path.now) slot.now kept.old }
+/// Whether a protocol is in a slot.
+pub(crate) fn is_in(protocol: u32, slot: &Option<Slot>) -> bool
+    ensures { result ≡ is_in protocol (protocol_of slot.now) }
 {
     match slot {
-        Some(slot) if path.contains(&slot.protocol) => {
-            let made = makes(slot, kept);
-            *kept = Some(take(slot, kept, stamp, tick, gain));
-            made
-        }
-        _ => false,
+        None => false,
+        Some(slot) => protocol == slot.protocol,
     }
 }
 
-/// A contribution comes to the slots of the protocols on its path. Tells how many application rows it makes.
-pub fn take_all<N: Counts>(
-    applications: &mut [Option<KeptApplication<N::Application>>],
-    slots: &[Option<Slot>],
-    path: &[u32],
-    stamp: u64,
-    tick: u32,
-    gain: &N,
-) -> u32
-    requires same { length slots.now ≡ length applications.old }
-    requires few { length applications.old ≤ 32 }
-    ensures applications { applications.new ≡ all_with N.tally (is_among path.now) stamp tick gain.now slots.now applications.old }
-    ensures made { result ≡ all_made (is_among path.now) slots.now applications.old }
-    ensures few { result ≤ 32 }
+/// The place of a slot with a protocol. None where there is none.
+pub(crate) fn place_of(slots: &[Option<Slot>], protocol: u32) -> Option<usize>
+    ensures found { IfSome result (λ place. (place < length slots.now) × (is_in protocol (protocol_of (slice_index_or slots.now place None)) ≡ true)) }
+    ensures none { IfNone result (has_slot protocol (protocols slots.now) ≡ false) }
 {
-    let mut made = 0;
-    for place in 0..applications.len() {
-        if take_at(
-            &slots[place],
-            &mut applications[place],
-            path,
-            stamp,
-            tick,
-            gain,
-        ) {
-            made += 1;
+    for place in 0..slots.len() {
+        if is_in(protocol, &slots[place]) {
+            return Some(place);
         }
     }
-    made
+    None
 }
 
 // What a slot has after a change: it stays as it is where its protocol does, and another protocol is on from this stamp.

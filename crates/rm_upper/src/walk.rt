@@ -3,13 +3,13 @@
 ghost use Rattle.std.specs.Prelude.{◌≡◌, ℕ, ◌<◌, ◌≤◌, ◌^◌, length, IfSome, is_some};
 ghost use Rattle.std.specs.Ordering.{nat_cmp};
 ghost use Rattle.rm_layers.specs.Marks.{IsLeast, IsAboveName};
-ghost use Rattle.rm_layers.specs.Applications.{used, is_in, application_at};
+ghost use Rattle.rm_layers.specs.Applications.{used, application_at};
 ghost use Rattle.rm_upper.specs.Walk.{IsMarked, marked_at, better};
-ghost use Rattle.rm_upper.specs.Shown.{shown, shown_all, protocol_of, protocols};
+ghost use Rattle.rm_upper.specs.Shown.{shown, shown_all, protocols};
 ghost use Rattle.rm_upper.specs.Cells.{counted};
 
 use crate::counts::Counted;
-use crate::slots::{KeptApplication, Slot};
+use crate::slots::{KeptApplication, Slot, is_in};
 
 // The protocol of a slot whose application row stands at a mark.
 fn marked<A: Copy>(slot: &Option<Slot>, kept: &Option<KeptApplication<A>>, mark: u64) -> Option<u32>
@@ -95,16 +95,6 @@ pub(crate) fn count_applications<A: Copy>(
         }
     }
     count
-}
-
-// Whether a protocol is in a slot.
-fn is_in(protocol: u32, slot: &Option<Slot>) -> bool
-    ensures { result ≡ is_in protocol (protocol_of slot.now) }
-{
-    match slot {
-        None => false,
-        Some(slot) => protocol == slot.protocol,
-    }
 }
 
 // What the application row in a slot shows.

@@ -1,7 +1,7 @@
-ghost use Rattle.std.specs.Prelude.{◌≡◌, ◌+◌, ◌%◌, ◌<◌, ◌≤◌, ◌^◌, replicate, None, refl};
+ghost use Rattle.std.specs.Prelude.{◌≡◌, ◌+◌, ◌%◌, ◌<◌, ◌≤◌, ◌^◌, refl};
+ghost use Rattle.rm_layers.specs.Applications.{AreApart};
 
-use rm_evicting::Blank;
-use rm_upper::{Counted, Counts, KeptApplication, LayerCounts, LayerTable, Slot, take_all};
+use rm_upper::{Counted, Counts, KeptApplication, LayerCounts, LayerTable, NetworkRow, Slot};
 use std::test::*;
 
 const UDP: u32 = 6;
@@ -21,26 +21,6 @@ struct Octets {
     octets: u64,
 }
 
-// What they keep of a network row.
-#[derive(Clone, Copy)]
-struct FramesRow {
-    created: Option<u32>,
-    frames: Frames,
-    applications: [Option<KeptApplication<Octets>>; 32],
-}
-
-impl Blank for FramesRow {
-    ghost blank_value = { record { created = None; frames = record { pkts = 0; octets = 0 }; applications = replicate 32 None } };
-
-    fn blank() -> FramesRow {
-        FramesRow {
-            created: None,
-            frames: Frames { pkts: 0, octets: 0 },
-            applications: [None; 32],
-        }
-    }
-}
-
 impl Counts for Frames {
     type Application = Octets;
 
@@ -50,6 +30,15 @@ impl Counts for Frames {
       none = record { octets = 0 };
       more = λ sums gain. record { octets = (sums.octets + gain.octets) % 2 ^ 64 };
     } };
+
+    fn none() -> Frames {
+        Frames { pkts: 0, octets: 0 }
+    }
+
+    fn add(&mut self, gain: &Frames) {
+        self.pkts = self.pkts.wrapping_add(gain.pkts);
+        self.octets = self.octets.wrapping_add(gain.octets);
+    }
 
     fn no_application() -> Octets {
         Octets { octets: 0 }
@@ -61,39 +50,27 @@ impl Counts for Frames {
 }
 
 impl LayerCounts for Frames {
-    type Row = FramesRow;
+    type Row = NetworkRow<Frames, Octets>;
 
-    ghost seen = { λ row. record { created = row.created; sums = row.frames; applications = row.applications } };
+    ghost seen = { λ row. row };
 
     fn gain(
-        row: &mut FramesRow,
+        row: &mut NetworkRow<Frames, Octets>,
         slots: &[Option<Slot>; 32],
         path: &[u32],
         stamp: u64,
         tick: u32,
         gain: &Frames,
     ) -> u32 {
-        if row.created.is_none() {
-            row.created = Some(tick);
-        }
-        row.frames.pkts = row.frames.pkts.wrapping_add(gain.pkts);
-        row.frames.octets = row.frames.octets.wrapping_add(gain.octets);
-        take_all(&mut row.applications, slots, path, stamp, tick, gain)
+        row.gain(slots, path, stamp, tick, gain)
     }
 
-    fn network(row: &FramesRow, tick: u32) -> Option<Counted<Frames>> {
-        match row.created {
-            Some(created) => Some(Counted {
-                created,
-                tick,
-                sums: row.frames,
-            }),
-            None => None,
-        }
+    fn network(row: &NetworkRow<Frames, Octets>, tick: u32) -> Option<Counted<Frames>> {
+        row.shown(tick)
     }
 
-    fn applications(row: &FramesRow) -> &[Option<KeptApplication<Octets>>] {
-        &row.applications
+    fn applications(row: &NetworkRow<Frames, Octets>) -> &[Option<KeptApplication<Octets>>] {
+        row.applications()
     }
 
     ghost starts = { refl };
@@ -122,7 +99,9 @@ fn frame(table: &mut LayerTable<[u8; 4], Frames>, n: u64, tick: u32, ends: (u8, 
 }
 
 // Udp and domain in slots.
-fn both() -> [Option<u32>; 32] {
+fn both() -> [Option<u32>; 32]
+    ensures { AreApart result }
+{
     let mut slots = [None; 32];
     slots[5] = Some(UDP);
     slots[3] = Some(DOMAIN);

@@ -1,7 +1,16 @@
-use Rattle.std.proofs.Common.{replicate, None, sym}
+use Rattle.std.proofs.Common.{rules, ◌≡◌, ◌<◌, replicate, None, sym, subst}
 use Rattle.rm_evicting.proofs.Keys.{exact_key}
+use Rattle.rm_layers.specs.Applications.{AreApart}
+use Rattle.rm_upper.specs.Shown.{protocols}
+use Rattle.rm_upper.specs.Sound.{AreSound}
 use Rattle.rm_upper.proofs.StandingLemmas.{protocols-after, stands-first}
 use Rattle.rm_upper.proofs.network_rows.NetworkRows.begin.Goals as goal
+
+pub invariant_of-self : goal.invariant_of-self
+invariant_of-self g c =
+    let kept : (0 < c.reset.new.self.capacity) × AreSound g.K.PartialEq.eq c.reset.new.self.rows = search rules in
+    let slots : protocols c.retune_all.new.slots ≡ c.args.now.now = rw c.retune_all.ensures (protocols-after 0 (replicate 32 None) c.args.now.now (sym c.told-now)) in
+    (kept.0, kept.1, subst AreApart (sym slots) c.requires.apart)
 
 pub returns-clause-slots : goal.returns-clause-slots
 returns-clause-slots g c = rw c.retune_all.ensures (protocols-after 0 (replicate 32 None) c.args.now.now (sym c.told-now))

@@ -3,6 +3,7 @@ use Rattle.rm_evicting.specs.Row.{touched, credited}
 use Rattle.rm_evicting.proofs.Keys.{exact_key}
 use Rattle.rm_rows.specs.Table.{Table}
 use Rattle.rm_layers.specs.Event.{names}
+use Rattle.rm_layers.specs.Applications.{AreApart}
 use Rattle.rm_layers.specs.Upper.{AreTuned}
 use Rattle.rm_upper.specs.Kept.{NetworkRow}
 use Rattle.rm_upper.specs.Shown.{protocols, Agrees, blank_row, gained_value}
@@ -23,8 +24,11 @@ invariant_of-self g c =
           (touched g.K.PartialEq.eq (blank_row g.N.Counts.tally.blank) old.capacity c.args.key c.args.stamp c.args.tick old.rows);
     } in
     let kept : c.gain-made.new.self ≡ new = search rules in
+    let slots : c.if-not-touch.self-inside.slots ≡ c.self.inside.slots = search rules in
+    let sound : (0 < c.gain-made.new.self.capacity) × AreSound g.K.PartialEq.eq c.gain-made.new.self.rows =
     subst (λ (x : Table g.row.K.Denot (NetworkRow g.row.N.Denot g.row.N-Application.Denot)). (0 < x.capacity) × AreSound g.K.PartialEq.eq x.rows) (sym kept)
-    (c.self.invariant.0, sound-referred g.K.PartialEq.eq exact g.N.Counts.tally c.self.inside.slots c.args.path.now old.capacity c.args.key c.args.stamp c.args.tick c.args.gain.now old.rows c.self.invariant.1)
+    (c.self.invariant.0, sound-referred g.K.PartialEq.eq exact g.N.Counts.tally c.self.inside.slots c.args.path.now old.capacity c.args.key c.args.stamp c.args.tick c.args.gain.now old.rows c.self.invariant.1) in
+    (sound.0, sound.1, subst (λ slots. AreApart (protocols slots)) (sym slots) c.self.invariant.2)
 
 pub returns-clause-stands : goal.returns-clause-stands
 returns-clause-stands g c = λ r part same_stamp same_tick same_gain agrees on tuned rises stands.

@@ -1,11 +1,18 @@
 use Rattle.std.proofs.Common.{◌≡◌, length, sym, ◌∙◌, subst}
 use Rattle.rm_evicting.proofs.Keys.{exact_key}
+use Rattle.rm_layers.specs.Applications.{AreApart}
 use Rattle.rm_layers.specs.Upper.{AreTuned}
 use Rattle.rm_layers.specs.Turning.{IsChange}
 use Rattle.rm_upper.specs.Shown.{protocols}
 use Rattle.rm_upper.specs.Standing.{Layered, StandsFor}
 use Rattle.rm_upper.proofs.StandingLemmas.{protocols-after, stands-retuned}
 use Rattle.rm_upper.proofs.network_rows.NetworkRows.retune.Goals as goal
+
+pub invariant_of-self : goal.invariant_of-self
+invariant_of-self g c =
+    let long : length c.self.inside.slots ≡ 32 = c.self.ranges.1.0.1.0.1 in
+    let slots : protocols c.retune_all.new.slots ≡ c.args.now.now = rw c.retune_all.ensures (protocols-after c.args.stamp c.self.inside.slots c.args.now.now (long ∙ sym c.told-now)) in
+    (c.self.invariant.0, c.self.invariant.1, subst AreApart (sym slots) c.requires.apart)
 
 pub returns-clause-stands : goal.returns-clause-stands
 returns-clause-stands g c = λ ts r up before after change stands.
