@@ -2,7 +2,8 @@ mod FindLemmas
 mod KeptLemmas
 mod MoveLemmas
 mod TouchLemmas
-mod PlaceLemmas
+mod KeyLemmas
+pub mod PlaceLemmas
 pub mod ValueLemmas
 mod RankLemmas
 mod WalkLemmas

@@ -1,10 +1,11 @@
 -- What contracts see of the rows of a table.
-use Rattle.std.specs.Prelude.{◌≡◌, ℕ, zero, suc, ◌+◌, ◌<◌, ◌≤◌, Bool, true, cond, List, [], ◌∷◌, length, map, filter, find, position, slice_get, nat_lt, Option, Some, None, All, Contains, ⊤, ◌⊎◌, nat_le}
+use Rattle.std.specs.Prelude.{◌≡◌, ℕ, zero, suc, ◌+◌, ◌<◌, ◌≤◌, Bool, true, cond, List, [], ◌∷◌, ◌++◌, length, map, filter, find, position, slice_get, nat_lt, Option, Some, None, All, Contains, ⊤, ◌⊎◌, nat_le}
 use Rattle.std.specs.Borrow.{Bor}
 use Rattle.std.specs.Option.{option_map}
 use Rattle.std.specs.declared.cmp.Ordering.{Ordering}
 use Rattle.std.specs.declared.cmp.Ordering.TheVariants.{Less}
 use Rattle.rm_evicting.specs.declared.Row.{Row}
+use Rattle.rm_evicting.specs.Held.{without}
 use Rattle.rm_evicting.specs.Row.{holds, at_first, is_oldest}
 use Rattle.rm_rows.specs.declared.touch.Touch.{Touch}
 use Rattle.rm_rows.specs.declared.touch.Touch.TheVariants.{Held, Fresh, Evicted}
@@ -71,6 +72,13 @@ module _ {K V : Type 0} (eq : K → K → Bool) where
   -- the answer to a reference
   abbrev pub touch_answer : ℕ → K → List (Row K V) → Touch K
   touch_answer capacity h rows = cond (holds eq h rows) Held (cond (nat_lt (length rows) capacity) Fresh (evicted (find (is_oldest rows) rows)))
+
+module _ {K : Type 0} where
+  -- what a reference to a key does to the keys of a table
+  abbrev pub AreAfter : (eq : K → K → Bool) → K → Touch K → (old new : List K) → Type 0
+  AreAfter eq key Held old new = new ≡ old
+  AreAfter eq key Fresh old new = (¬ (Contains old key)) × (new ≡ old ++ key ∷ [])
+  AreAfter eq key (Evicted gone) old new = (¬ (Contains old key)) × Contains old gone × (new ≡ without eq gone old ++ key ∷ [])
 
 module _ {K : Type 0} (cmp : K → K → Ordering) where
   -- a key stands above another, or there is none to stand above

@@ -7,7 +7,7 @@ ghost use Rattle.rm_evicting.specs.declared.Row.{Row as RowOf};
 ghost use Rattle.rm_evicting.specs.Row.{renewed, touched, is_oldest, without_oldest, blank_row};
 ghost use Rattle.rm_recency.specs.Threads.{row_at};
 ghost use Rattle.rm_rows.specs.Stored.{In};
-ghost use Rattle.rm_rows.specs.Table.{key_of, row_of, touch_answer};
+ghost use Rattle.rm_rows.specs.Table.{key_of, keys_of, row_of, touch_answer, AreAfter};
 ghost use Rattle.rm_rows.specs.Index.{IsIndex, HasKey, IsGap, IsWithout, Kept, Loose, Fits, MayRenew, PutOut, Holds, rows_in, place_without};
 
 use crate::ranks::take_entered;
@@ -196,8 +196,8 @@ fn place_of<K: Key, V>(list: &RecencyList<K, V>, index: &Vec<*mut Node<K, V>>, k
     }
 }
 
-// Moves an item from its place to before the one at another place, and those between by one.
-fn move_item<T>(items: &mut [T], from: usize, to: usize)
+/// Moves an item from its place to before the one at another place, and those between by one.
+pub fn move_item<T>(items: &mut [T], from: usize, to: usize)
     requires from { from < length items.old }
     requires to { to ≤ length items.old }
     ensures moved { (item : T) → slice_get items.old from ≡ Some item → items.new ≡ insert (remove items.old from) (place_without from to) item }
@@ -314,6 +314,7 @@ pub(crate) fn refer<K: Key, V: Blank>(
     ensures kept { Holds K.cmp list.new entered.new index.new capacity }
     ensures rows { rows_in list.new entered.new.items ≡ touched K.eq V.blank_value capacity key stamp tick (rows_in list.old entered.old.items) }
     ensures answer { result ≡ touch_answer K.eq capacity key (rows_in list.old entered.old.items) }
+    ensures keys { AreAfter K.eq key result (keys_of (rows_in list.old entered.old.items)) (keys_of (rows_in list.new entered.new.items)) }
     ensures capacity { vec_capacity list.new.nodes ≡ vec_capacity list.old.nodes }
     ensures ring { deque_capacity entered.old ≤ deque_capacity entered.new }
     ensures places { vec_capacity index.old ≤ vec_capacity index.new }

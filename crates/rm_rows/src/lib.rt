@@ -9,5 +9,6 @@ mod touch;
 mod walk;
 
 pub use first::Above;
+pub use index::move_item;
 pub use rows::Rows;
 pub use touch::Touch;

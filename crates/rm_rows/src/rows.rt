@@ -42,7 +42,7 @@ impl<K: Key, V: Blank> Model for Rows<K, V> {
 
 impl<K: Key, V: Blank> Rows<K, V> {
     ghost use Rattle.rm_rows.specs.TableLending.{lends_value};
-    ghost use Rattle.rm_rows.specs.Table.{IsFirstPassing, PassesUpward, IsNextKey, IsNextMark, keys_of, pair_copied, order_of, key_at, entry_of, tick_of, touch_answer, row_of, value_of};
+    ghost use Rattle.rm_rows.specs.Table.{IsFirstPassing, PassesUpward, IsNextKey, IsNextMark, keys_of, pair_copied, order_of, key_at, entry_of, tick_of, touch_answer, row_of, value_of, AreAfter};
 
     /// A table without rows, of the capacity for which it reserves memory. NoMemory where there is none.
     pub fn new(alloc: Global, capacity: usize) -> Result<Rows<K, V>, NoMemory>
@@ -78,6 +78,8 @@ impl<K: Key, V: Blank> Rows<K, V> {
         requires tick { All (λ row. row.tick ≤ tick) self.old.rows }
         ensures rows { self.new ≡ record { room = self.old.room; capacity = self.old.capacity; rows = touched K.eq V.blank_value self.old.capacity key stamp tick self.old.rows } }
         ensures answer { result ≡ touch_answer K.eq self.old.capacity key self.old.rows }
+        ensures keys { AreAfter K.eq key result (keys_of self.old.rows) (keys_of self.new.rows) }
+        ensures few { length self.new.rows ≤ self.new.room }
     {
         refer(
             &mut self.list,
