@@ -3,7 +3,7 @@ use Rattle.std.specs.Prelude.{◌≡◌, ℕ, pos, ◌%◌, ◌^◌, List, [], �
 use Rattle.std.specs.Str.{bytes_eq}
 use Rattle.rm_val.specs.Val.{Val, int, counter, octets}
 use Rattle.rm_evicting.specs.declared.Row.{Row as Entry}
-use Rattle.rm_rows.specs.Table.{order_of}
+use Rattle.rm_rows.specs.Table.{keys_of, order_of}
 use Rattle.rm_keyed.specs.Indexes.{key_with, key_ranked}
 use Rattle.rm_sourced.specs.Counters.{kept_count}
 use Rattle.rm_sourced.specs.Shown.{ShownTable, shown_by}
@@ -30,7 +30,7 @@ kept_value row rows address column =
 
 -- the address of the host with an index: that of its address, or its rank
 abbrev pub with_address : HostRows → List ℕ → Option (List ℕ)
-with_address rows = key_with (λ address. 6 ∷ address) (entries_of rows)
+with_address rows = key_with (λ address. 6 ∷ address) (keys_of (entries_of rows))
 
 abbrev pub with_rank : HostRows → List ℕ → Option (List ℕ)
 with_rank rows = key_ranked (entries_of rows)
@@ -43,7 +43,7 @@ abbrev pub by_rank : ShownTable (List ℕ) HostRows
 by_rank = shown_by with_rank (λ now. true) kept_value time_entry host_columns time_index host_value
 
 -- the index of no address is empty
-none_alike : (entries : Entries) → key_with (λ address. 6 ∷ address) entries [] ≡ None
+none_alike : (entries : Entries) → key_with (λ address. 6 ∷ address) (keys_of entries) [] ≡ None
 none_alike [] = refl
 none_alike (entry ∷ more) = none_alike more
 

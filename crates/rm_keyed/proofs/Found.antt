@@ -11,10 +11,9 @@ use Rattle.rm_evicting.specs.Held.{IsExact, distinct, held, held_keys}
 use Rattle.rm_evicting.specs.declared.Row.{Row}
 use Rattle.rm_evicting.specs.Stands.{IsTotal, Stands}
 use Rattle.rm_evicting.proofs.Recency.{any-distinct}
-use Rattle.rm_evicting.proofs.RowLemmas.{row_keys}
 use Rattle.rm_evicting.proofs.RankLemmas.{any-filter, members}
 use Rattle.rm_keyed.specs.Held.{key_of_index}
-use Rattle.rm_rows.specs.Table.{key_of}
+use Rattle.rm_rows.specs.Table.{keys_of}
 use Rattle.rm_keyed.specs.Indexes.{key_with}
 use Rattle.rm_keyed.proofs.HeldRows.{find_none, find_passing, find_nowhere, find_only}
 
@@ -85,12 +84,11 @@ module _ {K : Type 0} (index : K → List ℕ) (apart : (one other : K) → inde
   pub index_one : (one other : K) → has one ≡ true → has other ≡ true → one ≡ other
   index_one one other e f = apart one other ((bytes_eq-Decides (index one) numbers).0 e ∙ sym ((bytes_eq-Decides (index other) numbers).0 f))
 
-  -- the key of a row with these numbers is that of the held ones with them
-  pub index_held : {C V : Type 0} (eq : K → K → Bool) → IsExact eq → (blank : V) (plus : V → C → V) (capacity : ℕ) (mentions : List (Mention K C)) (rows : List (Row K V))
-      → Stands eq (IsTotal blank plus) capacity mentions rows → key_with index rows numbers ≡ key_of_index eq capacity mentions index numbers
-  index_held eq exact blank plus capacity mentions rows stands =
-      found_mapped key_of has rows
-      ∙ found_same eq exact has index_one (row_keys rows) (held_keys eq capacity (keys mentions)) (λ key. sym (members eq exact (IsTotal blank plus) capacity mentions rows stands key))
+  module _ {C V : Type 0} (eq : K → K → Bool) (exact : IsExact eq) (blank : V) (plus : V → C → V) (capacity : ℕ) (mentions : List (Mention K C)) (rows : List (Row K V))
+      (stands : Stands eq (IsTotal blank plus) capacity mentions rows) where
+    -- the key of a row with these numbers is that of the held ones with them
+    pub index_held : key_with index (keys_of rows) numbers ≡ key_of_index eq capacity mentions index numbers
+    index_held = found_same eq exact has index_one (keys_of rows) (held_keys eq capacity (keys mentions)) (λ key. sym (members eq exact (IsTotal blank plus) capacity mentions rows stands key))
 
   -- which is among the indexes of the held ones
   pub index_listed : (others : List K) → is_some (find has others) ≡ true → Contains (map index others) numbers

@@ -15,8 +15,7 @@ use Rattle.std.proofs.lemmas.Map.Lookups.{exact_bytes}
 use Rattle.std.proofs.lemmas.Slice.Eq.{bytes_eq-Decides}
 use Rattle.std.proofs.lemmas.List.Elements.{recursion_from_All}
 use Rattle.rm_model.specs.Names.{Below, IsLeastAbove}
-use Rattle.rm_evicting.specs.declared.Row.{Row}
-use Rattle.rm_rows.specs.Table.{PassesUpward, IsFirstPassing, keys_of}
+use Rattle.rm_rows.specs.Table.{PassesUpward, IsFirstPassing}
 use Rattle.rm_keyed.specs.Indexes.{key_with, is_index_of}
 
 abbrev by_number : List ℕ → List ℕ → Ordering
@@ -63,26 +62,26 @@ module _ {K : Type 0} (cmp : K → K → Ordering) (index : K → List ℕ) (ris
     | inr more ↦ ap is_ge (over (index other) numbers (nat_list_cmp_total.trans numbers (index one) (index other) (turned (index one) numbers more) (rises one other less)))
   ]
 
-module _ {K V : Type 0} (index : K → List ℕ) where
+module _ {K : Type 0} (index : K → List ℕ) where
   -- numbers that are the index of no key that is such are that of none
-  no_index : (IsSuch : K → Type 0) (numbers : List ℕ) → ((key : K) → index key ≡ numbers → ¬ (IsSuch key)) → (rows : List (Row K V)) → AllByRecursion IsSuch (keys_of rows) → is_index_of index rows numbers ≡ false
+  no_index : (IsSuch : K → Type 0) (numbers : List ℕ) → ((key : K) → index key ≡ numbers → ¬ (IsSuch key)) → (keys : List K) → AllByRecursion IsSuch keys → is_index_of index keys numbers ≡ false
   no_index IsSuch numbers isnt [] all = refl
-  no_index IsSuch numbers isnt (row ∷ rows) all = elim (cases_Bool (bytes_eq (index row.key) numbers)) [
-    | inl same ↦ absurd (isnt row.key ((bytes_eq-Decides (index row.key) numbers).0 same) all.0)
-    | inr other ↦ rw other (no_index IsSuch numbers isnt rows all.1)
+  no_index IsSuch numbers isnt (key ∷ keys) all = elim (cases_Bool (bytes_eq (index key) numbers)) [
+    | inl same ↦ absurd (isnt key ((bytes_eq-Decides (index key) numbers).0 same) all.0)
+    | inr other ↦ rw other (no_index IsSuch numbers isnt keys all.1)
   ]
 
-  -- the index of a key that has a row is one
-  is_index : (key : K) (rows : List (Row K V)) → Contains (keys_of rows) key → is_index_of index rows (index key) ≡ true
+  -- the index of a key among them is one
+  is_index : (key : K) (keys : List K) → Contains keys key → is_index_of index keys (index key) ≡ true
   is_index key [] c = absurd (omega (arith, c.1))
-  is_index key (row ∷ rows) (zero, lt, e) = rw ((bytes_eq-Decides (index row.key) (index key)).1 (ap index e)) refl
-  is_index key (row ∷ rows) (suc place, lt, e) = elim (cases_Bool (bytes_eq (index row.key) (index key))) [
+  is_index key (first ∷ keys) (zero, lt, e) = rw ((bytes_eq-Decides (index first) (index key)).1 (ap index e)) refl
+  is_index key (first ∷ keys) (suc place, lt, e) = elim (cases_Bool (bytes_eq (index first) (index key))) [
     | inl same ↦ rw same refl
-    | inr other ↦ rw other (is_index key rows (place, omega (arith, lt), e))
+    | inr other ↦ rw other (is_index key keys (place, omega (arith, lt), e))
   ]
 
-module _ {K V : Type 0} (cmp : K → K → Ordering) (order : IsTotalOrder cmp) (exact : (a b : K) → cmp a b ≡ Equal → a ≡ b) (index : K → List ℕ) (rises : (one other : K) → cmp one other ≡ Less → Below (index one) (index other))
-    (rows : List (Row K V)) (numbers : List ℕ) where
+module _ {K : Type 0} (cmp : K → K → Ordering) (order : IsTotalOrder cmp) (exact : (a b : K) → cmp a b ≡ Equal → a ≡ b) (index : K → List ℕ) (rises : (one other : K) → cmp one other ≡ Less → Below (index one) (index other))
+    (keys : List K) (numbers : List ℕ) where
   -- the lesser index is that of the lesser key
   lower : (j k : K) → Below (index j) (index k) → cmp j k ≡ Less
   lower j k below = at (cmp j k) refl
@@ -101,17 +100,17 @@ module _ {K V : Type 0} (cmp : K → K → Ordering) (order : IsTotalOrder cmp) 
       at Equal e = exact j k e
       at Greater e = absurd (never (index j) (subst (λ xs. Below xs (index j)) (sym same) (rises k j (order.antisymm k j ∙ ap ordering_reverse e))))
 
-  -- a key that has a row is the one with its index
-  key_among : (key : K) (some : List (Row K V)) → Contains (keys_of some) key → key_with index some (index key) ≡ Some key
+  -- a key among some is the one with its index
+  key_among : (key : K) (some : List K) → Contains some key → key_with index some (index key) ≡ Some key
   key_among key [] c = absurd (omega (arith, c.1))
-  key_among key (row ∷ some) (zero, lt, e) = rw ((bytes_eq-Decides (index row.key) (index key)).1 (ap index e)) (ap Some e)
-  key_among key (row ∷ some) (suc place, lt, e) = elim (cases_Bool (bytes_eq (index row.key) (index key))) [
-    | inl same ↦ rw same (ap Some (one_key row.key key ((bytes_eq-Decides (index row.key) (index key)).0 same)))
+  key_among key (first ∷ some) (zero, lt, e) = rw ((bytes_eq-Decides (index first) (index key)).1 (ap index e)) (ap Some e)
+  key_among key (first ∷ some) (suc place, lt, e) = elim (cases_Bool (bytes_eq (index first) (index key))) [
+    | inl same ↦ rw same (ap Some (one_key first key ((bytes_eq-Decides (index first) (index key)).0 same)))
     | inr other ↦ rw other (key_among key some (place, omega (arith, lt), e))
   ]
 
-  pub key_is : (key : K) → Contains (keys_of rows) key → index key ≡ numbers → Some key ≡ key_with index rows numbers
-  key_is key there is = sym (subst (λ xs. key_with index rows xs ≡ Some key) is (key_among key rows there))
+  pub key_is : (key : K) → Contains keys key → index key ≡ numbers → Some key ≡ key_with index keys numbers
+  key_is key there is = sym (subst (λ xs. key_with index keys xs ≡ Some key) is (key_among key keys there))
 
   abbrev is_over : K → Bool
   is_over key = is_gt (slice_cmp nat_cmp (index key) numbers)
@@ -119,36 +118,36 @@ module _ {K V : Type 0} (cmp : K → K → Ordering) (order : IsTotalOrder cmp) 
   abbrev is_from : K → Bool
   is_from key = is_ge (slice_cmp nat_cmp (index key) numbers)
 
-  pub none_above : IsFirstPassing cmp is_over (keys_of rows) None → IsLeastAbove (is_index_of index rows) numbers None
+  pub none_above : IsFirstPassing cmp is_over keys None → IsLeastAbove (is_index_of index keys) numbers None
   none_above none = λ name below.
-      no_index index (λ key. ¬ (is_over key ≡ true)) name (λ key is isnt. isnt (ap is_gt (over (index key) numbers (subst (Below numbers) (sym is) below)))) rows
-      (recursion_from_All (λ key. ¬ (is_over key ≡ true)) (keys_of rows) none)
+      no_index index (λ key. ¬ (is_over key ≡ true)) name (λ key is isnt. isnt (ap is_gt (over (index key) numbers (subst (Below numbers) (sym is) below)))) keys
+      (recursion_from_All (λ key. ¬ (is_over key ≡ true)) keys none)
 
-  pub first_above : (key : K) → IsFirstPassing cmp is_over (keys_of rows) (Some key) → IsLeastAbove (is_index_of index rows) numbers (Some (index key))
+  pub first_above : (key : K) → IsFirstPassing cmp is_over keys (Some key) → IsLeastAbove (is_index_of index keys) numbers (Some (index key))
   first_above key first = (
     turned (index key) numbers (gt_is (by_number (index key) numbers) first.1),
-    is_index index key rows first.0,
+    is_index index key keys first.0,
     (λ name below before.
         no_index index (λ j. is_over j ≡ true → ¬ (cmp j key ≡ Less)) name
-        (λ j is least. least (ap is_gt (over (index j) numbers (subst (Below numbers) (sym is) below))) (lower j key (subst (λ other. Below other (index key)) (sym is) before))) rows
-        (recursion_from_All (λ j. is_over j ≡ true → ¬ (cmp j key ≡ Less)) (keys_of rows) first.2)),
+        (λ j is least. least (ap is_gt (over (index j) numbers (subst (Below numbers) (sym is) below))) (lower j key (subst (λ other. Below other (index key)) (sym is) before))) keys
+        (recursion_from_All (λ j. is_over j ≡ true → ¬ (cmp j key ≡ Less)) keys first.2)),
   )
 
   is_from-same : (key : K) → index key ≡ numbers → is_from key ≡ true
   is_from-same key is = ap is_ge (subst (λ other. by_number (index key) other ≡ Equal) is (itself (index key)))
 
   -- no key has these numbers, where none is from them on
-  pub none_from : IsFirstPassing cmp is_from (keys_of rows) None → is_index_of index rows numbers ≡ false
+  pub none_from : IsFirstPassing cmp is_from keys None → is_index_of index keys numbers ≡ false
   none_from none =
-      no_index index (λ key. ¬ (is_from key ≡ true)) numbers (λ key is isnt. isnt (is_from-same key is)) rows
-      (recursion_from_All (λ key. ¬ (is_from key ≡ true)) (keys_of rows) none)
+      no_index index (λ key. ¬ (is_from key ≡ true)) numbers (λ key is isnt. isnt (is_from-same key is)) keys
+      (recursion_from_All (λ key. ¬ (is_from key ≡ true)) keys none)
 
   -- or where the first of those has others
-  pub other_from : (key : K) → IsFirstPassing cmp is_from (keys_of rows) (Some key) → is_eq (slice_cmp nat_cmp (index key) numbers) ≡ false → is_index_of index rows numbers ≡ false
+  pub other_from : (key : K) → IsFirstPassing cmp is_from keys (Some key) → is_eq (slice_cmp nat_cmp (index key) numbers) ≡ false → is_index_of index keys numbers ≡ false
   other_from key first other =
       no_index index (λ j. is_from j ≡ true → ¬ (cmp j key ≡ Less)) numbers
-      (λ j is least. least (is_from-same j is) (lower j key (subst (λ xs. Below xs (index key)) (sym is) past))) rows
-      (recursion_from_All (λ j. is_from j ≡ true → ¬ (cmp j key ≡ Less)) (keys_of rows) first.2)
+      (λ j is least. least (is_from-same j is) (lower j key (subst (λ xs. Below xs (index key)) (sym is) past))) keys
+      (recursion_from_All (λ j. is_from j ≡ true → ¬ (cmp j key ≡ Less)) keys first.2)
     where
       past : Below numbers (index key)
       past = elim (ge_is (by_number (index key) numbers) first.1) [

@@ -6,7 +6,7 @@ pub mod MentionLaws
 pub mod HeldRows
 pub mod Sums
 pub mod Found
-pub mod Renamed
+pub mod ReversedKeys
 pub mod Pairs
 mod IndexLemmas
 pub mod Ranked

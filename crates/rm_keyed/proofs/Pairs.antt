@@ -1,5 +1,5 @@
 -- Pairs of addresses, by their indexes.
-use Rattle.std.proofs.Common.{◌≡◌, ℕ, List, [], ◌∷◌, ◌++◌, length, drop, Bool, true, false, ◌&&◌, refl, sym, ap, ◌∙◌, arith}
+use Rattle.std.proofs.Common.{◌≡◌, ℕ, List, [], ◌∷◌, ◌++◌, length, drop, Bool, true, ◌&&◌, refl, sym, ap, ◌∙◌, arith}
 use Rattle.std.specs.Str.{bytes_eq}
 use Rattle.std.proofs.lemmas.Bool.{and_parts}
 use Rattle.std.proofs.lemmas.Slice.Eq.{bytes_eq-Decides}
@@ -24,16 +24,6 @@ exact_pair = record {
   where
     both : (a b : Bool) → a ≡ true → b ≡ true → (a && b) ≡ true
     both a b e f = rw (e, f) refl
-
--- reversed pairs are alike where the pairs are
-pub reversed_alike : (one other : AddressPair) → pair_eq (reversed one) (reversed other) ≡ pair_eq one other
-reversed_alike one other = turned (bytes_eq one.second other.second) (bytes_eq one.first other.first)
-  where
-    turned : (a b : Bool) → (a && b) ≡ (b && a)
-    turned true true = refl
-    turned true false = refl
-    turned false true = refl
-    turned false false = refl
 
 -- lists of one length that stand before others are the same where the whole are
 fronts : (xs ys us vs : List ℕ) → length xs ≡ length ys → xs ++ us ≡ ys ++ vs → (xs ≡ ys) × (us ≡ vs)

@@ -1,18 +1,18 @@
--- The rows by their indexes: by their keys, and by their ranks.
+-- Keys by their indexes, and rows by their ranks.
 use Rattle.std.specs.Prelude.{ℕ, List, [], ◌∷◌, Bool, ◌&&◌, nat_le, find, is_some, Option, None}
-use Rattle.std.specs.Option.{option_map}
 use Rattle.std.specs.Str.{bytes_eq}
 use Rattle.rm_evicting.specs.declared.Row.{Row}
-use Rattle.rm_rows.specs.Table.{key_of, key_at}
+use Rattle.rm_rows.specs.Table.{key_at}
+
+module _ {K : Type 0} where
+  -- the key that has these numbers for its index, if one of these has
+  abbrev pub key_with : (K → List ℕ) → (keys : List K) → List ℕ → Option K
+  key_with index keys numbers = find (λ key. bytes_eq (index key) numbers) keys
+
+  abbrev pub is_index_of : (K → List ℕ) → (keys : List K) → List ℕ → Bool
+  is_index_of index keys numbers = is_some (key_with index keys numbers)
 
 module _ {K V : Type 0} where
-  -- the key of the row that has these numbers for its index, if there is one
-  abbrev pub key_with : (K → List ℕ) → List (Row K V) → List ℕ → Option K
-  key_with index rows numbers = option_map key_of (find (λ row. bytes_eq (index row.key) numbers) rows)
-
-  abbrev pub is_index_of : (K → List ℕ) → List (Row K V) → List ℕ → Bool
-  is_index_of index rows numbers = is_some (key_with index rows numbers)
-
   -- the key of the row that has a number for its rank, where these numbers are one that is a rank
   abbrev pub key_ranked : List (Row K V) → List ℕ → Option K
   key_ranked rows (rank ∷ []) = key_at rank rows

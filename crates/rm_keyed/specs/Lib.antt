@@ -4,7 +4,7 @@ pub mod Held
 pub mod Indexes
 pub mod PairLaws
 pub mod Addresses
-pub mod Uncounted
+pub mod Reversed
 pub mod TwoTables
 pub mod PartRows
 pub mod SourceControl

@@ -5,7 +5,7 @@ use Rattle.rm_model.specs.Interfaces.{is_interface}
 use Rattle.rm_model.specs.ControlTable.{ControlTable}
 use Rattle.rm_model.specs.ControlRows.{no_rows, value_of}
 use Rattle.rm_acts.specs.Seen.{Seen, seen_since}
-use Rattle.rm_evicting.specs.Mention.{Mention, refers, strays}
+use Rattle.rm_evicting.specs.Mention.{Mention}
 
 -- The mentions of a row, the newest first: those of the frames of its data source, which column 2 holds, since it became valid. A frame
 -- that was seen says what it mentions.
@@ -13,9 +13,3 @@ abbrev pub mentions_since : {K V : Type 0} → ControlTable → (Seen → List (
 mentions_since table mentioned journal row =
     flat_map mentioned
     (filter (λ seen. is_interface (value_of table no_rows journal (row ∷ []) 2) seen.frame.interface) (seen_since table no_rows journal (row ∷ [])))
-
--- the references among mentions under other names of their keys, each of which adds the same
-abbrev pub renamed : {K L C D : Type 0} → (K → L) → D → List (Mention K C) → List (Mention L D)
-renamed name gain [] = []
-renamed name gain (refers key stamp tick gained ∷ earlier) = refers (name key) stamp tick gain ∷ renamed name gain earlier
-renamed name gain (strays key gained ∷ earlier) = renamed name gain earlier

@@ -5,6 +5,7 @@ ghost use Rattle.rm_keyed.specs.PairLaws.{pair_exact, pair_rises};
 
 use crate::indexed::Indexed;
 use rm_evicting::Key;
+use rm_order::Reversible;
 use std::cmp::Ordering;
 
 /// Two addresses, in order of the first and then of the second: a source and its destination, or a destination and its source.
@@ -19,23 +20,13 @@ pub struct AddressPair {
 }
 
 impl AddressPair {
-    ghost use Rattle.rm_keyed.specs.Addresses.{address_pair, reversed};
+    ghost use Rattle.rm_keyed.specs.Addresses.{address_pair};
 
     /// A pair of these addresses.
     pub fn new(first: [u8; 6], second: [u8; 6]) -> AddressPair
         ensures { result ≡ address_pair first second }
     {
         AddressPair { first, second }
-    }
-
-    /// The same addresses, the second first.
-    pub fn reversed(&self) -> AddressPair
-        ensures { result ≡ reversed self.now }
-    {
-        AddressPair {
-            first: self.second,
-            second: self.first,
-        }
     }
 }
 
@@ -48,6 +39,23 @@ impl Key for AddressPair {
     }
 
     ghost exact = { λ a b same. pair_exact (λ first second first_six second_six. record { first = first; second = second; first_six = first_six; second_six = second_six }) a.first b.first a.second b.second a.first_six b.first_six a.second_six b.second_six same };
+}
+
+/// The second address first.
+impl Reversible for AddressPair {
+    ghost use Rattle.std.specs.Prelude.{refl};
+    ghost use Rattle.rm_keyed.specs.Addresses.{reversed};
+
+    ghost reversing = { reversed };
+
+    fn reversed(&self) -> AddressPair {
+        AddressPair {
+            first: self.second,
+            second: self.first,
+        }
+    }
+
+    ghost twice = { λ pair. refl };
 }
 
 /// The first address, counted, and then the second.

@@ -1,7 +1,8 @@
 // The rows of a table by the keys of frames.
-ghost use Rattle.std.specs.Prelude.{◌≡◌, ◌+◌, ◌<◌, ◌≤◌, ◌^◌, List, [], ◌∷◌};
+ghost use Rattle.std.specs.Prelude.{◌≡◌, ◌+◌, ◌<◌, ◌≤◌, ◌^◌, List, [], ◌∷◌, length, IfOk};
 ghost use Rattle.rm_evicting.specs.Mention.{Mention, refers, strays};
 ghost use Rattle.rm_evicting.specs.Row.{credited};
+ghost use Rattle.rm_rows.specs.Table.{AreAfter, keys_of};
 ghost use Rattle.rm_keyed.specs.declared.keyed.TheConstants.{MOST_ROWS};
 ghost use Rattle.rm_keyed.specs.Entered.{IsOf};
 
@@ -39,7 +40,9 @@ impl<K: Key, V: Counts> Model for Keyed<K, V> {
 }
 
 impl<K: Key, V: Counts> Part for Keyed<K, V> {
-    fn spare(alloc: Global) -> Result<Keyed<K, V>, NoMemory> {
+    fn spare(alloc: Global) -> Result<Keyed<K, V>, NoMemory>
+        ensures none { IfOk result (λ keyed. keyed.rows.rows ≡ []) }
+    {
         let rows = Rows::new(alloc, MOST_ROWS as usize)?;
         Ok(Keyed {
             rows,
@@ -56,6 +59,7 @@ impl<K: Key, V: Counts> Keyed<K, V> {
         requires some { 1 ≤ capacity }
         requires most { capacity ≤ MOST_ROWS }
         ensures nothing { IsOf K.eq V.blank_value V.plus [] self.new }
+        ensures rows { self.new.rows.rows ≡ [] }
         ensures capacity { self.new.rows.capacity ≡ capacity }
         ensures stamps { self.new.stamps ≡ 0 }
         ensures tick { self.new.tick ≡ 0 }
@@ -82,8 +86,8 @@ impl<K: Key, V: Counts> Keyed<K, V> {
     }
 
     /// Takes a reference to a key, by its stamp, its tick in hundredths of a second, and what it adds: a row is entered where the key has
-    /// none, and the one that was referred to least recently gives way where the table is full.
-    pub fn refer(&mut self, key: K, stamp: u64, tick: u32, gain: &V)
+    /// none, and the one that was referred to least recently gives way where the table is full. Says which of these it was.
+    pub fn refer(&mut self, key: K, stamp: u64, tick: u32, gain: &V) -> Touch<K>
         requires stamp { self.old.stamps ≤ stamp }
         requires fits { stamp + 1 < 2 ^ 64 }
         requires tick { self.old.tick ≤ tick }
@@ -92,13 +96,17 @@ impl<K: Key, V: Counts> Keyed<K, V> {
         ensures capacity { self.new.rows.capacity ≡ self.old.rows.capacity }
         ensures stamps { self.new.stamps ≡ stamp + 1 }
         ensures tick { self.new.tick ≡ tick }
+        ensures keys { AreAfter K.eq key result (keys_of self.old.rows.rows) (keys_of self.new.rows.rows) }
+        ensures few { length self.new.rows.rows ≤ MOST_ROWS }
     {
-        if let Touch::Evicted(_) = self.rows.touch(key, stamp, tick) {
+        let touch = self.rows.touch(key, stamp, tick);
+        if let Touch::Evicted(_) = touch {
             self.last_delete = tick;
         }
         self.stamps = stamp + 1;
         self.tick = tick;
         credit(&mut self.rows, &key, gain);
+        touch
     }
 
     /// Adds to the row of a key, where it has one. None is entered, and none counts as referred to.
@@ -108,6 +116,7 @@ impl<K: Key, V: Counts> Keyed<K, V> {
         ensures capacity { self.new.rows.capacity ≡ self.old.rows.capacity }
         ensures stamps { self.new.stamps ≡ self.old.stamps }
         ensures tick { self.new.tick ≡ self.old.tick }
+        ensures keys { keys_of self.new.rows.rows ≡ keys_of self.old.rows.rows }
     {
         credit(&mut self.rows, key, gain);
     }

@@ -8,32 +8,33 @@ ghost use Rattle.rm_keyed.specs.Indexes.{key_with, is_index_of, key_ranked, is_r
 use crate::above::{FromIndex, OverIndex};
 use crate::counts::Counts;
 use crate::indexed::{Indexed, compare_index, index_of};
+use crate::key_order::KeyOrder;
 use crate::keyed::Keyed;
 use rm_evicting::{Blank, Key};
 use rm_nested::{first_number, one_number_above};
 use rm_rows::Rows;
 use rm_val::Oid;
 
-/// The least index of a row above some numbers. None where there is none.
-pub fn key_above<K: Indexed, V: Blank>(rows: &Rows<K, V>, numbers: &Oid) -> Option<Oid>
-    ensures least { IsLeastAbove (is_index_of K.index rows.now.rows) numbers.now result }
+/// The least index of a key above some numbers. None where there is none.
+pub fn key_above<K: Indexed, O: KeyOrder<K>>(keys: &O, numbers: &Oid) -> Option<Oid>
+    ensures least { IsLeastAbove (is_index_of K.index (O.keys keys.now)) numbers.now result }
     ensures fits { IfSome result (λ index. length index ≤ K.width) }
 {
-    match rows.first(&OverIndex { numbers }) {
+    match keys.least(&OverIndex { numbers }) {
         Some(key) => Some(index_of(key)),
         None => None,
     }
 }
 
-/// The key of the row whose index is the numbers of a name from a place on. None where there is none.
-pub fn key_at<'a, K: Indexed, V: Blank>(
-    rows: &'a Rows<K, V>,
+/// The key whose index is the numbers of a name from a place on. None where there is none.
+pub fn key_at<'a, K: Indexed, O: KeyOrder<K>>(
+    keys: &'a O,
     numbers: &Oid,
     from: usize,
 ) -> Option<&'a K>
-    ensures { option_copied result ≡ key_with K.index rows.now.rows (drop from numbers.now) }
+    ensures { option_copied result ≡ key_with K.index (O.keys keys.now) (drop from numbers.now) }
 {
-    let key = rows.first(&FromIndex { numbers, from })?;
+    let key = keys.least(&FromIndex { numbers, from })?;
     if compare_index(key, numbers, from).is_eq() {
         Some(key)
     } else {

@@ -1,6 +1,8 @@
 use rm_evicting::Blank;
 use rm_keyed::{AddressPair, Counts, Keyed, index_of, key_above, key_at, rank_above, source_value};
+use rm_order::{OrderedKeys, Reversible};
 use rm_pool::Part;
+use rm_rows::Touch;
 use rm_val::{Oid, Value};
 use std::test::*;
 
@@ -48,8 +50,8 @@ fn a_full_table_gives_up_the_host_that_was_quiet_longest(rt: HostRuntime) -> Res
     hosts.refer(A, 0, 300, &FRAME);
     hosts.refer(B, 1, 300, &NOTHING);
     assert_eq!(rt; hosts.last_delete(), 0);
-    hosts.refer(C, 2, 400, &FRAME);
-    hosts.refer(B, 3, 400, &NOTHING);
+    assert_eq!(rt; hosts.refer(C, 2, 400, &FRAME), Touch::Evicted(A));
+    assert_eq!(rt; hosts.refer(B, 3, 400, &NOTHING), Touch::Held);
     assert_eq!(rt; hosts.last_delete(), 400);
     assert_eq!(rt; hosts.get(&A), None);
     assert_eq!(rt; hosts.order(&B), Some(1));
@@ -131,5 +133,14 @@ fn walks_go_by_the_indexes_of_pairs(rt: HostRuntime) -> Result<(), Fail> {
     let found = key_above(pairs.rows(), &index_of(&there)).unwrap_or(Oid::new());
     assert!(rt; found.compare(&index_of(&back)).is_eq());
     assert!(rt; key_above(pairs.rows(), &index_of(&back)).is_none());
+    assert_eq!(rt; there.reversed(), back);
+    Ok(())
+}
+
+#[test]
+fn keys_alone_are_walked_as_those_of_rows(rt: HostRuntime) -> Result<(), Fail> {
+    let pairs: OrderedKeys<AddressPair> = OrderedKeys::new(rt.alloc(), 2)?;
+    assert!(rt; key_above(&pairs, &Oid::new()).is_none());
+    assert!(rt; key_at(&pairs, &Oid::new(), 1).is_none());
     Ok(())
 }

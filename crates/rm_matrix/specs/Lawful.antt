@@ -15,11 +15,8 @@ use Rattle.rm_matrix.specs.SameCells.{value_is, source_is, destination_is}
 pub matrix_laws : AreLawful named_entry pair_sourcing sources destinations
 matrix_laws = record {
   exact = exact_pair;
-  entered = λ mentions rows means. means.pairs;
-  later = λ stamp next moment now rows more later ready. record {
-    pairs = may_take_later stamp next moment now rows.pairs more later ready.pairs;
-    reverse = may_take_later stamp next moment now rows.reverse more later ready.reverse;
-  };
+  entered = λ mentions rows means. means;
+  later = λ stamp next moment now rows more later ready. may_take_later stamp next moment now rows.pairs more later ready;
   control_fits = Prim.search rules;
   first_below = refl;
   second_below = refl;

@@ -8,11 +8,10 @@ use Rattle.rm_evicting.specs.Mention.{keys}
 use Rattle.rm_evicting.specs.Held.{held}
 use Rattle.rm_keyed.specs.declared.address_pair.AddressPair.{AddressPair}
 use Rattle.rm_keyed.specs.Addresses.{pair_eq, pair_index, reversed}
-use Rattle.rm_keyed.specs.Uncounted.{uncounted, unchanged}
 use Rattle.rm_keyed.specs.Held.{key_of_index}
 use Rattle.rm_keyed.proofs.Found.{index_held}
-use Rattle.rm_keyed.proofs.Renamed.{named_held}
-use Rattle.rm_keyed.proofs.Pairs.{exact_pair, reversed_alike, pair_apart, reversed_apart}
+use Rattle.rm_keyed.proofs.ReversedKeys.{reversed_held}
+use Rattle.rm_keyed.proofs.Pairs.{exact_pair, pair_apart, reversed_apart}
 use Rattle.rm_sourced.specs.Counters.{kept_count}
 use Rattle.rm_sourced.specs.Held.{held_with}
 use Rattle.rm_sourced.proofs.Counting.{count_is}
@@ -25,7 +24,7 @@ use Rattle.rm_matrix.specs.Pairs.{pair_value}
 use Rattle.rm_matrix.specs.SourceDestination.{source_index}
 use Rattle.rm_matrix.specs.DestinationSource.{destination_index}
 use Rattle.rm_matrix.specs.Tables.{MatrixTable, IsTable, pair_sourcing}
-use Rattle.rm_matrix.specs.Shown.{Entries, entries_of, reverse_of, kept_value, by_source, by_destination}
+use Rattle.rm_matrix.specs.Shown.{Entries, entries_of, kept_value, by_source, by_destination}
 use Rattle.rm_matrix.specs.Sums.{none, adds}
 
 module _ (settings : Counting) (journal : Journal) (row : ℕ) (table : MatrixTable) (is : IsTable settings journal row table) where
@@ -49,16 +48,15 @@ module _ (settings : Counting) (journal : Journal) (row : ℕ) (table : MatrixTa
       comes = ap (λ room. held pair_eq room pair (keys mentions)) is.capacity ∙ there
 
       sum_is : kept_count pair_eq (counter_in column) entries pair % 2 ^ 32 ≡ sum_of settings journal row (counter_in column) pair % 2 ^ 32
-      sum_is = count_is pair_eq exact_pair no_counts with_gain (counter_in column) (none column) (adds column) capacity mentions entries is.means.pairs.rows pair comes settings.pairs is.capacity
+      sum_is = count_is pair_eq exact_pair no_counts with_gain (counter_in column) (none column) (adds column) capacity mentions entries is.means.rows pair comes settings.pairs is.capacity
 
   -- the pair with an index
   pub source_is : (numbers : List ℕ) → by_source table.rows numbers ≡ held_with named_entry pair_sourcing settings journal row (source_index settings journal row) numbers
   source_is numbers =
-      index_held pair_index pair_apart numbers pair_eq exact_pair no_counts with_gain capacity mentions entries is.means.pairs.rows
+      index_held pair_index pair_apart numbers pair_eq exact_pair no_counts with_gain capacity mentions entries is.means.rows
       ∙ ap (λ room. key_of_index pair_eq room mentions (source_index settings journal row) numbers) is.capacity
 
   pub destination_is : (numbers : List ℕ) → by_destination table.rows numbers ≡ held_with named_entry pair_sourcing settings journal row (destination_index settings journal row) numbers
   destination_is numbers =
-      named_held pair_eq exact_pair pair_eq exact_pair reversed reversed reversed_alike (λ pair. refl) uncounted uncounted unchanged table.rows.reverse.rows.capacity mentions (reverse_of table.rows) is.means.reverse.rows
-      pair_index reversed_apart numbers
-      ∙ ap (λ room. key_of_index pair_eq room mentions (destination_index settings journal row) numbers) (is.means.room ∙ is.capacity)
+      reversed_held pair_eq exact_pair reversed (λ pair. refl) pair_index reversed_apart numbers no_counts with_gain capacity mentions entries is.means.rows table.rows.reverse.keys table.rows.alike
+      ∙ ap (λ room. key_of_index pair_eq room mentions (destination_index settings journal row) numbers) is.capacity

@@ -3,8 +3,8 @@ use Rattle.std.specs.Prelude.{◌≡◌, ℕ, pos, ◌%◌, ◌^◌, List, [], �
 use Rattle.std.proofs.Common.{ap}
 use Rattle.rm_val.specs.Val.{Val, int, counter, octets}
 use Rattle.rm_evicting.specs.declared.Row.{Row as Entry}
+use Rattle.rm_rows.specs.Table.{keys_of}
 use Rattle.rm_keyed.specs.declared.address_pair.AddressPair.{AddressPair}
-use Rattle.rm_keyed.specs.declared.uncounted.Uncounted.{Uncounted}
 use Rattle.rm_keyed.specs.Addresses.{pair_eq, pair_index, reversed}
 use Rattle.rm_keyed.specs.Indexes.{key_with}
 use Rattle.rm_sourced.specs.Counters.{kept_count}
@@ -16,15 +16,12 @@ use Rattle.rm_matrix.specs.Pairs.{pair_value}
 use Rattle.rm_matrix.specs.SourceDestination.{source_entry, source_index}
 use Rattle.rm_matrix.specs.DestinationSource.{destination_entry, destination_index}
 
--- the pairs of a row, as they are kept, and the same by their destinations
+-- the pairs of a row, as they are kept
 abbrev pub Entries : Type 0
 Entries = List (Entry AddressPair PairCounts)
 
 abbrev pub entries_of : MatrixRows → Entries
 entries_of rows = rows.pairs.rows.rows
-
-abbrev pub reverse_of : MatrixRows → List (Entry AddressPair Uncounted)
-reverse_of rows = rows.reverse.rows.rows
 
 -- what a column shows of a pair, by the pairs of its row
 abbrev pub kept_value : (row : ℕ) → MatrixRows → AddressPair → (column : ℕ) → Val
@@ -36,10 +33,10 @@ kept_value row rows pair column =
 
 -- the pair with an index: its source first, or its destination
 abbrev pub by_source : MatrixRows → List ℕ → Option AddressPair
-by_source rows = key_with pair_index (entries_of rows)
+by_source rows = key_with pair_index (keys_of (entries_of rows))
 
 abbrev pub by_destination : MatrixRows → List ℕ → Option AddressPair
-by_destination rows numbers = option_map reversed (key_with pair_index (reverse_of rows) numbers)
+by_destination rows numbers = option_map reversed (key_with pair_index rows.reverse.keys numbers)
 
 -- matrixSD and matrixDS
 abbrev pub sources : ShownTable AddressPair MatrixRows
@@ -49,12 +46,12 @@ abbrev pub destinations : ShownTable AddressPair MatrixRows
 destinations = shown_by by_destination (λ now. true) kept_value destination_entry pair_columns destination_index pair_value
 
 -- no index is empty
-none_alike : {V : Type 0} (entries : List (Entry AddressPair V)) → key_with pair_index entries [] ≡ None
+none_alike : (pairs : List AddressPair) → key_with pair_index pairs [] ≡ None
 none_alike [] = refl
-none_alike (entry ∷ more) = none_alike more
+none_alike (pair ∷ more) = none_alike more
 
 pub no_empty_source : (rows : MatrixRows) → by_source rows [] ≡ None
-no_empty_source rows = none_alike (entries_of rows)
+no_empty_source rows = none_alike (keys_of (entries_of rows))
 
 pub no_empty_destination : (rows : MatrixRows) → by_destination rows [] ≡ None
-no_empty_destination rows = ap (option_map reversed) (none_alike (reverse_of rows))
+no_empty_destination rows = ap (option_map reversed) (none_alike rows.reverse.keys)

@@ -1,11 +1,9 @@
 -- The pairs of hosts of rows.
-use Rattle.std.specs.Prelude.{◌≡◌, ℕ, List}
+use Rattle.std.specs.Prelude.{ℕ, List}
 use Rattle.rm_model.specs.Counting.{Counting}
 use Rattle.rm_model.specs.Journal.{Journal}
-use Rattle.rm_keyed.specs.Addresses.{pair_eq, reversed}
-use Rattle.rm_keyed.specs.Uncounted.{uncounted, unchanged}
-use Rattle.rm_keyed.specs.Entered.{IsOf}
-use Rattle.rm_keyed.specs.Mentions.{renamed}
+use Rattle.rm_keyed.specs.Addresses.{pair_eq}
+use Rattle.rm_keyed.specs.Entered.{Entered, IsOf}
 use Rattle.rm_keyed.specs.declared.address_pair.AddressPair.{AddressPair}
 use Rattle.rm_sourced.specs.declared.sourced.Sourced.{Sourced}
 use Rattle.rm_sourced.specs.Ready.{MayTake}
@@ -20,16 +18,13 @@ use Rattle.rm_matrix.specs.Mentions.{PairMention, mentioned_in}
 abbrev pub MatrixTable : Type 0
 MatrixTable = Sourced AddressPair MatrixRows
 
--- the pairs are those of these mentions, and each is kept by its destination too
-pub record Means (mentions : List PairMention) (rows : MatrixRows) : Type 0 where
-  pub pairs : IsOf pair_eq no_counts with_gain mentions rows.pairs
-  pub reverse : IsOf pair_eq uncounted unchanged (renamed reversed uncounted mentions) rows.reverse
-  pub room : rows.reverse.rows.capacity ≡ rows.pairs.rows.capacity
+-- the pairs are those of these mentions
+abbrev pub Means : List PairMention → Entered AddressPair PairCounts → Type 0
+Means mentions entered = IsOf pair_eq no_counts with_gain mentions entered
 
 -- a frame may be taken that passes at a moment, and whose first reference has that stamp
-pub record IsReady (stamp moment : ℕ) (rows : MatrixRows) : Type 0 where
-  pub pairs : MayTake stamp moment rows.pairs
-  pub reverse : MayTake stamp moment rows.reverse
+abbrev pub IsReady : (stamp moment : ℕ) → MatrixRows → Type 0
+IsReady stamp moment rows = MayTake stamp moment rows.pairs
 
 -- what frames enter, with room for so many pairs as the probe was set to
 abbrev pub pair_sourcing : Sourcing AddressPair PairCounts MatrixRows
@@ -40,7 +35,7 @@ pair_sourcing = record {
   plus = with_gain;
   mentioned = mentioned_in;
   entered = λ rows. rows.pairs;
-  means = Means;
+  means = λ mentions rows. Means mentions rows.pairs;
   is_ready = IsReady;
 }
 

@@ -50,7 +50,7 @@ impl KeyTable for ByDestination {
     }
 
     fn index_above(rows: &MatrixRows, index: &Oid) -> Option<Oid> {
-        key_above(rows.reverse.rows(), index)
+        key_above(&rows.reverse, index)
     }
 
     fn value<'a>(row: u32, rows: &'a MatrixRows, index: &Oid, column: u32) -> Option<Value<'a>>
@@ -58,7 +58,7 @@ impl KeyTable for ByDestination {
         ensures value { option_map val_of result ≡ option_map (λ pair. kept_value row rows.now pair column) (by_destination rows.now (drop 1 index.now)) }
         ensures spelling { IfSome result (λ value. HasSpelling (val_of value)) }
     {
-        let pair = key_at(rows.reverse.rows(), index, 1)?;
+        let pair = key_at(&rows.reverse, index, 1)?;
         Some(pair_value(row, rows, &pair.second, &pair.first, column))
     }
 

@@ -1,12 +1,17 @@
 // The pairs of hosts of a control row.
 ghost use Rattle.std.specs.Prelude.{◌≡◌, ◌+◌, ◌/◌, ◌<◌, ◌≤◌, ◌^◌, List, ◌++◌};
+ghost use Rattle.rm_rows.specs.Table.{keys_of};
+ghost use Rattle.rm_keyed.specs.declared.keyed.TheConstants.{MOST_ROWS};
+ghost use Rattle.rm_keyed.specs.Addresses.{pair_eq, reversed};
+ghost use Rattle.rm_keyed.specs.Reversed.{AreFoundReversed};
 
 use crate::by_destination::{ByDestination, DESTINATION_OBJECTS};
 use crate::by_source::{BySource, SOURCE_OBJECTS};
 use crate::matrix_room::MatrixRoom;
 use crate::pair_counts::PairCounts;
 use rm_group::TableObjects;
-use rm_keyed::{AddressPair, Keyed, SOURCE_NUMBERS, SourceTable, Uncounted};
+use rm_keyed::{AddressPair, Keyed, MOST_ROWS, SOURCE_NUMBERS, SourceTable};
+use rm_order::OrderedKeys;
 use rm_pool::Part;
 use rm_proto::Facts;
 use rm_sourced::SourceRows;
@@ -29,15 +34,17 @@ pub struct MatrixRows {
     /// The pairs, each a source and its destination.
     pub pairs: Keyed<AddressPair, PairCounts>,
     /// The same pairs, each a destination and its source, for the walks in that order.
-    pub reverse: Keyed<AddressPair, Uncounted>,
+    pub reverse: OrderedKeys<AddressPair>,
     // The tables that show them: who names the rows names these too.
     tables: PhantomData<(BySource, ByDestination)>,
+    ghost alike: { AreFoundReversed pair_eq reversed reverse.keys (keys_of pairs.rows.rows) },
+    ghost room: { MOST_ROWS ≤ reverse.room },
 }
 
 impl Part for MatrixRows {
     fn spare(alloc: Global) -> Result<MatrixRows, NoMemory> {
         let pairs = Keyed::spare(alloc)?;
-        let reverse = Keyed::spare(alloc)?;
+        let reverse = OrderedKeys::new(alloc, MOST_ROWS as usize)?;
         Ok(MatrixRows {
             pairs,
             reverse,
@@ -83,7 +90,7 @@ impl SourceRows<AddressPair> for MatrixRows {
 
     fn begin(&mut self, room: &MatrixRoom) {
         self.pairs.begin(room.pairs);
-        self.reverse.begin(room.pairs);
+        self.reverse.clear();
     }
 
     // A good frame has one reference, and leaves its second stamp out.
@@ -94,9 +101,8 @@ impl SourceRows<AddressPair> for MatrixRows {
         let pair = AddressPair::new(addresses.source, addresses.dest);
         let gain = PairCounts::of(facts);
         if facts.good {
-            self.pairs.refer(pair, stamp, moment / 10, &gain);
-            self.reverse
-                .refer(pair.reversed(), stamp, moment / 10, &Uncounted);
+            let touch = self.pairs.refer(pair, stamp, moment / 10, &gain);
+            self.reverse.follow(&pair, &touch);
         } else {
             self.pairs.stray(&pair, &gain);
         }

@@ -1,6 +1,7 @@
 use Rattle.std.proofs.Common.{refl}
 use Rattle.rm_evicting.proofs.Keys.{exact_key}
 use Rattle.rm_keyed.specs.Entered.{Entered, IsOf}
+use Rattle.rm_keyed.proofs.Credits.{keys_credited}
 use Rattle.rm_keyed.proofs.EachRow.{ready-strayed}
 use Rattle.rm_keyed.proofs.Mentions.{is_of-strays}
 use Rattle.rm_keyed.proofs.keyed.Keyed.stray.Goals as goal
@@ -16,3 +17,6 @@ returns-clause-means g c = λ mentions is.
     let new : Entered g.row.K.Denot g.row.V.Denot = record { rows = c.credit.new.rows; last_delete = c.self.inside.last_delete; stamps = c.self.inside.stamps; tick = c.self.inside.tick } in
     let before : IsOf g.K.PartialEq.eq g.V.Blank.blank_value g.V.Counts.plus mentions old = rw c.self.view_is is in
     is_of-strays g.K.PartialEq.eq exact g.V.Blank.blank_value g.V.Counts.plus mentions old new before c.args.key.now c.args.gain.now c.credit.ensures refl refl
+
+pub returns-clause-keys : goal.returns-clause-keys
+returns-clause-keys g c = rw (c.credit.ensures, ← c.self.view_is) (keys_credited g.K.PartialEq.eq g.V.Counts.plus c.args.key.now c.args.gain.now c.self.inside.rows.rows)
