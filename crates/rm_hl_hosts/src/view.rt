@@ -34,6 +34,8 @@ impl LayerView for HostView {
 
     type Counts = NetworkCounts;
 
+    type Rows = HeldTable<[u8; 4], NetworkCounts>;
+
     ghost table_of = { hosts_of };
 
     ghost networks = { nl_host };
@@ -42,7 +44,7 @@ impl LayerView for HostView {
 
     ghost application_count = { traffic_in };
 
-    fn held(part: &HostPart) -> &HeldTable<[u8; 4], NetworkCounts> {
+    fn rows(part: &HostPart) -> &HeldTable<[u8; 4], NetworkCounts> {
         &part.hosts
     }
 

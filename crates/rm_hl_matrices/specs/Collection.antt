@@ -1,4 +1,4 @@
--- What the active rows of hlMatrixControl collect: each has pairs of hosts, in both orders.
+-- What the active rows of hlMatrixControl collect: each has pairs of hosts, which are shown in two orders.
 use Rattle.std.specs.Prelude.{◌≡◌, ℕ, ◌+◌, ◌*◌, List, [], ◌∷◌, Option, None}
 use Rattle.std.proofs.Props.{props}
 use Rattle.std.specs.Option.{option_or}
@@ -16,7 +16,9 @@ use Rattle.rm_keyed.specs.TwoTables.{cells_of_two, alone_of_two}
 use Rattle.rm_collect.specs.Collection.{Collection}
 use Rattle.rm_collect.specs.declared.sampled_tables.SampledTables.TheVariants.{NoTable}
 use Rattle.rm_upper.specs.LayerTable.{LayerTable}
+use Rattle.rm_reversed.specs.Reversed.{reversed_table}
 use Rattle.rm_layer_events.specs.Side.{next_stamp}
+use Rattle.rm_layer_matrices.specs.AddressPairs.{reversed}
 use Rattle.rm_layer_matrices.specs.declared.pair_counts.PairCounts.{PairCounts}
 use Rattle.rm_layer_matrices.specs.PairCounts.{pair_tally}
 use Rattle.rm_layer_slots.specs.declared.slots.TableKind.TheVariants.{Matrices}
@@ -36,7 +38,7 @@ use Rattle.rm_hl_matrices.specs.declared.control.MatrixControl.{MatrixControl}
 use Rattle.rm_hl_matrices.specs.declared.part.PairPart.{PairPart}
 use Rattle.rm_hl_matrices.specs.Columns.{network_count, application_count}
 use Rattle.rm_hl_matrices.specs.Control.{control_entry}
-use Rattle.rm_hl_matrices.specs.Pairs.{Pair, source_layer, destination_layer, nl_matrix_sd, nl_matrix_ds, al_matrix_sd, al_matrix_ds}
+use Rattle.rm_hl_matrices.specs.Pairs.{Pair, source_layer, nl_matrix_sd, nl_matrix_ds, al_matrix_sd, al_matrix_ds}
 use Rattle.rm_hl_matrices.specs.PairCells.{same_pair, pair_cells}
 
 pub in_range_prop : (columns : LayerColumns MatrixControl) → IsProp (IsInRange columns)
@@ -46,28 +48,26 @@ in_range_prop columns = hlevel props
 abbrev pub pair_tables : List ListedTable
 pair_tables = record { entry = control_entry; columns = control_columns } ∷ listed nl_matrix_sd ∷ listed nl_matrix_ds ∷ listed al_matrix_sd ∷ listed al_matrix_ds ∷ []
 
--- the pairs of a part, in both orders
+-- the pairs of a part, each a source and its destination, and each the other way round
 abbrev pub by_source : PairPart → LayerTable Pair PairCounts PairCounts
-by_source part = part.by_source.table
+by_source part = part.pairs
 
 abbrev pub by_destination : PairPart → LayerTable Pair PairCounts PairCounts
-by_destination part = part.by_destination.table
+by_destination part = reversed_table reversed part.pairs
 
 -- a frame may be taken whose first reference would have this stamp, at a moment
 abbrev pub MayTake : (stamp moment : ℕ) → PairPart → Type 0
-MayTake stamp moment part = IsReady stamp moment (by_source part) × IsReady stamp moment (by_destination part)
+MayTake stamp moment part = IsReady stamp moment part.pairs
 
 -- a part has the data source of a row, and its pairs after a journal
 pub record IsPart (settings : Counting) (journal : Journal) (row : ℕ) (part : PairPart) : Type 0 where
   pub source : name (interface_name part.source) ≡ control_set control_entry journal row 2
-  pub sources : IsHeld source_layer pair_tally same_pair settings journal row (by_source part)
-  pub destinations : IsHeld destination_layer pair_tally same_pair settings journal row (by_destination part)
+  pub pairs : IsHeld source_layer pair_tally same_pair settings journal row part.pairs
 
 -- and in the midst of a Set, where what it turns is yet to be turned
 pub record IsBegunPart (settings : Counting) (act : Act) (earlier : Journal) (row : ℕ) (part : PairPart) : Type 0 where
   pub source : name (interface_name part.source) ≡ control_set control_entry (act ∷ earlier) row 2
-  pub sources : HasBegun source_layer pair_tally same_pair settings act earlier row (by_source part)
-  pub destinations : HasBegun destination_layer pair_tally same_pair settings act earlier row (by_destination part)
+  pub pairs : HasBegun source_layer pair_tally same_pair settings act earlier row part.pairs
 
 -- A part took a frame that has these protocols above ip on its path: it has then the pairs with that frame.
 pub record Takes (path : List ℕ) (facts : Facts) (stamp moment : ℕ) (part new : PairPart) : Type 0 where

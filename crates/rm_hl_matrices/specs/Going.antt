@@ -11,9 +11,9 @@ use Rattle.rm_layer_tables.specs.Control.{layer_control, control_state}
 use Rattle.rm_layer_tables.specs.Layer.{locals_above_ip}
 use Rattle.rm_layer_tables.specs.Going.{sampled, going_on}
 use Rattle.rm_hl_matrices.specs.Control.{control_entry}
-use Rattle.rm_hl_matrices.specs.Pairs.{source_layer, destination_layer}
+use Rattle.rm_hl_matrices.specs.Pairs.{source_layer}
 use Rattle.rm_hl_matrices.specs.PairCells.{same_pair}
-use Rattle.rm_hl_matrices.specs.Collection.{IsPart, IsBegunPart, Takes, by_source, by_destination}
+use Rattle.rm_hl_matrices.specs.Collection.{IsPart, IsBegunPart, Takes}
 use Rattle.rm_hl_matrices.specs.declared.part.PairPart.{PairPart}
 
 -- a frame
@@ -26,8 +26,7 @@ pub one_sample : (settings : Counting) (journal : Journal) (moment alarm : ℕ) 
     → IsPart settings (samples moment alarm reading ∷ journal) row part
 one_sample settings journal moment alarm reading row part is = record {
   source = is.source;
-  sources = sampled source_layer pair_tally same_pair settings row journal moment alarm reading (by_source part) is.sources;
-  destinations = sampled destination_layer pair_tally same_pair settings row journal moment alarm reading (by_destination part) is.destinations;
+  pairs = sampled source_layer pair_tally same_pair settings row journal moment alarm reading part.pairs is.pairs;
 }
 
 -- a Set over which the row goes on, before what the Set turns is turned
@@ -35,6 +34,5 @@ pub set_begun : (settings : Counting) (moment : ℕ) (values : Assignments) (ear
     → GoesOn (layer_control control_entry) row earlier (assigns moment values ∷ earlier) → IsPart settings earlier row part → IsBegunPart settings (assigns moment values) earlier row part
 set_begun settings moment values earlier row part valid going is = record {
   source = is.source ∙ sym (going.set 2 refl refl);
-  sources = going_on source_layer pair_tally same_pair settings moment values earlier row (by_source part) valid going is.sources;
-  destinations = going_on destination_layer pair_tally same_pair settings moment values earlier row (by_destination part) valid going is.destinations;
+  pairs = going_on source_layer pair_tally same_pair settings moment values earlier row part.pairs valid going is.pairs;
 }

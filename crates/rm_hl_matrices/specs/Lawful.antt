@@ -8,7 +8,7 @@ use Rattle.rm_layer_tables.specs.Going.{shared_still}
 use Rattle.rm_layer_tables.specs.RangeLaws.{blank_in_range, put_in_range}
 use Rattle.rm_layer_tables.specs.ReadyLaws.{ready_later, ready_next}
 use Rattle.rm_hl_matrices.specs.Control.{control_entry, control_rows}
-use Rattle.rm_hl_matrices.specs.Collection.{by_source, by_destination, pair_collection}
+use Rattle.rm_hl_matrices.specs.Collection.{pair_collection}
 use Rattle.rm_hl_matrices.specs.Going.{one_frame, one_sample, set_begun}
 use Rattle.rm_hl_matrices.specs.Listing.{all_listed, all_refused}
 use Rattle.rm_hl_matrices.specs.SameCells.{same_cells, all_finite}
@@ -18,8 +18,8 @@ unfolding pair_collection layer_rows
 pair_lawful = record {
   blank_in_range = λ index. blank_in_range;
   put_in_range = put_in_range control_entry;
-  fits_later = λ last now frames part later ready. (ready_later (by_source part) (2 * frames) last now later ready.0, ready_later (by_destination part) (2 * frames) last now later ready.1);
-  fits_taken = λ judged seen frames part new ready takes. (ready_next (by_source new) frames seen.moment takes.ready.0, ready_next (by_destination new) frames seen.moment takes.ready.1);
+  fits_later = λ last now frames part later ready. ready_later part.pairs (2 * frames) last now later ready;
+  fits_taken = λ judged seen frames part new ready takes. ready_next new.pairs frames seen.moment takes.ready;
   is_of_taken = λ settings journal row frame judged part new valid judges fits is takes. one_frame settings journal row frame judged part new judges is takes;
   is_of_sampled = λ settings journal moment alarm reading row part valid going is. one_sample settings journal moment alarm reading row part is;
   begun_going = λ settings moment values earlier row part valid still going is. set_begun settings moment values earlier row part valid going is;

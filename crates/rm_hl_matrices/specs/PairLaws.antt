@@ -3,14 +3,22 @@ use Rattle.std.proofs.Common.{◌≡◌, ℕ, ◌+◌, ◌%◌, ◌^◌, Bool, t
 use Rattle.std.specs.Str.{bytes_eq}
 use Rattle.std.proofs.lemmas.Bool.{and_parts}
 use Rattle.std.proofs.lemmas.Slice.Eq.{bytes_eq-Decides}
+use Rattle.rm_model.specs.Counting.{Counting}
+use Rattle.rm_model.specs.Journal.{Journal}
 use Rattle.rm_evicting.specs.Held.{IsExact}
+use Rattle.rm_upper.specs.LayerTable.{LayerTable}
+use Rattle.rm_reversed.specs.Reversed.{reversed_table}
+use Rattle.rm_reversed.proofs.KeyLemmas.{alike_of}
+use Rattle.rm_layer_matrices.specs.AddressPairs.{reversed}
 use Rattle.rm_layer_matrices.specs.declared.pair_counts.PairCounts.{PairCounts}
 use Rattle.rm_layer_matrices.specs.PairCounts.{no_counts, plus, pair_tally}
 use Rattle.rm_layer_tables.specs.Layer.{NamesFew}
+use Rattle.rm_layer_tables.specs.Reversing.{held_reversed}
+use Rattle.rm_layer_tables.specs.Standing.{IsHeld}
 use Rattle.rm_layer_tables.specs.Shown.{AddsUp}
 use Rattle.rm_layer_tables.specs.Tables.{CanShow}
 use Rattle.rm_hl_matrices.specs.Columns.{count_in, network_count, application_count}
-use Rattle.rm_hl_matrices.specs.Pairs.{source_layer, destination_layer, nl_matrix_sd, nl_matrix_ds, al_matrix_sd, al_matrix_ds}
+use Rattle.rm_hl_matrices.specs.Pairs.{Pair, source_layer, destination_layer, nl_matrix_sd, nl_matrix_ds, al_matrix_sd, al_matrix_ds}
 use Rattle.rm_hl_matrices.specs.PairCells.{same_pair}
 
 pub source_named : NamesFew source_layer
@@ -27,6 +35,12 @@ exact = record {
       let parts = and_parts (bytes_eq one.first other.first) (bytes_eq one.second other.second) alike in
       λ d. record { first = (bytes_eq-Decides one.first other.first).0 parts.0 d; second = (bytes_eq-Decides one.second other.second).0 parts.1 d };
 }
+
+-- the pairs that a row has by source, it has by destination with each the other way round
+pub destinations_held : (settings : Counting) (journal : Journal) (row : ℕ) (pairs : LayerTable Pair PairCounts PairCounts)
+    → IsHeld source_layer pair_tally same_pair settings journal row pairs → IsHeld destination_layer pair_tally same_pair settings journal row (reversed_table reversed pairs)
+destinations_held settings journal row pairs is =
+    held_reversed source_layer pair_tally same_pair reversed (λ pair. refl) (alike_of same_pair exact reversed (λ pair. refl)) settings journal row pairs is
 
 count_adds : (packets column : ℕ) (counts gain : PairCounts) → count_in packets column (plus counts gain) ≡ (count_in packets column counts + count_in packets column gain) % 2 ^ 64
 count_adds packets column counts gain = by_test (nat_eq column packets)

@@ -11,10 +11,9 @@ ghost use Rattle.rm_hl_matrices.specs.Collection.{Takes, MayTake};
 ghost use Rattle.rm_hl_matrices.specs.Pairs.{Pair};
 ghost use Rattle.rm_hl_matrices.specs.PairCells.{same_pair};
 
-use crate::part::PairPart;
+use crate::part::{PairPart, PairTable};
 use rm_layer_matrices::{AddressPair, PairCounts};
 use rm_proto::Facts;
-use rm_upper::LayerTable;
 
 /// Takes a frame for the row of hlMatrixControl whose pairs the part has. It counts where it is good, of the row's data source, and has IPv4
 /// addresses. `path` has the local indexes of the protocols above ip on its path, and `stamp` is the first of the frame's two stamps.
@@ -27,28 +26,18 @@ pub(crate) fn take_frame(part: &mut PairPart, facts: &Facts, path: &[u32], stamp
         return;
     }
     if let Some(ends) = &facts.ip {
-        let tick = moment / 10;
-        let gain = PairCounts::carried(facts);
         let pair = AddressPair {
             first: ends.source,
             second: ends.dest,
         };
-        take_pair(&mut part.by_source.table, pair, &gain, path, stamp, tick);
-        let reversed = pair.reversed();
-        take_pair(
-            &mut part.by_destination.table,
-            reversed,
-            &gain,
-            path,
-            stamp,
-            tick,
-        );
+        let gain = PairCounts::carried(facts);
+        take_pair(&mut part.pairs, pair, &gain, path, stamp, moment / 10);
     }
 }
 
-// Takes a frame that names one pair, in one order.
+// Takes a frame that names one pair.
 fn take_pair(
-    pairs: &mut LayerTable<AddressPair<[u8; 4]>, PairCounts>,
+    pairs: &mut PairTable,
     pair: AddressPair<[u8; 4]>,
     gain: &PairCounts,
     path: &[u32],
@@ -59,7 +48,6 @@ fn take_pair(
     requires latest { pairs.old.latest ≤ tick }
     requires fits { stamp < 2 ^ 58 }
     ensures slots { pairs.new.layered.slots ≡ pairs.old.layered.slots }
-    ensures room { pairs.new.layered.table.room ≡ pairs.old.layered.table.room }
     ensures next { pairs.new.next ≡ stamp + 1 }
     ensures latest { pairs.new.latest ≡ tick }
     ensures stands { (layer : Layer Pair Counted) (settings : Counting) (row : ℕ) (journal : Journal) (frame : Frame) → NamesFew layer

@@ -1,4 +1,8 @@
 // What the rows of hlMatrixControl collect.
+ghost use Rattle.std.specs.Prelude.{◌≡◌, ◌%◌, ◌^◌};
+ghost use Rattle.rm_layer_tables.specs.Kept.{kept_counter};
+ghost use Rattle.rm_hl_matrices.specs.Collection.{by_source};
+ghost use Rattle.rm_hl_matrices.specs.PairCells.{same_pair};
 
 use crate::control::{CONTROL_OBJECTS, MatrixColumns};
 use crate::counted_frame::CountedFrame;
@@ -35,6 +39,13 @@ const OBJECTS: &[TableObjects] = &[
     AL_MATRIX_DS,
 ];
 
+// What a column of hlMatrixControl counts of the pairs of a part. Each pair counts once.
+fn counter_in(part: &PairPart, column: u32) -> u32
+    ensures { result ≡ kept_counter same_pair (by_source part.now) column % 2 ^ 32 }
+{
+    control_counter(&part.pairs.first().table, column)
+}
+
 #[tactic(auto, unfolding(crate::specs::Collection::pair_collection, rm_layer_tables::specs::ControlColumns::layer_rows))]
 impl Collected for PairPart {
     type Columns = MatrixColumns;
@@ -49,8 +60,7 @@ impl Collected for PairPart {
     ghost collection = { pair_collection };
 
     fn begin(&mut self, columns: &MatrixColumns, shared: &LayerShared, _now: u32) {
-        self.by_source.begin(columns, shared);
-        self.by_destination.begin(columns, shared);
+        self.pairs.begin(columns, shared);
         self.source = columns.source;
     }
 
@@ -65,7 +75,6 @@ impl Collected for PairPart {
         });
     }
 
-    // Both orders have entered as many.
     fn other(
         parts: &Pool<PairPart>,
         index: u32,
@@ -73,7 +82,7 @@ impl Collected for PairPart {
         column: u32,
     ) -> Value<'static> {
         match parts.get(index) {
-            Some(part) => Value::Counter(control_counter(&part.by_source.table, column)),
+            Some(part) => Value::Counter(counter_in(part, column)),
             None => Value::Counter(0),
         }
     }
@@ -143,9 +152,7 @@ impl Collected for PairPart {
 #[tactic(auto, unfolding(crate::specs::Collection::pair_collection))]
 impl Turned for PairPart {
     fn turn(&mut self, shared: &LayerShared, given: u32) {
-        let stamp = 2 * u64::from(given);
-        self.by_source.turn(shared, stamp);
-        self.by_destination.turn(shared, stamp);
+        self.pairs.turn(shared, 2 * u64::from(given));
     }
 }
 

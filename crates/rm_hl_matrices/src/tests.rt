@@ -9,7 +9,7 @@ use rm_columns::ControlRow;
 use rm_dir::Directory;
 use rm_layer_matrices::{AddressPair, PairCounts};
 use rm_layer_slots::TableKind;
-use rm_layer_tables::{LayerShared, control_counter, locals_above_ip};
+use rm_layer_tables::{LayerRows, LayerShared, control_counter, locals_above_ip};
 use rm_pool::Part;
 use rm_proto::{Cast, Facts, IpPair, Ports};
 use rm_upper::Counted;
@@ -72,13 +72,12 @@ fn pairs_stand_in_both_orders(rt: HostRuntime) -> Result<(), Fail> {
     let mut part = PairPart::spare(rt.alloc())?;
     let shared = LayerShared::by(TableKind::Matrices, &Directory::new(), 1024);
     part.source = 1;
-    part.by_source.begin(&MatrixColumns::blank(1), &shared);
-    part.by_destination.begin(&MatrixColumns::blank(1), &shared);
+    part.pairs.begin(&MatrixColumns::blank(1), &shared);
     pass(&mut part, 0, 1000, &query(1, 9));
     pass(&mut part, 1, 1500, &query(2, 3));
     pass(&mut part, 2, 2000, &query(1, 9));
-    let sources = part.by_source.table.rows();
-    let destinations = part.by_destination.table.rows();
+    let sources = part.pairs.first();
+    let destinations = &part.pairs;
     assert_eq!(rt; sources.network(&pair(1, 9)), counts(100, 200, 2, 128));
     assert_eq!(rt; sources.network(&pair(9, 1)), None);
     assert_eq!(rt; destinations.network(&pair(9, 1)), counts(100, 200, 2, 128));
@@ -107,21 +106,23 @@ fn pairs_give_way_in_both_orders(rt: HostRuntime) -> Result<(), Fail> {
     let mut columns = MatrixColumns::blank(1);
     columns.network = 2;
     part.source = 1;
-    part.by_source.begin(&columns, &shared);
-    part.by_destination.begin(&columns, &shared);
+    part.pairs.begin(&columns, &shared);
     pass(&mut part, 0, 1000, &query(1, 2));
     pass(&mut part, 1, 1100, &query(2, 1));
     pass(&mut part, 2, 1200, &query(1, 2));
     pass(&mut part, 3, 1300, &query(3, 1));
-    let sources = part.by_source.table.rows();
-    let destinations = part.by_destination.table.rows();
+    let sources = part.pairs.first();
+    let destinations = &part.pairs;
     assert_eq!(rt; sources.network(&pair(2, 1)), None);
     assert_eq!(rt; sources.network(&pair(1, 2)), counts(100, 120, 2, 128));
     assert_eq!(rt; destinations.network(&pair(1, 2)), None);
     assert_eq!(rt; destinations.network(&pair(2, 1)), counts(100, 120, 2, 128));
-    assert_eq!(rt; control_counter(&part.by_source.table, 4), 3);
-    assert_eq!(rt; control_counter(&part.by_destination.table, 4), 3);
-    assert_eq!(rt; control_counter(&part.by_source.table, 5), 1);
-    assert_eq!(rt; control_counter(&part.by_destination.table, 5), 1);
+    assert_eq!(rt; destinations.network_after(0, None), Some((0, pair(1, 3))));
+    assert_eq!(rt;
+        destinations.network_after(0, Some(pair(1, 3))),
+        Some((0, pair(2, 1)))
+    );
+    assert_eq!(rt; control_counter(&sources.table, 4), 3);
+    assert_eq!(rt; control_counter(&sources.table, 5), 1);
     Ok(())
 }

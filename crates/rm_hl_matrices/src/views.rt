@@ -6,7 +6,7 @@ ghost use Rattle.rm_hl_matrices.specs.Pairs.{nl_matrix_sd, nl_matrix_ds, al_matr
 use crate::part::{PairPart, PairTable};
 use rm_group::TableObjects;
 use rm_layer_matrices::{AddressPair, PairCounts};
-use rm_layer_tables::{LayerView, MarkedObjects};
+use rm_layer_tables::{HeldTable, LayerView, MarkedObjects};
 
 /// nlMatrixSDTable (RFC 2021, section 6).
 pub(crate) const NL_MATRIX_SD: TableObjects = TableObjects {
@@ -51,6 +51,8 @@ impl LayerView for SourceView {
 
     type Counts = PairCounts;
 
+    type Rows = HeldTable<AddressPair<[u8; 4]>, PairCounts>;
+
     ghost table_of = { by_source };
 
     ghost networks = { nl_matrix_sd };
@@ -59,8 +61,8 @@ impl LayerView for SourceView {
 
     ghost application_count = { application_count };
 
-    fn held(part: &PairPart) -> &PairTable {
-        &part.by_source
+    fn rows(part: &PairPart) -> &HeldTable<AddressPair<[u8; 4]>, PairCounts> {
+        part.pairs.first()
     }
 
     fn networks() -> MarkedObjects {
@@ -98,6 +100,8 @@ impl LayerView for DestinationView {
 
     type Counts = PairCounts;
 
+    type Rows = PairTable;
+
     ghost table_of = { by_destination };
 
     ghost networks = { nl_matrix_ds };
@@ -106,8 +110,8 @@ impl LayerView for DestinationView {
 
     ghost application_count = { application_count };
 
-    fn held(part: &PairPart) -> &PairTable {
-        &part.by_destination
+    fn rows(part: &PairPart) -> &PairTable {
+        &part.pairs
     }
 
     fn networks() -> MarkedObjects {

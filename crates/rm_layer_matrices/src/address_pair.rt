@@ -1,8 +1,7 @@
 // Pairs of addresses.
 
-ghost use Rattle.std.specs.Prelude.{◌≡◌};
-
 use rm_evicting::Key;
+use rm_order::Reversible;
 use std::cmp::Ordering;
 
 /// Two addresses, in order of the first and then of the second: a source and its destination, or a destination and its source.
@@ -27,16 +26,19 @@ impl<A: Key> Key for AddressPair<A> {
     ghost exact = { exact_pair A.cmp A.exact };
 }
 
-impl<A: Key> AddressPair<A> {
+impl<A: Key> Reversible for AddressPair<A> {
+    ghost use Rattle.std.proofs.Common.{refl};
     ghost use Rattle.rm_layer_matrices.specs.AddressPairs.{reversed};
 
+    ghost reversing = { reversed };
+
     /// The same addresses, the second first.
-    pub fn reversed(&self) -> AddressPair<A>
-        ensures { result ≡ reversed self.now }
-    {
+    fn reversed(&self) -> AddressPair<A> {
         AddressPair {
             first: self.second,
             second: self.first,
         }
     }
+
+    ghost twice = { λ pair. refl };
 }

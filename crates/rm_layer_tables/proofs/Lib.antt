@@ -3,3 +3,4 @@ pub mod OnLemmas
 pub mod TurnLemmas
 pub mod PlaceLemmas
 pub mod WalkLemmas
+pub mod SoundLemmas

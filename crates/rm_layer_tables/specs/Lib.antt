@@ -28,3 +28,4 @@ pub mod RangeLaws
 pub mod Going
 pub mod Ready
 pub mod ReadyLaws
+pub mod Reversing

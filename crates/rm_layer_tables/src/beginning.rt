@@ -1,5 +1,5 @@
 // The rows of a control row as it becomes active, and over a Set.
-ghost use Rattle.std.specs.Prelude.{◌≡◌, ◌∷◌, ℕ, true, false};
+ghost use Rattle.std.specs.Prelude.{◌≡◌, [], ◌∷◌, ℕ, true, false, if◌then◌else◌};
 ghost use Rattle.rm_val.specs.Val.{int};
 ghost use Rattle.rm_model.specs.Counting.{Counting};
 ghost use Rattle.rm_model.specs.Journal.{Act, Assignments, Journal, assigns};
@@ -23,6 +23,7 @@ impl<K: Key, N: LayerCounts> HeldTable<K, N> {
     /// before what the Set turns.
     pub fn begin<T>(&mut self, columns: &LayerColumns<T>, shared: &LayerShared)
         requires in_range { IsInRange columns.now }
+        ensures none { self.new.table.layered.table.rows ≡ [] }
         ensures next { self.new.table.next ≡ 0 }
         ensures latest { self.new.table.latest ≡ 0 }
         ensures begun { (layer : Layer K N) (settings : Counting) (row : ℕ) (act : Act) (earlier : Journal) → AreShared layer.kind shared.now settings earlier
@@ -36,8 +37,10 @@ impl<K: Key, N: LayerCounts> HeldTable<K, N> {
     }
 
     /// Turns ip and the protocols above it on and off, once a Set is done, by what all rows share after it. A protocol that is on still
-    /// keeps its slot, and each other one is on from a stamp, which is that of the next frame.
-    pub fn turn(&mut self, shared: &LayerShared, stamp: u64)
+    /// keeps its slot, and each other one is on from a stamp, which is that of the next frame. Tells whether ip was turned, by which every
+    /// row goes.
+    pub fn turn(&mut self, shared: &LayerShared, stamp: u64) -> bool
+        ensures rows { self.new.table.layered.table.rows ≡ (if result then [] else self.old.table.layered.table.rows) }
         ensures next { self.new.table.next ≡ self.old.table.next }
         ensures latest { self.new.table.latest ≡ self.old.table.latest }
         ensures turned { (layer : Layer K N) (settings : Counting) (row moment : ℕ) (values : Assignments) (earlier : Journal) → NamesFew layer → stamp ≡ next_stamp earlier
@@ -45,7 +48,8 @@ impl<K: Key, N: LayerCounts> HeldTable<K, N> {
             → HasBegun layer N.tally K.eq settings (assigns moment values) earlier row self.old.table → IsHeld layer N.tally K.eq settings (assigns moment values ∷ earlier) row self.new.table }
     {
         let slots = settle(&self.slots, &shared.slots);
-        turn(&mut self.table, shared.on, &slots, stamp);
+        let is_turned = turn(&mut self.table, shared.on, &slots, stamp);
         self.slots = slots;
+        is_turned
     }
 }

@@ -7,6 +7,7 @@ ghost use Rattle.rm_layer_tables.specs.Shown.{column_of};
 ghost use Rattle.rm_layer_tables.specs.TableLaws.{short_of};
 
 use crate::layer_key::LayerKey;
+use crate::layer_rows::LayerRows;
 use crate::layer_view::LayerView;
 use crate::places::{application_index, application_place, application_reached};
 use crate::shown::{application_shown, is_up};
@@ -49,17 +50,18 @@ impl<V: LayerView> KeyTable for ByApplication<V> {
     }
 
     fn index_above(part: &V::Part, numbers: &Oid) -> Option<Oid> {
-        let held = V::held(part);
+        let rows = V::rows(part);
+        rows.are_sound();
         let place = walk_place(V::Key::bounds(), numbers);
         let from = application_reached(&place.reached);
-        let (mark, (key, protocol)) = held.table.rows().application_after(place.mark, from)?;
+        let (mark, (key, protocol)) = rows.application_after(place.mark, from)?;
         key.is_named();
         Some(application_index(mark, &key, protocol))
     }
 
     fn value<'a>(_row: u32, part: &'a V::Part, index: &Oid, column: u32) -> Option<Value<'a>> {
         let (mark, (key, protocol)) = application_place::<V::Key>(index)?;
-        let counted = V::held(part).table.rows().application(&key, protocol);
+        let counted = V::rows(part).application(&key, protocol);
         application_shown::<V>(counted, mark, column)
     }
 

@@ -7,6 +7,7 @@ ghost use Rattle.rm_layer_tables.specs.Shown.{column_of};
 ghost use Rattle.rm_layer_tables.specs.TableLaws.{short_of};
 
 use crate::layer_key::LayerKey;
+use crate::layer_rows::LayerRows;
 use crate::layer_view::LayerView;
 use crate::places::{key_reached, network_index, network_place};
 use crate::shown::{is_up, network_shown};
@@ -48,7 +49,7 @@ impl<V: LayerView> KeyTable for ByNetwork<V> {
     }
 
     fn index_above(part: &V::Part, numbers: &Oid) -> Option<Oid> {
-        let rows = V::held(part).table.rows();
+        let rows = V::rows(part);
         rows.are_sound();
         let place = walk_place(V::Key::bounds(), numbers);
         let from = key_reached(&place.reached);
@@ -59,7 +60,7 @@ impl<V: LayerView> KeyTable for ByNetwork<V> {
 
     fn value<'a>(_row: u32, part: &'a V::Part, index: &Oid, column: u32) -> Option<Value<'a>> {
         let (mark, key) = network_place::<V::Key>(index)?;
-        let counted = V::held(part).table.rows().network(&key);
+        let counted = V::rows(part).network(&key);
         network_shown::<V>(counted, mark, column)
     }
 

@@ -1,5 +1,5 @@
 // The rows of the network and application layer that a control row has, in storage of its own.
-ghost use Rattle.std.specs.Prelude.{◌≡◌};
+ghost use Rattle.std.specs.Prelude.{◌≡◌, [], IfOk};
 ghost use Rattle.rm_layers.specs.Applications.{AreApart};
 ghost use Rattle.rm_upper.specs.Shown.{protocols};
 ghost use Rattle.rm_layer_tables.specs.Apart.{apart_prop};
@@ -10,7 +10,7 @@ use rm_val::NoMemory;
 use std::alloc::Global;
 
 /// How many network rows a control row has room for at most, whatever the probe was set to.
-const MOST_ROWS: usize = 1024;
+pub(crate) const MOST_ROWS: usize = 1024;
 
 /// The rows of the network and application layer that a control row has, and the slots of the protocols above ip that are on: storage for as
 /// many rows as any control row has room for.
@@ -27,7 +27,9 @@ pub struct HeldTable<K: Key, N: LayerCounts> {
 
 impl<K: Key, N: LayerCounts> HeldTable<K, N> {
     /// No rows, with storage for 1024 network rows. NoMemory where there is none.
-    pub fn spare(alloc: Global) -> Result<HeldTable<K, N>, NoMemory> {
+    pub fn spare(alloc: Global) -> Result<HeldTable<K, N>, NoMemory>
+        ensures { IfOk result (λ held. held.table.layered.table.rows ≡ []) }
+    {
         let table = LayerTable::new(alloc, MOST_ROWS)?;
         Ok(HeldTable {
             table,

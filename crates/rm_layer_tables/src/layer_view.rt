@@ -3,8 +3,8 @@ ghost use Rattle.std.specs.Prelude.{◌≡◌, ℕ, ◌+◌};
 ghost use Rattle.rm_upper.specs.LayerTable.{LayerTable};
 ghost use Rattle.rm_layer_tables.specs.Tables.{MarkedTable, CanShow};
 
-use crate::held_table::HeldTable;
 use crate::layer_key::LayerKey;
+use crate::layer_rows::LayerRows;
 use rm_group::TableObjects;
 use rm_pool::Part;
 use rm_upper::{Counts, LayerCounts};
@@ -30,7 +30,10 @@ pub trait LayerView {
     /// What network rows count.
     type Counts: LayerCounts;
 
-    /// The rows that a part holds.
+    /// What has the rows of a part.
+    type Rows: LayerRows<Key = Self::Key, Counts = Self::Counts>;
+
+    /// The rows of a part, as they are shown.
     ghost table_of: { Self.Part → LayerTable Self.Key Self.Counts Self.Counts.Application };
 
     /// The table of network rows.
@@ -42,9 +45,9 @@ pub trait LayerView {
     /// What a column of that one counts of what an application row adds up.
     ghost application_count: { ℕ → Self.Counts.Application → ℕ };
 
-    /// The rows that a part holds.
-    fn held(part: &Self::Part) -> &HeldTable<Self::Key, Self::Counts>
-        ensures { result.now.table ≡ table_of part.now };
+    /// The rows of a part.
+    fn rows(part: &Self::Part) -> &Self::Rows
+        ensures { Self.Rows.table result.now ≡ table_of part.now };
 
     /// The table of network rows.
     fn networks() -> MarkedObjects

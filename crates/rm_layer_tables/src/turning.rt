@@ -1,5 +1,5 @@
 // What a Set turns on and off for the rows of a control row.
-ghost use Rattle.std.specs.Prelude.{◌≡◌, ℕ, ◌<◌, ◌∷◌};
+ghost use Rattle.std.specs.Prelude.{◌≡◌, ℕ, ◌<◌, [], ◌∷◌, if◌then◌else◌};
 ghost use Rattle.rm_model.specs.Counting.{Counting};
 ghost use Rattle.rm_model.specs.Journal.{Assignments, Journal, assigns};
 ghost use Rattle.rm_layers.specs.Applications.{AreApart};
@@ -14,14 +14,16 @@ use rm_evicting::Key;
 use rm_upper::{LayerCounts, LayerTable};
 
 /// Turns ip on or off, and the protocols above ip, by those that are on now, each in one slot. A protocol that is on still has the slot
-/// that it had, and each other one is on from a stamp, which is that of the next frame.
+/// that it had, and each other one is on from a stamp, which is that of the next frame. Tells whether ip was turned, by which every row
+/// goes.
 pub(crate) fn turn<K: Key, N: LayerCounts>(
     table: &mut LayerTable<K, N>,
     on: bool,
     slots: &[Option<u32>; 32],
     stamp: u64,
-)
+) -> bool
     requires apart { AreApart slots.now }
+    ensures rows { table.new.layered.table.rows ≡ (if result then [] else table.old.layered.table.rows) }
     ensures on { table.new.on ≡ on }
     ensures slots { protocols table.new.layered.slots ≡ slots.now }
     ensures room { table.new.layered.table.room ≡ table.old.layered.table.room }
@@ -31,8 +33,10 @@ pub(crate) fn turn<K: Key, N: LayerCounts>(
         → on ≡ is_ip_on layer.kind (assigns moment values ∷ earlier) → AreOn layer.kind slots.now (assigns moment values ∷ earlier) → AreSettled (protocols table.old.layered.slots) slots.now
         → HasBegun layer N.tally K.eq settings (assigns moment values) earlier row table.old → IsHeld layer N.tally K.eq settings (assigns moment values ∷ earlier) row table.new }
 {
-    if on != table.is_ip_on() {
+    let is_turned = on != table.is_ip_on();
+    if is_turned {
         table.turn_ip(on);
     }
     table.retune(slots, stamp);
+    is_turned
 }

@@ -1,10 +1,11 @@
 -- Adding to the row of a key.
-use Rattle.std.proofs.Common.{◌≡◌, ℕ, Bool, List, [], ◌∷◌, Option, Some, None, refl, sym, ap, ◌∙◌, inl, inr}
+use Rattle.std.proofs.Common.{◌≡◌, ℕ, Bool, List, [], ◌∷◌, length, Option, Some, None, refl, sym, ap, ◌∙◌, inl, inr}
 use Rattle.std.specs.Option.{option_map}
 use Rattle.std.proofs.lemmas.Bool.{cases_Bool}
+use Rattle.std.proofs.lemmas.List.{length-map}
 use Rattle.rm_evicting.specs.declared.Row.{Row}
 use Rattle.rm_evicting.specs.Row.{credited}
-use Rattle.rm_rows.specs.Table.{row_of, value_of, with_value}
+use Rattle.rm_rows.specs.Table.{key_of, keys_of, row_of, value_of, with_value}
 use Rattle.rm_upper.specs.declared.slots.Slot.{Slot}
 use Rattle.rm_upper.specs.Kept.{NetworkRow}
 use Rattle.rm_upper.specs.Kept.{is_among, all_made}
@@ -28,6 +29,16 @@ module _ {K V C : Type 0} (eq : K → K → Bool) (add : V → C → V) where
     | inl t ↦ let f : Some row ≡ None = rw t at n in cc
     | inr f ↦ rw f (ap (λ l. row ∷ l) (credited-absent h c rows (rw f at n)))
   ]
+
+  pub keys-credited : (h : K) (c : C) (rows : List (Row K V)) → keys_of (credited eq add h c rows) ≡ keys_of rows
+  keys-credited h c [] = refl
+  keys-credited h c (row ∷ rows) = elim (cases_Bool (eq h row.key)) [
+    | inl t ↦ rw t refl
+    | inr f ↦ rw f (ap (λ l. row.key ∷ l) (keys-credited h c rows))
+  ]
+
+  pub length-credited : (h : K) (c : C) (rows : List (Row K V)) → length (credited eq add h c rows) ≡ length rows
+  length-credited h c rows = sym (length-map (credited eq add h c rows) key_of) ∙ ap length (keys-credited h c rows) ∙ length-map rows key_of
 
 module _ {K N A : Type 0} (eq : K → K → Bool) (slots : List (Option Slot)) (path : List ℕ) where
   pub made-here : (h : K) (v : NetworkRow N A) (rows : List (Row K (NetworkRow N A))) → option_map value_of (row_of eq h rows) ≡ Some v → made_in eq slots path h rows ≡ all_made (is_among path) slots v.applications

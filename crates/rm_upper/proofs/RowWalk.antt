@@ -1,5 +1,5 @@
 -- The walk over the rows of keys.
-use Rattle.std.proofs.Common.{◌≡◌, ℕ, ◌<◌, ◌≤◌, ◌+◌, zero, suc, Bool, true, false, cond, List, [], ◌∷◌, length, Contains, Option, Some, None, refl, sym, ap, ◌∙◌, arith, subst, inl, inr}
+use Rattle.std.proofs.Common.{◌≡◌, ℕ, ◌<◌, ◌≤◌, ◌+◌, zero, suc, Bool, true, false, cond, List, [], ◌∷◌, length, nat_le, Contains, Option, Some, None, refl, sym, ap, ◌∙◌, arith, subst, inl, inr}
 use Rattle.std.specs.Prelude.{⊤}
 use Rattle.std.specs.List.{count_by}
 use Rattle.std.specs.Option.{option_map}
@@ -7,19 +7,19 @@ use Rattle.std.specs.declared.cmp.Ordering.{Ordering}
 use Rattle.std.specs.declared.cmp.Ordering.TheVariants.{Less, Equal, Greater}
 use Rattle.std.specs.Ordering.{nat_cmp, is_lt, ordering_reverse}
 use Rattle.std.specs.Cmp.{IsTotalOrder}
-use Rattle.std.proofs.lemmas.Bool.{cases_Bool, true≢false}
+use Rattle.std.proofs.lemmas.Bool.{cases_Bool, true≢false, le-leb, leb-true}
 use Rattle.std.proofs.lemmas.List.Elements.{All-contains}
 use Rattle.std.proofs.lemmas.List.Sums.{sum_by-cons}
 use Rattle.rm_evicting.specs.Held.{IsExact}
 use Rattle.rm_evicting.specs.declared.Row.{Row}
-use Rattle.rm_rows.specs.Table.{row_of, keys_of, IsNextKey}
+use Rattle.rm_rows.specs.Table.{row_of, keys_of, tick_of, IsNextKey}
 use Rattle.rm_layers.specs.Marks.{IsLeast, StandsAt, IsAboveName, IsAboveApplication, pair_cmp}
 use Rattle.rm_layers.proofs.MarkLemmas.{in_row, at_next, at_end, at_first_row, at_no_row}
 use Rattle.rm_upper.specs.declared.slots.KeptApplication.{KeptApplication}
 use Rattle.rm_upper.specs.Kept.{NetworkRow}
 use Rattle.rm_upper.specs.Shown.{applications_of}
 use Rattle.rm_upper.specs.Standing.{Layered}
-use Rattle.rm_upper.specs.Walk.{IsShown, IsMarked, ShowsApplication}
+use Rattle.rm_upper.specs.Walk.{IsShown, IsMarked, ShowsApplication, ShowsNetwork}
 use Rattle.rm_upper.proofs.WalkLemmas.{least-shown}
 
 module _ {K : Type 0} (cmp : K → K → Ordering) where
@@ -104,7 +104,87 @@ module _ {K : Type 0} (cmp : K → K → Ordering) where
         any true a0 b rest = omega arith
         any false a0 b rest = omega arith
 
+-- how many keys are left above one, or above none
+abbrev pub left_above : {K : Type 0} → (K → K → Ordering) → Option K → List K → ℕ
+left_above cmp None ks = length ks
+left_above cmp (Some k) ks = count_by (λ x. is_lt (cmp k x)) ks
+
+module _ {K : Type 0} (cmp : K → K → Ordering) (order : IsTotalOrder cmp) where
+  few_left : (k : K) (ks : List K) → left cmp order k ks ≤ length ks
+  few_left k [] = omega arith
+  few_left k (x ∷ ks) =
+      let rest : left cmp order k ks ≤ length ks = few_left k ks in
+      let a : left cmp order k (x ∷ ks) ≡ cond (is_lt (cmp k x)) 1 0 + left cmp order k ks = left-cons cmp order k x ks in
+      any (is_lt (cmp k x)) a rest
+    where
+      any : (t : Bool) → left cmp order k (x ∷ ks) ≡ cond t 1 0 + left cmp order k ks → left cmp order k ks ≤ length ks → left cmp order k (x ∷ ks) ≤ length (x ∷ ks)
+      any true a rest = omega arith
+      any false a rest = omega arith
+
+  -- fewer than all are left above one of them
+  fewer_than_all : (k : K) (ks : List K) → Contains ks k → left cmp order k ks < length ks
+  fewer_than_all k [] c = absurd (omega (arith, c.1))
+  fewer_than_all k (x ∷ ks) (zero, lt, at) =
+      let same : x ≡ k = at in
+      let off : is_lt (cmp k x) ≡ false = ap (λ y. is_lt (cmp k y)) same ∙ not_itself cmp order k in
+      let a : left cmp order k (x ∷ ks) ≡ 0 + left cmp order k ks = left-cons cmp order k x ks ∙ ap (λ t. cond t 1 0 + left cmp order k ks) off in
+      let rest : left cmp order k ks ≤ length ks = few_left k ks in
+      omega arith
+  fewer_than_all k (x ∷ ks) (suc i, lt, at) =
+      let rest : left cmp order k ks < length ks = fewer_than_all k ks (i, omega arith, at) in
+      let a : left cmp order k (x ∷ ks) ≡ cond (is_lt (cmp k x)) 1 0 + left cmp order k ks = left-cons cmp order k x ks in
+      any (is_lt (cmp k x)) a rest
+    where
+      any : (t : Bool) → left cmp order k (x ∷ ks) ≡ cond t 1 0 + left cmp order k ks → left cmp order k ks < length ks → left cmp order k (x ∷ ks) < length (x ∷ ks)
+      any true a rest = omega arith
+      any false a rest = omega arith
+
+  pub fewer_above : (from : Option K) (k : K) (ks : List K) → IsNextKey cmp ks from (Some k) → left_above cmp (Some k) ks < left_above cmp from ks
+  fewer_above None k ks next = fewer_than_all k ks next.0
+  fewer_above (Some j) k ks next = fewer_left cmp order j k next.1 ks next.0
+
+  module _ (exact : (a b : K) → cmp a b ≡ Equal → a ≡ b) (shown : K → Type 0) (ks : List K) (within : (x : K) → shown x → Contains ks x) where
+    -- the next key, where it is shown
+    pub name_here : (from : Option K) (k : K) → IsNextKey cmp ks from (Some k) → shown k → IsLeast cmp shown (IsAboveName cmp from) (Some k)
+    name_here from k next s = let least = next_is_least cmp ks from (Some k) next in (s, least.1, λ y t a l. least.2 y (within y t) a l)
+
+    -- none is shown above where no key is
+    pub name_ends : (from : Option K) → IsNextKey cmp ks from None → IsLeast cmp shown (IsAboveName cmp from) None
+    name_ends from next = let none = next_is_least cmp ks from None next in λ x s a. none x (within x s) a
+
+    above_first : (from : Option K) (k y : K) → IsAboveName cmp from k → cmp k y ≡ Less → IsAboveName cmp from y
+    above_first None k y a l = tt
+    above_first (Some j) k y a l = order.trans j k y a l
+
+    -- one that is shown above stands above the next key, where that isn't shown
+    over_next : (from : Option K) (k : K) → IsNextKey cmp ks from (Some k) → (shown k → ⊥) → (y : K) → shown y → IsAboveName cmp from y → cmp k y ≡ Less
+    over_next from k next off y s a = by_order (cmp k y) refl
+      where
+        by_order : (o : Ordering) → cmp k y ≡ o → cmp k y ≡ Less
+        by_order Less e = e
+        by_order Equal e = absurd (off (subst shown (sym (exact k y e)) s))
+        by_order Greater e = absurd ((next_is_least cmp ks from (Some k) next).2 y (within y s) a (order.antisymm y k ∙ ap ordering_reverse e))
+
+    -- the next key isn't shown: what comes above it comes
+    pub name_next : (from : Option K) (k : K) → IsNextKey cmp ks from (Some k) → (shown k → ⊥) → (res : Option K) → IsLeast cmp shown (IsAboveName cmp (Some k)) res → IsLeast cmp shown (IsAboveName cmp from) res
+    name_next from k next off None l = λ x s a. l x s (over_next from k next off x s a)
+    name_next from k next off (Some x) l =
+        (l.0, above_first from k x (next_is_least cmp ks from (Some k) next).1 l.1, λ y s a less. l.2 y s (over_next from k next off y s a) less)
+
 module _ {K N A : Type 0} (eq : K → K → Bool) (layered : Layered K N A) (mark : ℕ) where
+  row_by_tick : (o : Option (Row K (NetworkRow N A))) (tick : ℕ) → option_map tick_of o ≡ Some tick → (row : Row K (NetworkRow N A)) × (o ≡ Some row) × (tick ≡ row.tick)
+  row_by_tick None tick e = cc
+  row_by_tick (Some row) tick e = (row, refl, cc)
+
+  -- the row of a key stands at a mark that isn't above the tick of its last contribution
+  pub stands_by : (k : K) (tick : ℕ) → option_map tick_of (row_of eq k layered.table.rows) ≡ Some tick → (nat_le mark tick ≡ true → StandsAt (ShowsNetwork eq layered) mark k) × (StandsAt (ShowsNetwork eq layered) mark k → nat_le mark tick ≡ true)
+  stands_by k tick e =
+      let there = row_by_tick (row_of eq k layered.table.rows) tick e in
+      ((λ le. (tick, there, leb-true mark tick le)), λ s. le-leb mark tick (let last = last_of s.1.0 s.1.1 in let at : s.0 ≡ s.1.0.tick = s.1.2 in let le : mark ≤ s.0 = s.2 in omega (arith, last, at, le)))
+    where
+      last_of : (row : Row K (NetworkRow N A)) → row_of eq k layered.table.rows ≡ Some row → row.tick ≡ tick
+      last_of row f = let both : Some row.tick ≡ Some tick = sym (ap (option_map tick_of) f) ∙ e in cc
+
   row_there : (l : List (Option (KeptApplication A))) (o : Option (Row K (NetworkRow N A))) → option_map applications_of o ≡ Some l → (row : Row K (NetworkRow N A)) × (o ≡ Some row) × (row.value.applications ≡ l)
   row_there l None e = cc
   row_there l (Some row) e = (row, refl, cc)
@@ -130,6 +210,9 @@ module _ {K N A : Type 0} (eq : K → K → Bool) (layered : Layered K N A) (mar
       | inl y ↦ (0, omega arith, sym (exact.same k x.key y))
       | inr o ↦ let more = found_in k rows row (rw o at e) in (suc more.0, (let lt : more.0 < length (keys_of rows) = more.1 in omega arith), more.2)
     ]
+
+    pub network_held : (k : K) → StandsAt (ShowsNetwork eq layered) mark k → Contains (keys_of layered.table.rows) k
+    network_held k s = found_in k layered.table.rows s.1.0 s.1.1
 
     -- what is shown is shown of a key that is held
     pub shown_held : (x : K × ℕ) → StandsAt (ShowsApplication eq layered) mark x → Contains (keys_of layered.table.rows) x.0

@@ -11,7 +11,7 @@ use Rattle.rm_rows.specs.declared.touch.Touch.{Touch}
 use Rattle.rm_rows.specs.declared.touch.Touch.TheVariants.{Held, Fresh}
 use Rattle.rm_rows.specs.Table.{evicted, row_of, value_of, tick_of, keys_of, with_value, IsPairAbove, IsNextMark}
 use Rattle.rm_upper.specs.Kept.{NetworkRow}
-use Rattle.rm_upper.specs.Shown.{row_as, applications_of}
+use Rattle.rm_upper.specs.Shown.{is_held, row_as, applications_of}
 use Rattle.rm_upper.specs.Cells.{counted_by, network_in}
 use Rattle.rm_upper.proofs.SeenLemmas.{at_first-through}
 use Rattle.rm_upper.proofs.CreditLemmas.{credited-here}
@@ -102,15 +102,14 @@ module _ {K V : Type 0} where
   no_row_by_tick (Some row) e = cc
 
   -- the answer to a reference tells whether the key had a row
-  pub answer_held : (h b : Bool) (o : Touch K) (r : Option (Row K V)) → o ≡ cond h Held (cond b Fresh (evicted r)) → o ≡ Held → h ≡ true
-  answer_held true b o r e f = refl
-  answer_held false true o r e f = cc
-  answer_held false false o None e f = cc
-  answer_held false false o (Some row) e f = cc
+  answered : (h b : Bool) (r : Option (Row K V)) → is_held (cond h Held (cond b Fresh (evicted r))) ≡ h
+  answered true b r = refl
+  answered false true r = refl
+  answered false false None = refl
+  answered false false (Some row) = refl
 
-  pub answer_other : (h b : Bool) (o : Touch K) (r : Option (Row K V)) → o ≡ cond h Held (cond b Fresh (evicted r)) → (o ≡ Held → ⊥) → h ≡ false
-  answer_other true b o r e n = absurd (n e)
-  answer_other false b o r e n = refl
+  pub is_answer : (o : Touch K) (h b : Bool) (r : Option (Row K V)) → o ≡ cond h Held (cond b Fresh (evicted r)) → is_held o ≡ h
+  is_answer o h b r e = ap is_held e ∙ answered h b r
 
 module _ {K N A : Type 0} where
   -- what the row of a key shows

@@ -1,7 +1,9 @@
 -- What is shown of the rows that are kept.
-use Rattle.std.specs.Prelude.{◌≡◌, ℕ, ◌≤◌, Bool, true, ⊤, cond, List, [], ◌∷◌, map, nat_le, replicate, Option, Some, None}
+use Rattle.std.specs.Prelude.{◌≡◌, ℕ, ◌≤◌, Bool, true, false, ⊤, cond, List, [], ◌∷◌, map, nat_le, replicate, Option, Some, None}
 use Rattle.rm_evicting.specs.declared.Row.{Row}
 use Rattle.rm_rows.specs.Table.{Table}
+use Rattle.rm_rows.specs.declared.touch.Touch.{Touch}
+use Rattle.rm_rows.specs.declared.touch.Touch.TheVariants.{Held, Fresh, Evicted}
 use Rattle.rm_layers.specs.Event.{Contribution}
 use Rattle.rm_layers.specs.Network.{is_on_path}
 use Rattle.rm_layers.specs.Applications.{Application, Value, Slots, has_slot}
@@ -10,6 +12,12 @@ use Rattle.rm_upper.specs.declared.slots.KeptApplication.{KeptApplication}
 use Rattle.rm_upper.specs.Kept.{NetworkRow}
 use Rattle.rm_upper.specs.Tally.{Tally}
 use Rattle.rm_upper.specs.Kept.{is_among, all_with, all_made}
+
+-- whether the key of a reference had a row
+abbrev pub is_held : {K : Type 0} → Touch K → Bool
+is_held Held = true
+is_held Fresh = false
+is_held (Evicted key) = false
 
 -- the tick of the first contribution, where another came at a tick
 abbrev pub created_by : ℕ → Option ℕ → Option ℕ

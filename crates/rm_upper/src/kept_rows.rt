@@ -29,9 +29,9 @@ impl<K: Key, N: LayerCounts> Model for KeptRows<K, N> {
 }
 
 impl<K: Key, N: LayerCounts> KeptRows<K, N> {
-    ghost use Rattle.rm_rows.specs.Table.{IsNextKey, IsNextMark, keys_of, pair_copied, key_at, row_of};
+    ghost use Rattle.rm_rows.specs.Table.{AreAfter, IsNextKey, IsNextMark, keys_of, pair_copied, key_at, row_of, tick_of};
     ghost use Rattle.rm_layers.specs.Applications.{AreApart};
-    ghost use Rattle.rm_upper.specs.Shown.{blank_row, gained_value, made_in, applications_of, protocols};
+    ghost use Rattle.rm_upper.specs.Shown.{blank_row, gained_value, made_in, applications_of, is_held, protocols};
     ghost use Rattle.rm_upper.specs.Cells.{network_in};
 
     /// No rows, and memory for so many. NoMemory where there is none.
@@ -44,15 +44,17 @@ impl<K: Key, N: LayerCounts> KeptRows<K, N> {
         Ok(KeptRows { rows })
     }
 
-    /// Takes a reference to a key. Tells whether the key had a row; where it had none, a blank one is entered, for which the row that was
+    /// Takes a reference to a key, and tells what it did: where the key had no row, a blank one is entered, for which the row that was
     /// referred to least recently goes if there is no room.
-    pub(crate) fn touch(&mut self, key: K, stamp: u64, tick: u32) -> bool
+    pub(crate) fn touch(&mut self, key: K, stamp: u64, tick: u32) -> Touch<K>
         requires stamp { All (λ row. row.last < stamp) self.old.rows }
         requires tick { All (λ row. row.tick ≤ tick) self.old.rows }
         ensures rows { self.new ≡ record { room = self.old.room; capacity = self.old.capacity; rows = touched K.eq (blank_row N.tally.blank) self.old.capacity key stamp tick self.old.rows } }
-        ensures held { result ≡ holds K.eq key self.old.rows }
+        ensures held { is_held result ≡ holds K.eq key self.old.rows }
+        ensures keys { AreAfter K.eq key result (keys_of self.old.rows) (keys_of self.new.rows) }
+        ensures few { length self.new.rows ≤ self.new.room }
     {
-        matches!(self.rows.touch(key, stamp, tick), Touch::Held)
+        self.rows.touch(key, stamp, tick)
     }
 
     /// A contribution comes to the row of a key, where there is one; no protocol has two slots. Tells how many application rows it makes.
@@ -96,6 +98,13 @@ impl<K: Key, N: LayerCounts> KeptRows<K, N> {
         }
     }
 
+    /// The tick of the last contribution to a key. None where it has no row.
+    pub(crate) fn mark(&self, key: &K) -> Option<u32>
+        ensures { result ≡ option_map tick_of (row_of K.eq key.now self.now.rows) }
+    {
+        self.rows.mark(key)
+    }
+
     /// The least key above another, or of all where there is no other. None where there is none.
     pub(crate) fn after(&self, key: Option<&K>) -> Option<&K>
         ensures { IsNextKey K.cmp (keys_of self.now.rows) (option_copied key.entry) (option_copied result) }
@@ -120,6 +129,7 @@ impl<K: Key, N: LayerCounts> KeptRows<K, N> {
     /// How many rows there are.
     pub(crate) fn len(&self) -> usize
         ensures value { result ≡ length self.now.rows }
+        ensures within { result ≤ self.now.room }
     {
         self.rows.len()
     }

@@ -1,6 +1,6 @@
 // The network and application rows of one control row.
 
-ghost use Rattle.std.specs.Prelude.{◌≡◌, ◌+◌, ◌<◌, ◌≤◌, ◌^◌, List, ◌∷◌, ◌++◌, true, replicate, IfOk, None};
+ghost use Rattle.std.specs.Prelude.{◌≡◌, ◌+◌, ◌<◌, ◌≤◌, ◌^◌, List, [], ◌∷◌, ◌++◌, true, length, replicate, IfOk, None};
 ghost use Rattle.rm_layers.specs.Event.{Contribution, Event, names, turns_ip, begins, is_ip_on, AreUpTo, AreRising};
 ghost use Rattle.rm_layers.specs.Upper.{AreTuned};
 ghost use Rattle.rm_layers.specs.Turning.{IsChange};
@@ -8,6 +8,7 @@ ghost use Rattle.rm_layers.specs.Turning.{IsChange};
 use crate::counts::LayerCounts;
 use crate::network_rows::NetworkRows;
 use rm_evicting::Key;
+use rm_rows::Touch;
 use rm_val::NoMemory;
 use std::alloc::Global;
 use std::marker::Model;
@@ -38,6 +39,7 @@ impl<K: Key, N: LayerCounts> LayerTable<K, N> {
     ghost use Rattle.rm_layers.specs.Applications.{AreApart};
     ghost use Rattle.rm_upper.specs.Shown.{protocols, Agrees};
     ghost use Rattle.rm_upper.specs.Standing.{StandsFor};
+    ghost use Rattle.rm_rows.specs.Table.{AreAfter, keys_of};
 
     /// No rows, with ip on and no other protocol, and memory for so many network rows. NoMemory where there is none.
     pub fn new(alloc: Global, capacity: usize) -> Result<LayerTable<K, N>, NoMemory>
@@ -45,6 +47,7 @@ impl<K: Key, N: LayerCounts> LayerTable<K, N> {
         requires bound { capacity ≤ 4096 }
         ensures room { IfOk result (λ table. table.layered.table.room ≡ capacity) }
         ensures slots { IfOk result (λ table. protocols table.layered.slots ≡ replicate 32 None) }
+        ensures none { IfOk result (λ table. table.layered.table.rows ≡ []) }
     {
         let rows = NetworkRows::new(alloc, capacity)?;
         Ok(LayerTable {
@@ -56,8 +59,8 @@ impl<K: Key, N: LayerCounts> LayerTable<K, N> {
     }
 
     /// Takes a frame that names a key, with the protocols on its path that are on, its stamp, its tick, and what it adds: a reference
-    /// while ip is on.
-    pub fn name(&mut self, key: K, path: &[u32], stamp: u64, tick: u32, gain: &N)
+    /// while ip is on. Tells what it did to the keys: nothing is entered while ip is off, as where the key is held.
+    pub fn name(&mut self, key: K, path: &[u32], stamp: u64, tick: u32, gain: &N) -> Touch<K>
         requires next { self.old.next ≤ stamp }
         requires latest { self.old.latest ≤ tick }
         requires fits { stamp < 2 ^ 58 }
@@ -67,15 +70,21 @@ impl<K: Key, N: LayerCounts> LayerTable<K, N> {
         ensures room { self.new.layered.table.room ≡ self.old.layered.table.room }
         ensures next { self.new.next ≡ stamp + 1 }
         ensures latest { self.new.latest ≡ tick }
+        ensures keys { AreAfter K.eq key result (keys_of self.old.layered.table.rows) (keys_of self.new.layered.table.rows) }
+        ensures few { length self.new.layered.table.rows ≤ self.new.layered.table.room }
         ensures stands { (earlier : List (Event K N)) (brings : Contribution N) → brings.stamp ≡ stamp → brings.tick ≡ tick → brings.gain ≡ gain.now
             → Agrees self.old.layered.slots path.now brings → is_ip_on earlier ≡ self.old.on → AreTuned (protocols self.old.layered.slots) earlier → AreRising (names key brings ∷ earlier)
             → StandsFor N.tally K.eq earlier self.old.layered → StandsFor N.tally K.eq (names key brings ∷ earlier) self.new.layered }
     {
-        if self.on {
-            self.rows.refer(key, path, stamp, tick, gain);
-        }
+        let touch = if self.on {
+            self.rows.refer(key, path, stamp, tick, gain)
+        } else {
+            self.rows.are_few();
+            Touch::Held
+        };
         self.next = stamp + 1;
         self.latest = tick;
+        touch
     }
 
     /// Whether ip is on.
@@ -93,6 +102,7 @@ impl<K: Key, N: LayerCounts> LayerTable<K, N> {
         ensures room { self.new.layered.table.room ≡ self.old.layered.table.room }
         ensures next { self.new.next ≡ self.old.next }
         ensures latest { self.new.latest ≡ self.old.latest }
+        ensures emptied { self.new.layered.table.rows ≡ [] }
         ensures stands { (earlier : List (Event K N)) → StandsFor N.tally K.eq earlier self.old.layered → StandsFor N.tally K.eq (turns_ip on ∷ earlier) self.new.layered }
     {
         self.rows.clear();
@@ -109,6 +119,7 @@ impl<K: Key, N: LayerCounts> LayerTable<K, N> {
         ensures room { self.new.layered.table.room ≡ self.old.layered.table.room }
         ensures next { self.new.next ≡ self.old.next }
         ensures latest { self.new.latest ≡ self.old.latest }
+        ensures table { self.new.layered.table ≡ self.old.layered.table }
         ensures stands { (turnings earlier : List (Event K N)) → AreUpTo stamp earlier → AreTuned (protocols self.old.layered.slots) earlier → AreTuned now.now (turnings ++ earlier)
             → IsChange stamp turnings earlier (protocols self.old.layered.slots) now.now → StandsFor N.tally K.eq earlier self.old.layered → StandsFor N.tally K.eq (turnings ++ earlier) self.new.layered }
     {
@@ -127,6 +138,7 @@ impl<K: Key, N: LayerCounts> LayerTable<K, N> {
         ensures room { self.new.layered.table.room ≡ self.old.layered.table.room }
         ensures next { self.new.next ≡ 0 }
         ensures latest { self.new.latest ≡ 0 }
+        ensures emptied { self.new.layered.table.rows ≡ [] }
         ensures stands { (earlier : List (Event K N)) → StandsFor N.tally K.eq (begins ∷ earlier) self.new.layered }
     {
         self.rows.begin(capacity, now);

@@ -8,6 +8,7 @@ mod kept_rows;
 mod layer_table;
 mod network_row;
 mod network_rows;
+mod order;
 mod slots;
 mod walk;
 
@@ -15,4 +16,5 @@ pub use counts::{Counted, Counts, LayerCounts};
 pub use layer_table::LayerTable;
 pub use network_row::NetworkRow;
 pub use network_rows::NetworkRows;
+pub use order::{RowOrder, application_after, network_after};
 pub use slots::{KeptApplication, Slot};

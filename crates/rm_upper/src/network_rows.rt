@@ -1,15 +1,18 @@
 // The network rows of one control row.
 
-ghost use Rattle.std.specs.Prelude.{◌≡◌, ◌+◌, ◌-◌, ◌<◌, ◌≤◌, ◌^◌, Bool, true, List, [], ◌∷◌, ◌++◌, length, All, IfOk, IfSome, replicate, None};
+ghost use Rattle.std.specs.Prelude.{◌≡◌, ◌+◌, ◌-◌, ◌<◌, ◌≤◌, ◌^◌, cond, Bool, true, List, [], ◌∷◌, ◌++◌, length, All, IfOk, replicate, None};
 ghost use Rattle.rm_layers.specs.Event.{Contribution, Event, names, turns_ip, begins, is_ip_on, AreUpTo, AreRising};
 ghost use Rattle.rm_layers.specs.Upper.{AreTuned};
 ghost use Rattle.rm_layers.specs.Turning.{IsChange};
+ghost use Rattle.rm_upper.specs.Shown.{is_held};
 
 use crate::counts::{Counted, LayerCounts};
 use crate::kept_rows::KeptRows;
+use crate::order::{RowOrder, application_after};
 use crate::slots::{Slot, retune_all};
 use crate::walk::{count_applications, next_protocol, show_application};
 use rm_evicting::Key;
+use rm_rows::Touch;
 use rm_val::NoMemory;
 use std::alloc::Global;
 use std::marker::Model;
@@ -44,12 +47,12 @@ impl<K: Key, N: LayerCounts> NetworkRows<K, N> {
     ghost use Rattle.rm_upper.specs.Standing.{StandsFor, referred, slots_after};
     ghost use Rattle.rm_upper.specs.Sound.{AreSound};
     ghost use Rattle.rm_upper.specs.Walk.{ShowsApplication, ShowsNetwork};
-    ghost use Rattle.rm_layers.specs.Marks.{IsLeast, StandsAt, IsAboveName, IsAboveApplication, IsNextInstance, ApplicationLasts, NetworkLasts, pair_cmp};
+    ghost use Rattle.rm_layers.specs.Marks.{IsAboveName, IsAboveApplication, IsNextInstance, ApplicationLasts, NetworkLasts, pair_cmp};
     ghost use Rattle.std.specs.Ordering.{nat_cmp};
     ghost use Rattle.rm_layers.specs.Network.{network_inserts, application_inserts, network_deletes, application_deletes};
     ghost use Rattle.rm_upper.specs.Count.{held_of, held_by_keys};
     ghost use Rattle.rm_upper.specs.Cells.{network_row, application_row, network_in, application_in_row};
-    ghost use Rattle.rm_rows.specs.Table.{row_of};
+    ghost use Rattle.rm_rows.specs.Table.{AreAfter, keys_of, row_of};
 
     /// No rows, no protocol on, and memory for so many network rows. NoMemory where there is none.
     pub fn new(alloc: Global, capacity: usize) -> Result<NetworkRows<K, N>, NoMemory>
@@ -67,8 +70,8 @@ impl<K: Key, N: LayerCounts> NetworkRows<K, N> {
     }
 
     /// Takes a reference to a key, with the protocols on its path that are on, its stamp, which is above those of all references before,
-    /// its tick, which isn't below theirs, and what it adds.
-    pub fn refer(&mut self, key: K, path: &[u32], stamp: u64, tick: u32, gain: &N)
+    /// its tick, which isn't below theirs, and what it adds. Tells what it did to the keys.
+    pub fn refer(&mut self, key: K, path: &[u32], stamp: u64, tick: u32, gain: &N) -> Touch<K>
         requires stamp { All (λ row. row.last < stamp) self.old.table.rows }
         requires tick { All (λ row. row.tick ≤ tick) self.old.table.rows }
         requires network { self.old.network_inserts < 2 ^ 63 }
@@ -76,15 +79,17 @@ impl<K: Key, N: LayerCounts> NetworkRows<K, N> {
         ensures kept { self.new ≡ referred N.tally K.eq path.now key stamp tick gain.now self.old }
         ensures entered { self.new.network_inserts ≤ self.old.network_inserts + 1 }
         ensures made { self.new.application_inserts ≤ self.old.application_inserts + 32 }
+        ensures keys { AreAfter K.eq key result (keys_of self.old.table.rows) (keys_of self.new.table.rows) }
+        ensures few { length self.new.table.rows ≤ self.new.table.room }
         ensures stands { (earlier : List (Event K N)) (brings : Contribution N) → brings.stamp ≡ stamp → brings.tick ≡ tick → brings.gain ≡ gain.now
             → Agrees self.old.slots path.now brings → is_ip_on earlier ≡ true → AreTuned (protocols self.old.slots) earlier → AreRising (names key brings ∷ earlier)
             → StandsFor N.tally K.eq earlier self.old → StandsFor N.tally K.eq (names key brings ∷ earlier) self.new }
     {
-        if !self.rows.touch(key, stamp, tick) {
-            self.network_inserts += 1;
-        }
+        let touch = self.rows.touch(key, stamp, tick);
+        self.network_inserts += entered(&touch);
         let made = self.rows.gain(&key, &self.slots, path, stamp, tick, gain);
         self.application_inserts += made as u64;
+        touch
     }
 
     /// Turns protocols on and off, by the one above ip that is on in each slot now; no protocol has two slots. Those that are new are on
@@ -131,6 +136,13 @@ impl<K: Key, N: LayerCounts> NetworkRows<K, N> {
         let _ = &self.rows;
     }
 
+    /// A law: there is room for the rows that there are. It does nothing.
+    pub fn are_few(&self)
+        ensures { length self.now.table.rows ≤ self.now.table.room }
+    {
+        self.rows.len();
+    }
+
     // What is kept of the application row of a key and a protocol.
     fn find_application(&self, key: &K, protocol: u32) -> Option<Counted<N::Application>>
         ensures { result ≡ application_in_row self.now.slots protocol (row_of K.eq key.now self.now.table.rows) }
@@ -159,46 +171,6 @@ impl<K: Key, N: LayerCounts> NetworkRows<K, N> {
         self.find_application(key, protocol)
     }
 
-    // The least protocol above another of which the row of a key has an application row at a mark.
-    fn next_in(&self, key: &K, mark: u64, from: Option<u32>) -> Option<u32>
-        ensures least { IsLeast nat_cmp (λ p. StandsAt (ShowsApplication K.eq self.now) mark (key.now, p)) (IsAboveName nat_cmp from) result }
-        ensures reached { IfSome result (λ p. mark < 2 ^ 32) }
-    {
-        match self.rows.applications(key) {
-            Some(applications) => next_protocol(&self.slots, applications, mark, from),
-            None => None,
-        }
-    }
-
-    // The least application row above a key and maybe a protocol, among those that stand at a mark.
-    fn next_at(&self, mark: u64, from: Option<(K, Option<u32>)>) -> Option<(K, u32)>
-        ensures least { IsLeast (pair_cmp K.cmp nat_cmp) (StandsAt (ShowsApplication K.eq self.now) mark) (IsAboveApplication K.cmp from) result }
-        ensures reached { IfSome result (λ x. mark < 2 ^ 32) }
-    {
-        let (mut key, mut protocol) = match from {
-            Some(from) => from,
-            None => {
-                let nothing: Option<K> = None;
-                match self.rows.after(nothing.as_ref()) {
-                    Some(first) => (*first, None),
-                    None => return None,
-                }
-            }
-        };
-        loop {
-            if let Some(found) = self.next_in(&key, mark, protocol) {
-                return Some((key, found));
-            }
-            match self.rows.after(Some(&key)) {
-                Some(next) => {
-                    key = *next;
-                    protocol = None;
-                }
-                None => return None,
-            }
-        }
-    }
-
     /// The next instance of an application row, by mark, key and protocol, above a mark, maybe a key and maybe a protocol. Each row stands
     /// at each mark up to the tick of its last contribution (RFC 2021, TimeFilter). It skips network rows that have no application row at
     /// the mark, and what is kept of a protocol from before it was last turned on. None where there is none.
@@ -211,13 +183,7 @@ impl<K: Key, N: LayerCounts> NetworkRows<K, N> {
         ensures stands { (events : List (Event K N)) → AreTuned (protocols self.now.slots) events → StandsFor N.tally K.eq events self.now
             → IsNextInstance (pair_cmp K.cmp nat_cmp) (ApplicationLasts K.eq self.now.table.capacity events) mark (IsAboveApplication K.cmp from) result }
     {
-        if let Some(found) = self.next_at(mark as u64, from) {
-            return Some((mark, found));
-        }
-        match self.next_at(mark as u64 + 1, None) {
-            Some(found) => Some((mark + 1, found)),
-            None => None,
-        }
+        application_after(self, mark, from)
     }
 
     /// The next instance of a network row, by mark and key, above a mark and maybe a key. None where there is none.
@@ -279,5 +245,41 @@ impl<K: Key, N: LayerCounts> NetworkRows<K, N> {
             }
         }
         self.application_inserts.saturating_sub(held)
+    }
+}
+
+impl<K: Key, N: LayerCounts> RowOrder for NetworkRows<K, N> {
+    type Key = K;
+
+    type Counts = N;
+
+    ghost seen = { λ s. s };
+
+    fn after(&self, key: Option<&K>) -> Option<K> {
+        self.rows.after(key).copied()
+    }
+
+    fn stands_at(&self, key: &K, mark: u64) -> bool {
+        match self.rows.mark(key) {
+            Some(tick) => mark <= tick as u64,
+            None => false,
+        }
+    }
+
+    fn next_in(&self, key: &K, mark: u64, from: Option<u32>) -> Option<u32> {
+        match self.rows.applications(key) {
+            Some(applications) => next_protocol(&self.slots, applications, mark, from),
+            None => None,
+        }
+    }
+}
+
+// How many rows a reference entered.
+fn entered<K>(touch: &Touch<K>) -> u64
+    ensures { result ≡ cond (is_held touch.now) 0 1 }
+{
+    match touch {
+        Touch::Held => 0,
+        _ => 1,
     }
 }

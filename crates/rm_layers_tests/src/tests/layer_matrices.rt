@@ -1,4 +1,5 @@
 use rm_layer_matrices::{AddressPair, PairCounts};
+use rm_order::Reversible;
 use rm_proto::facts;
 use std::test::*;
 

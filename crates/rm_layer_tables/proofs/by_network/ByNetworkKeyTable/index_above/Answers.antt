@@ -6,11 +6,11 @@ pub returns-in_err-mark-clause-least : goal.returns-in_err-mark-clause-least
 returns-in_err-mark-clause-least g c =
     rw c.from_residual.ensures
     (no_network g.V.Key.LayerKey.form g.met.V.Key.LayerKey.numbered g.V.Key.PartialEq.eq (exact_key g.V.Key.PartialEq.eq g.V.Key.Ord.cmp g.met.V.Key.Eq.laws g.met.V.Key.Ord.matches_eq g.met.V.Key.Key.exact) g.V.LayerView.table_of c.args.part.now c.args.numbers.now c.walk_place-place.result
-    (rw c.bounds.ensures.value at c.walk_place-place.ensures) (rw (c.rows-rows.ensures, c.held.ensures, c.key_reached-from.ensures) at c.in_err-mark.ensures.kept))
+    (rw c.bounds.ensures.value at c.walk_place-place.ensures) (rw (c.rows-rows.ensures, c.key_reached-from.ensures) at c.in_err-mark.ensures))
 
 pub returns-clause-least : goal.returns-clause-least
 returns-clause-least g c =
     rw c.network_index.ensures.value
     (least_network g.V.Key.LayerKey.form g.met.V.Key.LayerKey.numbered g.V.Key.PartialEq.eq (exact_key g.V.Key.PartialEq.eq g.V.Key.Ord.cmp g.met.V.Key.Eq.laws g.met.V.Key.Ord.matches_eq g.met.V.Key.Key.exact) g.V.LayerView.table_of c.args.part.now c.args.numbers.now c.walk_place-place.result
-    (rw c.bounds.ensures.value at c.walk_place-place.ensures) (rw (c.rows-rows.ensures, c.held.ensures) at c.are_sound.ensures) c.in_ok-mark.mark c.in_ok-mark.key c.is_named.ensures
-    (rw (c.rows-rows.ensures, c.held.ensures, c.key_reached-from.ensures) at c.in_ok-mark.ensures.kept))
+    (rw c.bounds.ensures.value at c.walk_place-place.ensures) (rw c.rows-rows.ensures at c.are_sound.ensures.rows) c.in_ok-mark.mark c.in_ok-mark.key c.is_named.ensures
+    (rw (c.rows-rows.ensures, c.key_reached-from.ensures) at c.in_ok-mark.ensures))

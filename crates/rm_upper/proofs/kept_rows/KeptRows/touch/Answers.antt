@@ -1,13 +1,12 @@
 use Rattle.std.proofs.Common.{◌<◌, ◌≤◌, All, map, nat_lt, length, sym, ap, ◌∙◌, subst}
 use Rattle.std.specs.Prelude.{find}
 use Rattle.rm_evicting.specs.Row.{holds, is_oldest, touched}
-use Rattle.rm_rows.specs.Table.{Table}
+use Rattle.rm_rows.specs.Table.{Table, AreAfter, keys_of}
 use Rattle.rm_upper.specs.Kept.{NetworkRow}
 use Rattle.rm_upper.specs.Shown.{blank_row, row_as, seen_table}
 use Rattle.rm_upper.proofs.SeenLemmas.{holds-through, touched-through}
-use Rattle.rm_upper.proofs.SeenTables.{all-from, answer_held, answer_other}
+use Rattle.rm_upper.proofs.SeenTables.{all-from, is_answer, keys-seen}
 use Rattle.rm_upper.proofs.kept_rows.KeptRows.touch.Goals as goal
-use Rattle.rm_upper.proofs.kept_rows.KeptRows.touch.Goals.{in-Held, in_default}
 
 pub touch-requires-clause-stamp : goal.touch-requires-clause-stamp
 touch-requires-clause-stamp g c =
@@ -30,11 +29,11 @@ returns-clause-rows g c =
 pub returns-clause-held : goal.returns-clause-held
 returns-clause-held g c =
     let old = c.self.inside.rows in
-    let here = holds g.K.PartialEq.eq c.args.key old.rows in
-    let room = nat_lt (length old.rows) old.capacity in
-    let oldest = find (is_oldest old.rows) old.rows in
-    let still = sym (holds-through g.K.PartialEq.eq g.N.LayerCounts.seen c.args.key old.rows) ∙ ap (λ (x : Table g.row.K.Denot (NetworkRow g.row.N.Denot g.row.N-Application.Denot)). holds g.K.PartialEq.eq c.args.key x.rows) c.self.view_is in
-    elim c.match-matches.branch [
-      | in-Held w ↦ w.matches-is ∙ sym (answer_held here room c.touch.result oldest c.touch.ensures.answer w.in-Held.is) ∙ still
-      | in_default w ↦ w.matches-is ∙ sym (answer_other here room c.touch.result oldest c.touch.ensures.answer w.in_default.not-Held) ∙ still
-    ]
+    is_answer c.touch.result (holds g.K.PartialEq.eq c.args.key old.rows) (nat_lt (length old.rows) old.capacity) (find (is_oldest old.rows) old.rows) c.touch.ensures.answer
+    ∙ sym (holds-through g.K.PartialEq.eq g.N.LayerCounts.seen c.args.key old.rows) ∙ ap (λ (x : Table g.row.K.Denot (NetworkRow g.row.N.Denot g.row.N-Application.Denot)). holds g.K.PartialEq.eq c.args.key x.rows) c.self.view_is
+
+pub returns-clause-keys : goal.returns-clause-keys
+returns-clause-keys g c =
+    subst (λ (x : Table g.row.K.Denot (NetworkRow g.row.N.Denot g.row.N-Application.Denot)). AreAfter g.K.PartialEq.eq c.args.key c.touch.result (keys_of x.rows) (keys_of (map (row_as g.N.LayerCounts.seen) c.touch.new.self.rows))) c.self.view_is
+    (subst (λ ks. AreAfter g.K.PartialEq.eq c.args.key c.touch.result ks (keys_of (map (row_as g.N.LayerCounts.seen) c.touch.new.self.rows))) (sym (keys-seen g.N.LayerCounts.seen c.self.inside.rows.rows))
+    (subst (λ ks. AreAfter g.K.PartialEq.eq c.args.key c.touch.result (keys_of c.self.inside.rows.rows) ks) (sym (keys-seen g.N.LayerCounts.seen c.touch.new.self.rows)) c.touch.ensures.keys))

@@ -19,10 +19,10 @@ invariant_of-self g c =
     let applications : c.self.inside.rows.application_inserts ≤ 32 * c.self.inside.next = c.self.invariant.applications in
     elim c.if-self.branch [
       | then-self w ↦
-          let entered : w.refer.new.self.network_inserts ≤ c.self.inside.rows.network_inserts + 1 = w.refer.ensures.entered in
-          let made : w.refer.new.self.application_inserts ≤ c.self.inside.rows.application_inserts + 32 = w.refer.ensures.made in
+          let entered : w.refer-touch.new.self.network_inserts ≤ c.self.inside.rows.network_inserts + 1 = w.refer-touch.ensures.entered in
+          let made : w.refer-touch.new.self.application_inserts ≤ c.self.inside.rows.application_inserts + 32 = w.refer-touch.ensures.made in
           rw w.self-inside-is (record {
-            before = rw w.refer.ensures.kept (before-referred g.K.PartialEq.eq (blank_row g.N.Counts.tally.blank) (gained_value g.N.Counts.tally c.self.inside.rows.slots c.args.path.now c.args.stamp c.args.tick) c.self.inside.next c.self.inside.latest c.args.stamp c.args.tick above after c.self.inside.rows.table.capacity c.args.key c.args.gain.now c.self.inside.rows.table.rows c.self.invariant.before);
+            before = rw w.refer-touch.ensures.kept (before-referred g.K.PartialEq.eq (blank_row g.N.Counts.tally.blank) (gained_value g.N.Counts.tally c.self.inside.rows.slots c.args.path.now c.args.stamp c.args.tick) c.self.inside.next c.self.inside.latest c.args.stamp c.args.tick above after c.self.inside.rows.table.capacity c.args.key c.args.gain.now c.self.inside.rows.table.rows c.self.invariant.before);
             network = omega arith;
             applications = omega arith;
           })
@@ -42,6 +42,6 @@ returns-clause-stands g c = λ r part same_stamp same_tick same_gain agrees is_o
     let here : StandsFor g.N.Counts.tally g.K.PartialEq.eq r c.self.inside.rows = subst (λ (s : LayerTable g.row.K.Denot g.row.N.Denot g.row.N-Application.Denot). StandsFor g.N.Counts.tally g.K.PartialEq.eq r s.layered) (sym seen) stands in
     let on : is_ip_on r ≡ c.self.inside.on = is_on ∙ ap (λ (s : LayerTable g.row.K.Denot g.row.N.Denot g.row.N-Application.Denot). s.on) (sym seen) in
     elim c.if-self.branch [
-      | then-self w ↦ rw w.self-inside-is (w.refer.ensures.stands r part same_stamp same_tick same_gain agree (on ∙ w.if-self.true) tuned_here rises here)
+      | then-self w ↦ rw w.self-inside-is (w.refer-touch.ensures.stands r part same_stamp same_tick same_gain agree (on ∙ w.if-self.true) tuned_here rises here)
       | else-self w ↦ rw w.self-inside-is (stands-unnamed g.N.Counts.tally g.K.PartialEq.eq (exact_key g.K.PartialEq.eq g.K.Ord.cmp g.met.K.Eq.laws g.met.K.Ord.matches_eq g.met.K.Key.exact) r c.self.inside.rows c.args.key part (on ∙ w.if-self.false) here)
     ]

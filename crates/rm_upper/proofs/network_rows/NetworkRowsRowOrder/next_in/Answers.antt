@@ -7,7 +7,7 @@ use Rattle.rm_upper.specs.Shown.{applications_of}
 use Rattle.rm_upper.specs.Standing.{Layered}
 use Rattle.rm_upper.specs.Walk.{ShowsApplication}
 use Rattle.rm_upper.proofs.RowWalk.{in_is}
-use Rattle.rm_upper.proofs.network_rows.NetworkRows.next_in.Goals as goal
+use Rattle.rm_upper.proofs.network_rows.NetworkRowsRowOrder.next_in.Goals as goal
 
 pub returns-in-Some-clause-least : goal.returns-in-Some-clause-least
 returns-in-Some-clause-least g c =
