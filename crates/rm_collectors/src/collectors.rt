@@ -6,17 +6,15 @@ ghost use Rattle.rm_topn.specs.Due.{HasEnded};
 ghost use Rattle.rm_collectors.specs.Group.{Stands, IsAskable, IsStocked, IsSetTo, FallsDue, frames_given, last_given, left_of};
 
 use rm_group::Both;
-use rm_history::History;
-use rm_hosts::{HostRoom, Hosts};
-use rm_matrix::{Matrix, MatrixRoom};
+use rm_reported::Reported;
 use rm_settings::Settings;
-use rm_topn::Reports;
+use rm_traffic::Traffic;
 use rm_val::NoMemory;
 use std::alloc::Global;
 
-/// The history with the matrix, and the hosts with the reports of those that gained most beside them. Pairs stand in one another no deeper
-/// than they must: each level makes what stands over them longer to prove.
-pub(crate) type Groups = Both<Both<History, Matrix>, Both<Hosts, Reports>>;
+/// The history with the matrix, and the hosts with their reports. Each is a type of its own, and no pair: each level of pairs makes what
+/// stands over them longer to prove.
+pub(crate) type Groups = Both<Traffic, Reported>;
 
 /// The control tables whose valid rows collect what frames bring, with what they have collected: those of the history, of the hosts, of
 /// the reports of hosts, and of the matrix (RFC 1757, section 5). It may be asked at a moment where the reports that are due have ended.
@@ -32,22 +30,10 @@ impl Collectors {
         ensures last { last_given result ≡ 0 }
         ensures frames { frames_given result ≡ 0 }
     {
-        let hosts = Hosts::new(HostRoom {
-            hosts: settings.hosts,
-        });
-        let matrix = Matrix::new(MatrixRoom {
-            pairs: settings.pairs,
-        });
         Collectors {
             groups: Both {
-                first: Both {
-                    first: History::new(()),
-                    second: matrix,
-                },
-                second: Both {
-                    first: hosts,
-                    second: Reports::new(),
-                },
+                first: Traffic::new(settings),
+                second: Reported::new(settings),
             },
         }
     }
@@ -60,10 +46,8 @@ impl Collectors {
         ensures last { last_given self.new ≡ last_given self.old }
         ensures frames { frames_given self.new ≡ frames_given self.old }
     {
-        self.groups.first.first.reserve(alloc)?;
-        self.groups.first.second.reserve(alloc)?;
-        self.groups.second.first.reserve(alloc)?;
-        self.groups.second.second.reserve(alloc)
+        self.groups.first.reserve(alloc)?;
+        self.groups.second.reserve(alloc)
     }
 
     /// Ends the reports that are due up to a moment, in milliseconds. The tables may then be asked at that moment. It takes no memory.
@@ -75,7 +59,6 @@ impl Collectors {
         ensures last { last_given self.new ≤ max (last_given self.old) moment }
         ensures frames { frames_given self.new ≡ frames_given self.old }
     {
-        let hosts = &mut self.groups.second;
-        hosts.second.end_by(&hosts.first, moment);
+        self.groups.second.end_by(moment);
     }
 }

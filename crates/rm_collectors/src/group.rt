@@ -1,4 +1,4 @@
-// The control tables whose valid rows collect, as one group of objects: what the pairs of them do.
+// The control tables whose valid rows collect, as one group of objects: what the pair of their groups does.
 use crate::collectors::{Collectors, Groups};
 use rm_group::{
     Assigns, Commits, Denied, Due, FallsDue, Group, Look, Objects, Passing, Readable, Steps,
@@ -104,7 +104,7 @@ impl Objects for Collectors {
     }
 }
 
-#[tactic(auto, unfolding(crate::specs::Group::Stands, crate::specs::Group::collected_cells, rm_history::specs::Collection::history_collection, rm_sourced::specs::Collection::source_collection))]
+#[tactic(auto, unfolding(crate::specs::Group::Stands, crate::specs::Group::collected_cells))]
 impl Readable for Collectors {
     ghost use Rattle.rm_collectors.specs.Group.{collected_cells, shown};
     ghost use Rattle.rm_collectors.specs.Laws.{all_recurring};
@@ -137,6 +137,7 @@ impl Unsampled for Collectors {
     ghost begins = { all_begin };
 }
 
+// Only the reports of hosts fall due.
 impl FallsDue for Collectors {
     ghost use Rattle.rm_collectors.specs.Group.{FallsDue, left_of};
     ghost use Rattle.rm_collectors.specs.Laws.{all_asked};
@@ -146,7 +147,7 @@ impl FallsDue for Collectors {
     ghost left = { left_of };
 
     fn next_due(&self) -> Option<Due> {
-        self.groups.next_due()
+        self.groups.second.next_due()
     }
 
     ghost asked = { all_asked };

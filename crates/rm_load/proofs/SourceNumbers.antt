@@ -7,6 +7,8 @@ use Rattle.rm_history.specs.Collection.{history_collection}
 use Rattle.rm_sourced.specs.Collection.{source_collection}
 use Rattle.rm_hosts.specs.HostControl.{control_table as host_table}
 use Rattle.rm_matrix.specs.MatrixControl.{control_table as matrix_table}
+use Rattle.rm_traffic.specs.Group.{traffic_cells}
+use Rattle.rm_reported.specs.Group.{reported_cells}
 use Rattle.rm_collectors.specs.Group.{collected_cells}
 use Rattle.rm_sources.specs.Group.{source_cells}
 use Rattle.rm_settings.specs.declared.settings.Settings.{Settings}
@@ -35,17 +37,17 @@ module _ (settings : Settings) (start count now : ℕ) where
   octets = in_three _ _ _ _ (in_row (ether_table counting) refl (λ frame earlier. refl) start count 4 tt)
 
   pub hosts_size : IsNumber (cells settings acts now (name_in HostControl 3))
-  unfolding source_cells collected_cells history_collection source_collection
+  unfolding source_cells collected_cells traffic_cells reported_cells history_collection source_collection
   hosts_size = in_four _ _ _ _ _ (in_row (host_table counting) refl (λ frame earlier. refl) start count 3 tt)
 
   pub hosts_deleted : IsNumber (cells settings acts now (name_in HostControl 4))
-  unfolding source_cells collected_cells history_collection source_collection
+  unfolding source_cells collected_cells traffic_cells reported_cells history_collection source_collection
   hosts_deleted = in_four _ _ _ _ _ (in_row (host_table counting) refl (λ frame earlier. refl) start count 4 tt)
 
   pub pairs_size : IsNumber (cells settings acts now (name_in MatrixControl 3))
-  unfolding source_cells collected_cells history_collection source_collection
+  unfolding source_cells collected_cells traffic_cells reported_cells history_collection source_collection
   pairs_size = in_four _ _ _ _ _ (in_row (matrix_table counting) refl (λ frame earlier. refl) start count 3 tt)
 
   pub pairs_deleted : IsNumber (cells settings acts now (name_in MatrixControl 4))
-  unfolding source_cells collected_cells history_collection source_collection
+  unfolding source_cells collected_cells traffic_cells reported_cells history_collection source_collection
   pairs_deleted = in_four _ _ _ _ _ (in_row (matrix_table counting) refl (λ frame earlier. refl) start count 4 tt)

@@ -4,5 +4,4 @@ use Rattle.rm_collectors.proofs.collectors.Collectors.end_by.Goals as goal
 pub returns-clause-stands : goal.returns-clause-stands
 unfolding Stands
 returns-clause-stands c settings journal stands =
-    let hosts = stands.second in
-    record { first = stands.first; second = record { first = hosts.first; second = c.end_by.ensures.stands settings journal hosts.first hosts.second; tied = tt }; tied = tt }
+    record { first = stands.first; second = c.end_by.ensures.stands settings journal stands.second; tied = tt }
