@@ -37,16 +37,23 @@ fn key(last: u8) -> [u8; 6] {
 
 #[test]
 fn evicts_the_oldest(rt: HostRuntime) -> Result<(), Fail> {
-    let mut rows: Rows<[u8; 6], Seen> = Rows::new(rt.alloc(), 3)?;
+    let mut rows: Rows<[u8; 6], Seen> = Rows::new(rt.alloc(), 2)?;
     assert_eq!(rt; rows.touch(key(5), 2, 10), Touch::Fresh);
     assert_eq!(rt; rows.touch(key(3), 4, 10), Touch::Fresh);
-    assert_eq!(rt; rows.touch(key(9), 6, 11), Touch::Fresh);
     assert_eq!(rt; rows.touch(key(5), 8, 12), Touch::Held);
     assert_eq!(rt; rows.touch(key(1), 10, 12), Touch::Evicted(key(3)));
     assert_eq!(rt; rows.get(&key(3)), None);
     assert_eq!(rt; rows.entry(&key(5)), Some(2));
     assert_eq!(rt; rows.mark(&key(5)), Some(12));
-    assert_eq!(rt; rows.len(), 3);
+    assert_eq!(rt; rows.len(), 2);
+    Ok(())
+}
+
+#[test]
+fn begins_anew_with_less_room(rt: HostRuntime) -> Result<(), Fail> {
+    let mut rows: Rows<[u8; 6], Seen> = Rows::new(rt.alloc(), 3)?;
+    assert_eq!(rt; rows.touch(key(5), 2, 10), Touch::Fresh);
+    assert_eq!(rt; rows.touch(key(3), 4, 10), Touch::Fresh);
     rows.reset(2);
     assert_eq!(rt; rows.len(), 0);
     assert_eq!(rt; rows.touch(key(1), 16, 14), Touch::Fresh);
