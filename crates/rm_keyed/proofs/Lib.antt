@@ -1,4 +1,3 @@
-pub mod Credits
 pub mod Evictions
 pub mod EachRow
 pub mod Mentions

@@ -1,5 +1,5 @@
 -- Keys that are those of rows, each reversed.
-use Rattle.std.proofs.Common.{◌≡◌, ℕ, List, [], ◌∷◌, Bool, true, false, ◌||◌, Contains, map, find, option_map, refl, sym, ap, ◌∙◌, subst, inl, inr}
+use Rattle.std.proofs.Common.{◌≡◌, ℕ, List, [], ◌∷◌, Bool, true, false, Contains, map, find, option_map, refl, sym, ap, ◌∙◌, inl, inr}
 use Rattle.std.specs.List.{list_any}
 use Rattle.std.specs.Str.{bytes_eq}
 use Rattle.std.proofs.lemmas.Bool.{cases_Bool}
@@ -11,6 +11,7 @@ use Rattle.rm_evicting.specs.declared.Row.{Row}
 use Rattle.rm_evicting.specs.Stands.{IsTotal, Stands}
 use Rattle.rm_evicting.proofs.RankLemmas.{members}
 use Rattle.rm_order.specs.Order.{AreReversed}
+use Rattle.rm_order.proofs.ReversedLemmas.{alike_of, any-of}
 use Rattle.rm_rows.specs.Table.{keys_of}
 use Rattle.rm_keyed.specs.Held.{key_of_index}
 use Rattle.rm_keyed.specs.Indexes.{key_with}
@@ -47,22 +48,14 @@ module _ {K : Type 0} (eq : K → K → Bool) (exact : IsExact eq) where
         (λ found. any_there key ordered ((reversed key).1 (there_any (to key) keys found)))
 
   module _ (to : K → K) (twice : (key : K) → to (to key) ≡ key) where
-    across : (key other : K) → eq key (to other) ≡ eq (to key) other
-    across key other = same_tests (eq key (to other)) (eq (to key) other)
-        (λ same. subst (λ k. eq (to key) k ≡ true) (ap to (exact.same key (to other) same) ∙ twice other) (exact.itself (to key)))
-        (λ same. subst (λ k. eq key k ≡ true) (sym (twice key) ∙ ap to (exact.same (to key) other same)) (exact.itself key))
-
-    any_across : (key : K) (some : List K) → list_any (eq key) (map to some) ≡ list_any (eq (to key)) some
-    any_across key [] = refl
-    any_across key (other ∷ some) = λ d. across key other d || any_across key some d
-
     -- The key by whose reversed one some numbers stand is that of the held ones.
     module _ {C V : Type 0} (index : K → List ℕ) (apart : (one other : K) → index (to one) ≡ index (to other) → one ≡ other) (numbers : List ℕ)
         (blank : V) (plus : V → C → V) (capacity : ℕ) (mentions : List (Mention K C)) (rows : List (Row K V)) (stands : Stands eq (IsTotal blank plus) capacity mentions rows)
         (ordered : List K) (alike : AreFoundReversed eq to ordered (keys_of rows)) where
       listed : (key : K) → list_any (eq key) (map to ordered) ≡ list_any (eq key) (held_keys eq capacity (keys mentions))
       listed key =
-          any_across key ordered
+          ap (λ k. list_any (eq k) (map to ordered)) (sym (twice key))
+          ∙ any-of eq to (alike_of eq exact to twice) (to key) ordered
           ∙ alike (to key)
           ∙ ap (λ k. list_any (eq k) (keys_of rows)) (twice key)
           ∙ sym (members eq exact (IsTotal blank plus) capacity mentions rows stands key)

@@ -1,5 +1,5 @@
 // Keys in their order.
-ghost use Rattle.std.specs.Prelude.{◌≡◌, List};
+ghost use Rattle.std.specs.Prelude.{List};
 ghost use Rattle.std.specs.Option.{option_copied};
 ghost use Rattle.rm_rows.specs.Table.{IsFirstPassing, PassesUpward, keys_of};
 

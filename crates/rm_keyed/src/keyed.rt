@@ -59,7 +59,7 @@ impl<K: Key, V: Counts> Keyed<K, V> {
         requires some { 1 ≤ capacity }
         requires most { capacity ≤ MOST_ROWS }
         ensures nothing { IsOf K.eq V.blank_value V.plus [] self.new }
-        ensures rows { self.new.rows.rows ≡ [] }
+        ensures none { self.new.rows.rows ≡ [] }
         ensures capacity { self.new.rows.capacity ≡ capacity }
         ensures stamps { self.new.stamps ≡ 0 }
         ensures tick { self.new.tick ≡ 0 }

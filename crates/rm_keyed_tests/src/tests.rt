@@ -138,7 +138,7 @@ fn walks_go_by_the_indexes_of_pairs(rt: HostRuntime) -> Result<(), Fail> {
 }
 
 #[test]
-fn keys_alone_are_walked_as_those_of_rows(rt: HostRuntime) -> Result<(), Fail> {
+fn nothing_is_walked_in_an_order_without_keys(rt: HostRuntime) -> Result<(), Fail> {
     let pairs: OrderedKeys<AddressPair> = OrderedKeys::new(rt.alloc(), 2)?;
     assert!(rt; key_above(&pairs, &Oid::new()).is_none());
     assert!(rt; key_at(&pairs, &Oid::new(), 1).is_none());

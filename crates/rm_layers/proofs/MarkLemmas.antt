@@ -1,17 +1,12 @@
--- The next instance, by two marks alone; and the next application row, by the next network row.
+-- That no instance is left, by two marks alone; and the next application row, by the next network row.
 use Rattle.std.proofs.Common.{◌≡◌, ℕ, ◌<◌, ◌≤◌, ◌+◌, ◌⊎◌, Option, Some, None, refl, sym, ap, ◌∙◌, arith, subst, inl, inr}
 use Rattle.std.specs.Prelude.{⊤}
 use Rattle.std.specs.declared.cmp.Ordering.{Ordering}
 use Rattle.std.specs.declared.cmp.Ordering.TheVariants.{Less, Equal, Greater}
-use Rattle.std.specs.Ordering.{ordering_then, ordering_reverse, nat_cmp, MatchOrdering}
-use Rattle.std.specs.Cmp.{IsTotalOrder, ranked}
+use Rattle.std.specs.Ordering.{ordering_then, ordering_reverse, nat_cmp}
+use Rattle.std.specs.Cmp.{IsTotalOrder}
+use Rattle.std.proofs.lemmas.Cmp.{tied_itself}
 use Rattle.rm_layers.specs.Marks.{pair_cmp, IsLeast, StandsAt, IsNextInstance, IsAboveName, IsAboveApplication}
-
-below : (m n : ℕ) → nat_cmp m n ≡ Less → m < n
-below m n e = subst (λ o. MatchOrdering o (m < n) (m ≡ n) (n < m)) e (ranked m n (nat_cmp m n) refl)
-
-same : (m n : ℕ) → nat_cmp m n ≡ Equal → m ≡ n
-same m n e = subst (λ o. MatchOrdering o (m < n) (m ≡ n) (n < m)) e (ranked m n (nat_cmp m n) refl)
 
 -- the first is less, or it is equal and the second is less
 then_less : (a b : Ordering) → ordering_then a b ≡ Less → (a ≡ Less) ⊎ ((a ≡ Equal) × (b ≡ Less))
@@ -22,25 +17,6 @@ then_less Greater b e = cc
 module _ {X : Type 0} (cmp : X → X → Ordering) (lasts : X → ℕ → Type 0) (mark : ℕ) (above : X → Type 0) where
   at_mark : (m n : ℕ) (y : X) → m ≤ n → StandsAt lasts n y → StandsAt lasts m y
   at_mark m n y le s = let last : n ≤ s.0 = s.2 in (s.0, s.1, omega arith)
-
-  -- a name at the mark itself
-  pub instance_here : (x : X) → IsLeast cmp (StandsAt lasts mark) above (Some x) → IsNextInstance cmp lasts mark above (Some (mark, x))
-  instance_here x l = (l.0, inr (refl, l.1), λ i stands up less. go i.0 i.1 stands up (then_less (nat_cmp i.0 mark) (cmp i.1 x) less))
-    where
-      go : (m : ℕ) (y : X) → StandsAt lasts m y → (mark < m) ⊎ ((mark ≡ m) × above y) → (nat_cmp m mark ≡ Less) ⊎ ((nat_cmp m mark ≡ Equal) × (cmp y x ≡ Less)) → ⊥
-      go m y s (inl lt) (inl a) = let less : m < mark = below m mark a in omega arith
-      go m y s (inl lt) (inr b) = let e : m ≡ mark = same m mark b.0 in omega arith
-      go m y s (inr u) (inl a) = let e : mark ≡ m = u.0 in let less : m < mark = below m mark a in omega arith
-      go m y s (inr u) (inr b) = let e : mark ≡ m = u.0 in l.2 y (at_mark mark m y (omega arith) s) u.1 b.1
-
-  -- none there, and the first name at the next mark
-  pub instance_next : (x : X) → IsLeast cmp (StandsAt lasts mark) above None → IsLeast cmp (StandsAt lasts (mark + 1)) (λ y. ⊤) (Some x) → IsNextInstance cmp lasts mark above (Some (mark + 1, x))
-  instance_next x none l = (l.0, inl (omega arith), λ i stands up less. go i.0 i.1 stands up (then_less (nat_cmp i.0 (mark + 1)) (cmp i.1 x) less))
-    where
-      go : (m : ℕ) (y : X) → StandsAt lasts m y → (mark < m) ⊎ ((mark ≡ m) × above y) → (nat_cmp m (mark + 1) ≡ Less) ⊎ ((nat_cmp m (mark + 1) ≡ Equal) × (cmp y x ≡ Less)) → ⊥
-      go m y s (inl lt) (inl a) = let less : m < mark + 1 = below m (mark + 1) a in omega arith
-      go m y s (inl lt) (inr b) = let e : m ≡ mark + 1 = same m (mark + 1) b.0 in l.2 y (at_mark (mark + 1) m y (omega arith) s) tt b.1
-      go m y s (inr u) b = let e : mark ≡ m = u.0 in none y (at_mark mark m y (omega arith) s) u.1
 
   -- none at either mark, and none at all
   pub instance_none : IsLeast cmp (StandsAt lasts mark) above None → IsLeast cmp (StandsAt lasts (mark + 1)) (λ y. ⊤) None → IsNextInstance cmp lasts mark above None
@@ -57,14 +33,6 @@ module _ {X : Type 0} (cmp : X → X → Ordering) (shown : X → Type 0) where
   least-same above other to from (Some x) l = (l.0, from x l.0 l.1, λ y s a. l.2 y s (to y s a))
 
 module _ {K : Type 0} (cmp : K → K → Ordering) (order : IsTotalOrder cmp) (exact : (a b : K) → cmp a b ≡ Equal → a ≡ b) (held : K → Type 0) (shown : K × ℕ → Type 0) (within : (x : K × ℕ) → shown x → held x.0) where
-  itself : (k : K) → cmp k k ≡ Equal
-  itself k = go (cmp k k) (order.antisymm k k)
-    where
-      go : (o : Ordering) → o ≡ ordering_reverse o → o ≡ Equal
-      go Less e = cc
-      go Equal e = refl
-      go Greater e = cc
-
   flips : (j k : K) → cmp j k ≡ Less → cmp k j ≡ Greater
   flips j k e = order.antisymm k j ∙ ap ordering_reverse e
 
@@ -78,7 +46,7 @@ module _ {K : Type 0} (cmp : K → K → Ordering) (order : IsTotalOrder cmp) (e
       go : (k : K) (m : ℕ) → shown (k, m) → (cmp j k ≡ Less) ⊎ ((j ≡ k) × IsAboveName nat_cmp q m) → (cmp k j ≡ Less) ⊎ ((cmp k j ≡ Equal) × (nat_cmp m p ≡ Less)) → ⊥
       go k m s (inl a) (inl b) = let e : cmp k j ≡ Greater = flips j k a in cc
       go k m s (inl a) (inr b) = let e : cmp k j ≡ Greater = flips j k a in let f : cmp k j ≡ Equal = b.0 in cc
-      go k m s (inr a) (inl b) = let e : cmp k j ≡ Equal = ap (λ x. cmp x j) (sym a.0) ∙ itself j in cc
+      go k m s (inr a) (inl b) = let e : cmp k j ≡ Equal = ap (λ x. cmp x j) (sym a.0) ∙ tied_itself order j in cc
       go k m s (inr a) (inr b) = l.2 m (subst (λ x. shown (x, m)) (sym a.0) s) a.1 b.1
 
   -- a key isn't before the next one

@@ -4,12 +4,12 @@ use Rattle.std.specs.declared.cmp.Ordering.{Ordering}
 use Rattle.std.specs.declared.cmp.Ordering.TheVariants.{Less, Equal, Greater}
 use Rattle.std.specs.Cmp.{IsTotalOrder}
 use Rattle.std.specs.Ordering.{ordering_reverse, is_le}
+use Rattle.std.proofs.lemmas.Cmp.{tied_itself}
 use Rattle.std.proofs.lemmas.Option.{slice_get-get_or, slice_get_within}
 use Rattle.std.proofs.lemmas.List.{take_at}
 use Rattle.std.proofs.lemmas.List.Edits.{length-remove}
 use Rattle.rm_rows.specs.Stored.{In}
 use Rattle.rm_rows.specs.Index.{place_without}
-use Rattle.rm_rows.specs.Table.{PassesUpward}
 use Rattle.rm_rows.proofs.Members.{compared, in_at, at_in, in_middle, in_without, in_with, in_take, in_drop, pair_without, pair_with, pair_at, cut_at, join_at}
 use Rattle.rm_rows.proofs.PlaceLemmas.{without_before, without_behind, left_at}
 use Rattle.rm_rows.proofs.Steps.{irreflexive, pair_gone}
@@ -27,7 +27,7 @@ above_of Equal e = inr refl
 above_of Greater e = cc
 
 -- an item set where another was put in
-pub set_inserted : {X : Type 0} (xs : List X) (place : ℕ) (old new : X) → place ≤ length xs → slice_set (insert xs place old) place new ≡ insert xs place new
+set_inserted : {X : Type 0} (xs : List X) (place : ℕ) (old new : X) → place ≤ length xs → slice_set (insert xs place old) place new ≡ insert xs place new
 set_inserted xs zero old new le = refl
 set_inserted [] (suc place) old new le = absurd (omega arith)
 set_inserted (x ∷ xs) (suc place) old new le = ap (λ l. x ∷ l) (set_inserted xs place old new (omega arith))
@@ -44,30 +44,15 @@ moved_set {X = X} xs seen moved len place from to old new is count at fits there
     (λ i. slice_set (whole i) (there i) new) ∙ set_inserted (remove xs from) (place_without from to) old new fits
 
 module _ {K : Type 0} (cmp : K → K → Ordering) where
-  abbrev pub before : K → K → Type 0
+  abbrev before : K → K → Type 0
   before one other = cmp one other ≡ Less
 
   abbrev pub from_key : K → K → Bool
   from_key key other = is_le (cmp key other)
 
 module _ {K : Type 0} (cmp : K → K → Ordering) (order : IsTotalOrder cmp) (exact : (a b : K) → cmp a b ≡ Equal → a ≡ b) where
-  equal_itself : (key : K) → cmp key key ≡ Equal
-  equal_itself key = alike (cmp key key) (order.antisymm key key)
-    where
-      alike : (o : Ordering) → o ≡ ordering_reverse o → o ≡ Equal
-      alike Less e = cc
-      alike Equal e = refl
-      alike Greater e = cc
-
   turned : (one other : K) → cmp one other ≡ Greater → cmp other one ≡ Less
   turned one other e = order.antisymm other one ∙ ap ordering_reverse e
-
-  -- those from a key on pass upward
-  pub from_upward : (key : K) → PassesUpward cmp (from_key cmp key)
-  from_upward key one other on less = elim (above_of (cmp key one) on) [
-    | inl lt ↦ ap is_le (order.trans key one other lt less)
-    | inr same ↦ ap is_le (order.congr key one other same ∙ less)
-  ]
 
   module _ (keys : List K) (rising : AreRising cmp keys) where
     -- a key that isn't there, put in at its place
@@ -94,11 +79,11 @@ module _ {K : Type 0} (cmp : K → K → Ordering) (order : IsTotalOrder cmp) (e
       )
 
     -- the place of a key that is there
-    pub place_of : (gone : K) (place : ℕ) → IsCut (from_key cmp gone) keys place → Contains keys gone → slice_get keys place ≡ Some gone
+    place_of : (gone : K) (place : ℕ) → IsCut (from_key cmp gone) keys place → Contains keys gone → slice_get keys place ≡ Some gone
     place_of gone place cut held =
         let on = in_at gone keys (in_contains keys gone held) in
         elim (compared on.0 place) [
-          | inl lt ↦ absurd (true≢false (sym (ap is_le (equal_itself gone)) ∙ cut.below on.0 gone lt on.2))
+          | inl lt ↦ absurd (true≢false (sym (ap is_le (tied_itself order gone)) ∙ cut.below on.0 gone lt on.2))
           | inr m ↦ elim m [
             | inl e ↦ ap (slice_get keys) (sym e) ∙ on.2
             | inr lt ↦
@@ -114,10 +99,10 @@ module _ {K : Type 0} (cmp : K → K → Ordering) (order : IsTotalOrder cmp) (e
       parted : keys ≡ take from keys ++ gone ∷ drop (suc from) keys
       parted = cut_at keys from gone at
 
-      pub rising_without : AreRising cmp (remove keys from)
+      rising_without : AreRising cmp (remove keys from)
       rising_without = pair_without (before cmp) (take from keys) gone (drop (suc from) keys) (subst (AreRising cmp) parted rising)
 
-      pub keys_without : (k : K) → Contains (remove keys from) k ↔ (Contains keys k × (¬ (k ≡ gone)))
+      keys_without : (k : K) → Contains (remove keys from) k ↔ (Contains keys k × (¬ (k ≡ gone)))
       keys_without k = (
         (λ h.
             let m = in_contains (remove keys from) k h in (
@@ -131,7 +116,7 @@ module _ {K : Type 0} (cmp : K → K → Ordering) (order : IsTotalOrder cmp) (e
       )
 
   -- a place among keys is one among those that are left
-  pub cut_without : (test : K → Bool) (keys : List K) (gone place : ℕ) → gone < length keys → IsCut test keys place → IsCut test (remove keys gone) (place_without gone place)
+  cut_without : (test : K → Bool) (keys : List K) (gone place : ℕ) → gone < length keys → IsCut test keys place → IsCut test (remove keys gone) (place_without gone place)
   cut_without test keys gone place within cut =
       let fewer = length-remove keys gone within in let fits = cut.within in
       elim (compared gone place) [

@@ -1,10 +1,10 @@
 -- Reversed keys that follow those of a table.
-use Rattle.std.proofs.Common.{◌≡◌, ◌↔◌, ◌⊎◌, ◌&&◌, ◌≤◌, Bool, true, false, not, List, [], ◌∷◌, ◌++◌, map, length, Contains, refl, sym, ap, ◌∙◌, subst, true≢false, inl, inr}
+use Rattle.std.proofs.Common.{◌≡◌, ◌↔◌, ◌⊎◌, ◌≤◌, Bool, true, false, not, List, [], ◌∷◌, ◌++◌, map, length, Contains, refl, sym, ap, ◌∙◌, subst, true≢false, inl, inr}
 use Rattle.std.specs.List.{list_any, AllByRecursion, IsDistinct}
 use Rattle.std.specs.declared.cmp.Ordering.{Ordering}
 use Rattle.std.specs.declared.cmp.Ordering.TheVariants.{Less}
 use Rattle.std.specs.Cmp.{IsTotalOrder, IsEquivalence}
-use Rattle.std.proofs.lemmas.Bool.{cases_Bool}
+use Rattle.std.proofs.lemmas.Bool.{cases_Bool, and_parts}
 use Rattle.std.proofs.lemmas.List.{length-map}
 use Rattle.std.proofs.lemmas.List.Elements.{Contains-append_left, Contains-push, Contains-push_cases}
 use Rattle.std.proofs.lemmas.Map.Made.{length-le_from_is_member}
@@ -16,11 +16,6 @@ use Rattle.rm_rows.proofs.Steps.{irreflexive}
 use Rattle.rm_order.specs.Order.{AreRising, AreReversed}
 use Rattle.rm_order.proofs.PlaceLemmas.{contains_in, in_contains}
 
-both : (a b : Bool) → (a && b) ≡ true → (a ≡ true) × (b ≡ true)
-both true true e = (refl, refl)
-both true false e = absurd (true≢false (sym e))
-both false b e = absurd (true≢false (sym e))
-
 in_map : {X Y : Type 0} (f : X → Y) (xs : List X) (x : X) → In x xs → In (f x) (map f xs)
 in_map f [] x h = absurd h
 in_map f (y ∷ xs) x h = elim h [ inl e ↦ inl (ap f e) | inr k ↦ inr (in_map f xs x k) ]
@@ -30,7 +25,7 @@ module _ {K : Type 0} (eq : K → K → Bool) (laws : IsEquivalence eq) (exact :
   without_keys : (gone key : K) (keys : List K) → Contains (without eq gone keys) key ↔ (Contains keys key × (¬ (key ≡ gone)))
   without_keys gone key keys = (
     (λ h.
-        let on = both (list_any (eq key) keys) (not (eq key gone)) (sym (any-without eq exact key gone keys) ∙ list_any-from_Contains laws key (without eq gone keys) h) in (
+        let on = and_parts (list_any (eq key) keys) (not (eq key gone)) (sym (any-without eq exact key gone keys) ∙ list_any-from_Contains laws key (without eq gone keys) h) in (
           Contains-from_any exact.same key keys on.0,
           (λ same. true≢false (sym on.1 ∙ ap not (ap (eq key) (sym same) ∙ exact.itself key))),
         )),

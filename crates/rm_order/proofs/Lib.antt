@@ -1,3 +1,4 @@
 mod PlaceLemmas
 mod EditLemmas
 mod FollowLemmas
+pub mod ReversedLemmas

@@ -1,10 +1,11 @@
 -- What rows show where each key is replaced by another that stands for it, and which it stands for.
-use Rattle.std.proofs.Common.{◌≡◌, ℕ, zero, suc, ◌<◌, Bool, ◌||◌, List, [], ◌∷◌, map, length, option_map, Option, Some, None, All, Contains, get_or, ◌↔◌, refl, sym, ap, ◌∙◌, subst, inl, inr, arith}
+use Rattle.std.proofs.Common.{◌≡◌, ℕ, Bool, ◌||◌, List, [], ◌∷◌, map, option_map, Option, Some, None, All, Contains, get_or, ◌↔◌, refl, sym, ap, ◌∙◌, subst, inl, inr, arith}
 use Rattle.std.specs.declared.cmp.Ordering.{Ordering}
 use Rattle.std.specs.declared.cmp.Ordering.TheVariants.{Less}
 use Rattle.std.specs.Ordering.{nat_cmp}
 use Rattle.std.proofs.lemmas.Bool.{cases_Bool}
 use Rattle.std.proofs.lemmas.List.Elements.{All-contains, Contains-get_or}
+use Rattle.rm_model.proofs.Members.{in_map}
 use Rattle.rm_evicting.specs.declared.Row.{Row}
 use Rattle.rm_evicting.specs.Row.{holds}
 use Rattle.rm_rows.specs.Table.{keys_of, row_of, IsNextKey, IsAbove}
@@ -34,7 +35,7 @@ module _ {K : Type 0} (eq : K → K → Bool) (to : K → K) (twice : (key : K) 
     ]
 
     -- what is read of a row, but of its key, is read of the other's
-    pub read_of : {W : Type 0} (read : Option (Row K V) → W) → ((row : Row K V) → read (Some (reversed_row to row)) ≡ read (Some row)) → (k : K) (rows : List (Row K V))
+    read_of : {W : Type 0} (read : Option (Row K V) → W) → ((row : Row K V) → read (Some (reversed_row to row)) ≡ read (Some row)) → (k : K) (rows : List (Row K V))
         → read (row_of eq k (reversed_rows to rows)) ≡ read (row_of eq (to k) rows)
     read_of read same k rows = ap read (row_of-of k rows) ∙ through (row_of eq (to k) rows)
       where
@@ -53,7 +54,7 @@ module _ {K : Type 0} (eq : K → K → Bool) (to : K → K) (twice : (key : K) 
     has-to : (Such : ℕ → V → Type 0) (o : Option (Row K V)) → Has Such o → Has Such (option_map (reversed_row to) o)
     has-to Such o has = (reversed_row to has.0, ap (option_map (reversed_row to)) has.1, has.2)
 
-    pub has_of : (Such : ℕ → V → Type 0) (k : K) (rows : List (Row K V)) → Has Such (row_of eq k (reversed_rows to rows)) ↔ Has Such (row_of eq (to k) rows)
+    has_of : (Such : ℕ → V → Type 0) (k : K) (rows : List (Row K V)) → Has Such (row_of eq k (reversed_rows to rows)) ↔ Has Such (row_of eq (to k) rows)
     has_of Such k rows = (
       λ has. has-from Such (row_of eq (to k) rows) (subst (Has Such) (row_of-of k rows) has),
       λ has. subst (Has Such) (sym (row_of-of k rows)) (has-to Such (row_of eq (to k) rows) has),
@@ -93,17 +94,12 @@ module _ {K : Type 0} where
   all_among P keys others among all = λ i d lt. All-contains P keys (get_or others i d) all (among (get_or others i d) (Contains-get_or others i d lt))
 
   -- the next of some keys is that of others which are the same
-  pub next_same : (cmp : K → K → Ordering) (keys others : List K) → ((k : K) → Contains keys k ↔ Contains others k) → (from result : Option K) → IsNextKey cmp keys from result → IsNextKey cmp others from result
+  next_same : (cmp : K → K → Ordering) (keys others : List K) → ((k : K) → Contains keys k ↔ Contains others k) → (from result : Option K) → IsNextKey cmp keys from result → IsNextKey cmp others from result
   next_same cmp keys others same from None next = all_among (λ k. ¬ (IsAbove cmp from k)) keys others (λ k. (same k).1) next
   next_same cmp keys others same from (Some best) next =
       ((same best).0 next.0, next.1, all_among (λ k. IsAbove cmp from k → ¬ (cmp k best ≡ Less)) keys others (λ k. (same k).1) next.2)
 
   module _ (to : K → K) (twice : (key : K) → to (to key) ≡ key) where
-    contains_mapped : (k : K) (keys : List K) → Contains keys k → Contains (map to keys) (to k)
-    contains_mapped k [] c = absurd (omega (arith, c.1))
-    contains_mapped k (j ∷ keys) (zero, lt, at) = (0, omega arith, ap to at)
-    contains_mapped k (j ∷ keys) (suc i, lt, at) = let more = contains_mapped k keys (i, omega arith, at) in (suc more.0, (let below : more.0 < length (map to keys) = more.1 in omega arith), more.2)
-
     back : (keys : List K) → map to (map to keys) ≡ keys
     back [] = refl
     back (k ∷ keys) = λ d. twice k d ∷ back keys d
@@ -113,10 +109,10 @@ module _ {K : Type 0} where
     keys_of-of (row ∷ rows) = ap (λ l. to row.key ∷ l) (keys_of-of rows)
 
     -- keys in an order of their own, each reversed, are those of the rows with each key reversed
-    pub among-of : {V : Type 0} (ordered : List K) (rows : List (Row K V)) → AreReversed to ordered (keys_of rows) → (k : K) → Contains ordered k ↔ Contains (keys_of (reversed_rows to rows)) k
+    among-of : {V : Type 0} (ordered : List K) (rows : List (Row K V)) → AreReversed to ordered (keys_of rows) → (k : K) → Contains ordered k ↔ Contains (keys_of (reversed_rows to rows)) k
     among-of ordered rows are k = (
-      λ in_order. subst (λ keys. Contains keys k) (sym (keys_of-of rows)) (subst (Contains (map to (keys_of rows))) (twice k) (contains_mapped (to k) (keys_of rows) ((are k).0 in_order))),
-      λ in_rows. (are k).1 (subst (λ keys. Contains keys (to k)) (back (keys_of rows)) (contains_mapped k (map to (keys_of rows)) (subst (λ keys. Contains keys k) (keys_of-of rows) in_rows))),
+      λ in_order. subst (λ keys. Contains keys k) (sym (keys_of-of rows)) (subst (Contains (map to (keys_of rows))) (twice k) (in_map to (keys_of rows) (to k) ((are k).0 in_order))),
+      λ in_rows. (are k).1 (subst (λ keys. Contains keys (to k)) (back (keys_of rows)) (in_map to (map to (keys_of rows)) k (subst (λ keys. Contains keys k) (keys_of-of rows) in_rows))),
     )
 
     pub next-of : {V : Type 0} (cmp : K → K → Ordering) (ordered : List K) (rows : List (Row K V)) → AreReversed to ordered (keys_of rows) → (from result : Option K)

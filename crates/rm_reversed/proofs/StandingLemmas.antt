@@ -13,8 +13,7 @@ use Rattle.rm_layers.specs.Upper.{IsValue}
 use Rattle.rm_upper.specs.Shown.{protocols, row_as, seen_value, seen_rows}
 use Rattle.rm_upper.specs.Standing.{Layered, StandsFor, IsKeptBefore}
 use Rattle.rm_upper.specs.Tally.{Tally}
-use Rattle.rm_reversed.specs.Renamed.{renamed}
-use Rattle.rm_reversed.specs.Reversed.{reversed_row, reversed_rows, reversed_layered}
+use Rattle.rm_reversed.specs.Reversed.{reversed_events, reversed_row, reversed_rows, reversed_layered}
 use Rattle.rm_reversed.proofs.MentionLemmas.{mentions_of, held_by-of, size_by-of, entry-of, last_stamp-of, last_tick-of, shares-of}
 use Rattle.rm_reversed.proofs.EventLemmas.{on_since-of, span-of, up_to-of, network_inserts-of, application_inserts-of}
 use Rattle.rm_reversed.proofs.RowLemmas.{holds-of}
@@ -63,15 +62,15 @@ module _ {K : Type 0} (eq : K → K → Bool) (to : K → K) (twice : (key : K) 
     abbrev Stand : (ℕ → Option ℕ) → List (Mention K (Contribution N)) → List (Row K (Value N A)) → Type 0
     Stand since ms rows = Stands eq (IsValue tally.blank tally.add tally.none tally.more slots since) layered.table.capacity ms rows
 
-    rows_stand : Stand (λ protocol. on_since protocol (renamed to events)) (span (renamed to events)) (seen_rows layered.slots (reversed_layered to layered).table.rows)
+    rows_stand : Stand (λ protocol. on_since protocol (reversed_events to events)) (span (reversed_events to events)) (seen_rows layered.slots (reversed_layered to layered).table.rows)
     rows_stand =
-        subst (Stand (λ protocol. on_since protocol (renamed to events)) (span (renamed to events))) (sym (seen-of (seen_value layered.slots) layered.table.rows))
-        (subst (λ ms. Stand (λ protocol. on_since protocol (renamed to events)) ms (reversed_rows to (seen_rows layered.slots layered.table.rows))) (sym (span-of to events))
-        (stands-of (IsValue tally.blank tally.add tally.none tally.more slots (λ protocol. on_since protocol (renamed to events))) layered.table.capacity (span events) (seen_rows layered.slots layered.table.rows)
+        subst (Stand (λ protocol. on_since protocol (reversed_events to events)) (span (reversed_events to events))) (sym (seen-of (seen_value layered.slots) layered.table.rows))
+        (subst (λ ms. Stand (λ protocol. on_since protocol (reversed_events to events)) ms (reversed_rows to (seen_rows layered.slots layered.table.rows))) (sym (span-of to events))
+        (stands-of (IsValue tally.blank tally.add tally.none tally.more slots (λ protocol. on_since protocol (reversed_events to events))) layered.table.capacity (span events) (seen_rows layered.slots layered.table.rows)
         (subst (λ since. Stand since (span events) (seen_rows layered.slots layered.table.rows)) (λ d protocol. sym (on_since-of to protocol events) d) stands.is.stands)))
 
     -- what is told of events is told of those with each key replaced
-    pub stands_for-of : StandsFor tally eq (renamed to events) (reversed_layered to layered)
+    pub stands_for-of : StandsFor tally eq (reversed_events to events) (reversed_layered to layered)
     stands_for-of = record {
       is = record {
         stands = rows_stand;

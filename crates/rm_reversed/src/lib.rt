@@ -14,24 +14,23 @@ ghost use Rattle.rm_upper.specs.Standing.{Layered, StandsFor};
 ghost use Rattle.rm_upper.specs.Tally.{Tally};
 ghost use Rattle.rm_upper.specs.Walk.{ShowsNetwork, ShowsApplication};
 ghost use Rattle.rm_layer_events.specs.Side.{Reference, Side, IsSide, events};
-ghost use Rattle.rm_reversed.specs.Renamed.{renamed, renamed_reference, renamed_side};
-ghost use Rattle.rm_reversed.specs.Reversed.{reversed_row, reversed_rows, reversed_layered};
+ghost use Rattle.rm_reversed.specs.Reversed.{reversed_events, reversed_reference, reversed_side, reversed_row, reversed_rows, reversed_layered};
 
 use rm_order::Reversible;
 
 /// Rows that stand for events stand, with each key reversed, for the events with each key reversed.
 pub fn stands<K: Reversible, N, A>()
     ensures { (tally : Tally N A) (events : List (Event K N)) (layered : Layered K N A) → StandsFor tally K.eq events layered
-        → StandsFor tally K.eq (renamed K.reversing events) (reversed_layered K.reversing layered) }
+        → StandsFor tally K.eq (reversed_events K.reversing events) (reversed_layered K.reversing layered) }
 {}
 
 /// Where each frame refers to its keys reversed, the events of a journal are those of the keys, each reversed.
 pub fn events<K: Reversible, G>()
-    ensures side { (side : Side K G) → IsSide side → IsSide (renamed_side K.reversing side) }
-    ensures events { (side : Side K G) (journal : Journal) → events (renamed_side K.reversing side) journal ≡ renamed K.reversing (events side journal) }
+    ensures side { (side : Side K G) → IsSide side → IsSide (reversed_side K.reversing side) }
+    ensures events { (side : Side K G) (journal : Journal) → events (reversed_side K.reversing side) journal ≡ reversed_events K.reversing (events side journal) }
     ensures by_references { (side : Side K G) (references : Frame → Journal → List (Reference K G))
-        → ((frame : Frame) (earlier : Journal) → references frame earlier ≡ map (renamed_reference K.reversing) (side.references frame earlier))
-        → (journal : Journal) → events (record side { references = references }) journal ≡ renamed K.reversing (events side journal) }
+        → ((frame : Frame) (earlier : Journal) → references frame earlier ≡ map (reversed_reference K.reversing) (side.references frame earlier))
+        → (journal : Journal) → events (record side { references = references }) journal ≡ reversed_events K.reversing (events side journal) }
 {}
 
 /// The row of a key among rows with each key reversed is that of the key reversed, with its key reversed. The next of keys in an order of

@@ -27,7 +27,7 @@ none_some e = cc
 
 module _ {K V : Type 0} where
   -- a change that leaves the keys
-  keys_still : (test : Row K V → Bool) (change : Row K V → Row K V) → ((row : Row K V) → (change row).key ≡ row.key) → (rows : List (Row K V)) → keys_of (at_first test change rows) ≡ keys_of rows
+  pub keys_still : (test : Row K V → Bool) (change : Row K V → Row K V) → ((row : Row K V) → (change row).key ≡ row.key) → (rows : List (Row K V)) → keys_of (at_first test change rows) ≡ keys_of rows
   keys_still test change still [] = refl
   keys_still test change still (row ∷ rows) = elim (cases_Bool (test row)) [
     | inl t ↦ rw (t, still row) refl

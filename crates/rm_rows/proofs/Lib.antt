@@ -5,6 +5,7 @@ mod TouchLemmas
 mod KeyLemmas
 pub mod PlaceLemmas
 pub mod ValueLemmas
+pub mod CreditLemmas
 mod RankLemmas
 mod WalkLemmas
 mod NextLemmas

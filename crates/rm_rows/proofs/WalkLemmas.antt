@@ -1,15 +1,15 @@
 -- The least key so far.
-use Rattle.std.proofs.Common.{◌≡◌, ℕ, ◌≤◌, ◌+◌, zero, suc, false, List, [], ◌∷◌, ◌++◌, get_or, ◌⊎◌, nat_le, Option, Some, None, All, Contains, refl, sym, ap, ◌∙◌, arith, inl, inr}
+use Rattle.std.proofs.Common.{◌≡◌, ℕ, ◌≤◌, ◌+◌, zero, suc, false, List, [], ◌∷◌, ◌++◌, get_or, ◌⊎◌, nat_le, Option, Some, None, All, Contains, refl, ap, arith, inl, inr}
 use Rattle.std.specs.declared.cmp.Ordering.{Ordering}
-use Rattle.std.specs.declared.cmp.Ordering.TheVariants.{Less, Greater}
+use Rattle.std.specs.declared.cmp.Ordering.TheVariants.{Less}
 use Rattle.std.specs.Cmp.{IsTotalOrder}
 use Rattle.std.proofs.lemmas.Bool.{cases_Bool, both_ways, le-leb, leb-true}
-use Rattle.std.specs.Ordering.{ordering_reverse}
 use Rattle.std.proofs.lemmas.List.Elements.{All-push, All-weaker, Contains-push, Contains-append_left, All-from_recursion, recursion_from_All}
 use Rattle.std.specs.List.{AllByRecursion}
 use Rattle.std.specs.Prelude.{⊤}
 use Rattle.rm_evicting.specs.declared.Row.{Row}
 use Rattle.rm_rows.specs.Table.{IsAbove, IsBetter, IsNextKey, IsPairAbove, IsNextMark, Passes, keys_of, from_mark}
+use Rattle.rm_rows.proofs.Steps.{irreflexive}
 
 module _ {K : Type 0} (cmp : K → K → Ordering) (order : IsTotalOrder cmp) where
   -- a key that isn't above, or isn't before the best, changes nothing
@@ -17,13 +17,10 @@ module _ {K : Type 0} (cmp : K → K → Ordering) (order : IsTotalOrder cmp) wh
   stays ks from None k off next = All-push (λ j. IsAbove cmp from j → ⊥) ks k next (λ a. off a tt)
   stays ks from (Some b) k off next = (Contains-append_left ks (k ∷ []) b next.0, next.1, All-push (λ j. IsAbove cmp from j → cmp j b ≡ Less → ⊥) ks k next.2 off)
 
-  irreflexive : (k : K) → cmp k k ≡ Less → ⊥
-  irreflexive k l = let back : Less ≡ Greater = sym l ∙ order.antisymm k k ∙ ap ordering_reverse l in cc
-
   -- one that is becomes the best
   changes : (ks : List K) (from best : Option K) (k : K) → IsAbove cmp from k → IsBetter cmp k best → IsNextKey cmp ks from best → IsNextKey cmp (ks ++ k ∷ []) from (Some k)
-  changes ks from None k above better next = (Contains-push ks k, above, All-push (λ j. IsAbove cmp from j → cmp j k ≡ Less → ⊥) ks k (All-weaker (λ j. IsAbove cmp from j → ⊥) (λ j. IsAbove cmp from j → cmp j k ≡ Less → ⊥) (λ j none a. absurd (none a)) ks next) (λ a l. irreflexive k l))
-  changes ks from (Some b) k above better next = (Contains-push ks k, above, All-push (λ j. IsAbove cmp from j → cmp j k ≡ Less → ⊥) ks k (All-weaker (λ j. IsAbove cmp from j → cmp j b ≡ Less → ⊥) (λ j. IsAbove cmp from j → cmp j k ≡ Less → ⊥) (λ j least a l. least a (order.trans j k b l better)) ks next.2) (λ a l. irreflexive k l))
+  changes ks from None k above better next = (Contains-push ks k, above, All-push (λ j. IsAbove cmp from j → cmp j k ≡ Less → ⊥) ks k (All-weaker (λ j. IsAbove cmp from j → ⊥) (λ j. IsAbove cmp from j → cmp j k ≡ Less → ⊥) (λ j none a. absurd (none a)) ks next) (λ a l. irreflexive cmp order k l))
+  changes ks from (Some b) k above better next = (Contains-push ks k, above, All-push (λ j. IsAbove cmp from j → cmp j k ≡ Less → ⊥) ks k (All-weaker (λ j. IsAbove cmp from j → cmp j b ≡ Less → ⊥) (λ j. IsAbove cmp from j → cmp j k ≡ Less → ⊥) (λ j least a l. least a (order.trans j k b l better)) ks next.2) (λ a l. irreflexive cmp order k l))
 
 module _ {K V : Type 0} where
   from_mark-in : (mark : ℕ) (rows : List (Row K V)) (row : Row K V) → mark ≤ row.tick → keys_of (from_mark mark (rows ++ row ∷ [])) ≡ keys_of (from_mark mark rows) ++ row.key ∷ []

@@ -105,6 +105,12 @@ module _ {K V : Type 0} where
     pub stamps : All (λ row. row.last < stamp) (rows_in t es)
     pub ticks : All (λ row. row.tick ≤ tick) (rows_in t es)
 
+  -- the block and the index have the room that they had, and the ring has no less
+  pub record HaveRoom (old new : RecencyList K V) (entered entered' : VecDeque Ptr Global) (index index' : Vec Ptr Global) : Type 0 where
+    pub nodes : vec_capacity new.nodes ≡ vec_capacity old.nodes
+    pub ring : deque_capacity entered ≤ deque_capacity entered'
+    pub places : vec_capacity index' ≡ vec_capacity index
+
   -- the oldest row of a block has gone out of its lists, and its node is at p
   pub record PutOut (cmp : K → K → Ordering) (old new : RecencyList K V) (es es' xs xs' : List Ptr) (p : Ptr) : Type 0 where
     pub loose : Loose cmp new es' xs' p

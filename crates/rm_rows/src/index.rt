@@ -8,7 +8,7 @@ ghost use Rattle.rm_evicting.specs.Row.{renewed, touched, is_oldest, without_old
 ghost use Rattle.rm_recency.specs.Threads.{row_at};
 ghost use Rattle.rm_rows.specs.Stored.{In};
 ghost use Rattle.rm_rows.specs.Table.{key_of, keys_of, row_of, touch_answer, AreAfter};
-ghost use Rattle.rm_rows.specs.Index.{IsIndex, HasKey, IsGap, IsWithout, Kept, Loose, Fits, MayRenew, PutOut, Holds, rows_in, place_without};
+ghost use Rattle.rm_rows.specs.Index.{IsIndex, HasKey, IsGap, Kept, Loose, Fits, MayRenew, HaveRoom, PutOut, Holds, rows_in, place_without};
 
 use crate::ranks::take_entered;
 use crate::touch::Touch;
@@ -132,9 +132,7 @@ fn put_in<K: Key, V>(
     ensures kept { Kept K.cmp list.new entered.new.items index.new.items }
     ensures rows { (row : RowOf K V) → row_at list.old ptr ≡ Some row → rows_in list.new entered.new.items ≡ rows_in list.old entered.old.items ++ row ∷ [] }
     ensures len { vec_len list.new.nodes ≡ vec_len list.old.nodes }
-    ensures capacity { vec_capacity list.new.nodes ≡ vec_capacity list.old.nodes }
-    ensures ring { deque_capacity entered.old ≤ deque_capacity entered.new }
-    ensures places { vec_capacity index.old ≤ vec_capacity index.new }
+    ensures room { HaveRoom list.old list.new entered.old entered.new index.old index.new }
     ensures more { vec_len index.new ≡ vec_len index.old + 1 }
 {
     list.link_front(ptr);
@@ -168,9 +166,7 @@ pub(crate) fn enter<K: Key, V: Blank>(
     ensures kept { Kept K.cmp list.new entered.new.items index.new.items }
     ensures rows { rows_in list.new entered.new.items ≡ rows_in list.old entered.old.items ++ blank_row V.blank_value key stamp tick ∷ [] }
     ensures len { vec_len list.new.nodes ≡ vec_len list.old.nodes + 1 }
-    ensures capacity { vec_capacity list.new.nodes ≡ vec_capacity list.old.nodes }
-    ensures ring { deque_capacity entered.old ≤ deque_capacity entered.new }
-    ensures places { vec_capacity index.old ≤ vec_capacity index.new }
+    ensures room { HaveRoom list.old list.new entered.old entered.new index.old index.new }
     ensures more { vec_len index.new ≡ vec_len index.old + 1 }
 {
     let row = Row {
@@ -252,9 +248,7 @@ fn put_back<K: Key, V>(
     ensures kept { Kept K.cmp list.new entered.new.items index.new.items }
     ensures rows { (row : RowOf K V) → row_at list.old ptr ≡ Some row → rows_in list.new entered.new.items ≡ rows_in list.old entered.old.items ++ row ∷ [] }
     ensures len { vec_len list.new.nodes ≡ vec_len list.old.nodes }
-    ensures capacity { vec_capacity list.new.nodes ≡ vec_capacity list.old.nodes }
-    ensures ring { deque_capacity entered.old ≤ deque_capacity entered.new }
-    ensures places { vec_capacity index.new ≡ vec_capacity index.old }
+    ensures room { HaveRoom list.old list.new entered.old entered.new index.old index.new }
     ensures as_many { vec_len index.new ≡ vec_len index.old }
 {
     list.link_front(ptr);
@@ -286,9 +280,7 @@ pub(crate) fn replace<K: Key, V: Blank>(
     ensures rows { rows_in list.new entered.new.items ≡ without_oldest (rows_in list.old entered.old.items) ++ blank_row V.blank_value key stamp tick ∷ [] }
     ensures key { option_map key_of (search (is_oldest (rows_in list.old entered.old.items)) (rows_in list.old entered.old.items)) ≡ Some result }
     ensures len { vec_len list.new.nodes ≡ vec_len list.old.nodes }
-    ensures capacity { vec_capacity list.new.nodes ≡ vec_capacity list.old.nodes }
-    ensures ring { deque_capacity entered.old ≤ deque_capacity entered.new }
-    ensures places { vec_capacity index.new ≡ vec_capacity index.old }
+    ensures room { HaveRoom list.old list.new entered.old entered.new index.old index.new }
     ensures as_many { vec_len index.new ≡ vec_len index.old }
 {
     let (ptr, from) = put_out(list, entered, index);
@@ -315,9 +307,7 @@ pub(crate) fn refer<K: Key, V: Blank>(
     ensures rows { rows_in list.new entered.new.items ≡ touched K.eq V.blank_value capacity key stamp tick (rows_in list.old entered.old.items) }
     ensures answer { result ≡ touch_answer K.eq capacity key (rows_in list.old entered.old.items) }
     ensures keys { AreAfter K.eq key result (keys_of (rows_in list.old entered.old.items)) (keys_of (rows_in list.new entered.new.items)) }
-    ensures capacity { vec_capacity list.new.nodes ≡ vec_capacity list.old.nodes }
-    ensures ring { deque_capacity entered.old ≤ deque_capacity entered.new }
-    ensures places { vec_capacity index.old ≤ vec_capacity index.new }
+    ensures room { HaveRoom list.old list.new entered.old entered.new index.old index.new }
 {
     match find(list, index, &key) {
         Ok(place) => {

@@ -8,8 +8,9 @@ use Rattle.std.specs.declared.cmp.Ordering.TheVariants.{Less, Equal, Greater}
 use Rattle.std.specs.Ordering.{nat_cmp, is_lt, ordering_reverse}
 use Rattle.std.specs.Cmp.{IsTotalOrder}
 use Rattle.std.proofs.lemmas.Bool.{cases_Bool, true≢false, le-leb, leb-true}
+use Rattle.std.proofs.lemmas.Cmp.{tied_itself}
 use Rattle.std.proofs.lemmas.List.Elements.{All-contains}
-use Rattle.std.proofs.lemmas.List.Sums.{sum_by-cons}
+use Rattle.std.proofs.lemmas.List.Sums.{sum_by-cons, count_by-le-length}
 use Rattle.rm_evicting.specs.Held.{IsExact}
 use Rattle.rm_evicting.specs.declared.Row.{Row}
 use Rattle.rm_rows.specs.Table.{row_of, keys_of, tick_of, IsNextKey}
@@ -21,6 +22,28 @@ use Rattle.rm_upper.specs.Shown.{applications_of}
 use Rattle.rm_upper.specs.Standing.{Layered}
 use Rattle.rm_upper.specs.Walk.{IsShown, IsMarked, ShowsApplication, ShowsNetwork}
 use Rattle.rm_upper.proofs.WalkLemmas.{least-shown}
+
+-- what passes one test passes another
+module _ {X : Type 0} (test other : X → Bool) (within : (x : X) → test x ≡ true → other x ≡ true) where
+  step : (passes : X → Bool) (x : X) (xs : List X) → count_by passes (x ∷ xs) ≡ cond (passes x) 1 0 + count_by passes xs
+  step passes x xs = sum_by-cons (λ y. cond (passes y) 1 0) x xs
+
+  one : (x : X) → cond (test x) 1 0 ≤ cond (other x) 1 0
+  one x = elim (cases_Bool (test x)) [ inl on ↦ rw (on, within x on) (omega arith) | inr off ↦ rw off (omega arith) ]
+
+  no_more : (xs : List X) → count_by test xs ≤ count_by other xs
+  no_more [] = omega arith
+  no_more (x ∷ xs) = let a = step test x xs in let b = step other x xs in let least = one x in let rest = no_more xs in omega arith
+
+  -- fewer pass where one of them fails it that passes the other
+  fewer : (x : X) → test x ≡ false → other x ≡ true → (xs : List X) → Contains xs x → count_by test xs < count_by other xs
+  fewer x off on [] c = absurd (omega (arith, c.1))
+  fewer x off on (y ∷ xs) (zero, lt, at) =
+      let rest = no_more xs in
+      let a = step test y xs ∙ ap (λ b. cond b 1 0 + count_by test xs) (ap test at ∙ off) in
+      let b = step other y xs ∙ ap (λ b. cond b 1 0 + count_by other xs) (ap other at ∙ on) in
+      omega arith
+  fewer x off on (y ∷ xs) (suc i, lt, at) = let a = step test y xs in let b = step other y xs in let least = one y in let rest = fewer x off on xs (i, omega arith, at) in omega arith
 
 module _ {K : Type 0} (cmp : K → K → Ordering) where
   pub next_is_least : (ks : List K) (from res : Option K) → IsNextKey cmp ks from res → IsLeast cmp (Contains ks) (IsAboveName cmp from) res
@@ -34,75 +57,15 @@ module _ {K : Type 0} (cmp : K → K → Ordering) where
 
   module _ (order : IsTotalOrder cmp) where
     not_itself : (k : K) → is_lt (cmp k k) ≡ false
-    not_itself k = go (cmp k k) (order.antisymm k k)
-      where
-        go : (o : Ordering) → o ≡ ordering_reverse o → is_lt o ≡ false
-        go Less e = cc
-        go Equal e = refl
-        go Greater e = refl
+    not_itself k = ap is_lt (tied_itself order k)
 
     lt_less : (o : Ordering) → is_lt o ≡ true → o ≡ Less
     lt_less Less e = refl
     lt_less Equal e = absurd (true≢false (sym e))
     lt_less Greater e = absurd (true≢false (sym e))
 
-    over : (j k x : K) → cmp j k ≡ Less → is_lt (cmp k x) ≡ true → is_lt (cmp j x) ≡ true
-    over j k x e i = less_lt j x (order.trans j k x e (lt_less (cmp k x) i))
-
-    abbrev left : K → List K → ℕ
-    left k ks = count_by (λ x. is_lt (cmp k x)) ks
-
-    left-cons : (k x : K) (ks : List K) → left k (x ∷ ks) ≡ cond (is_lt (cmp k x)) 1 0 + left k ks
-    left-cons k x ks = sum_by-cons (λ y. cond (is_lt (cmp k y)) 1 0) x ks
-
-    no_more : (j k : K) → cmp j k ≡ Less → (ks : List K) → left k ks ≤ left j ks
-    no_more j k e [] = omega arith
-    no_more j k e (x ∷ ks) =
-        let rest : left k ks ≤ left j ks = no_more j k e ks in
-        let a : left k (x ∷ ks) ≡ cond (is_lt (cmp k x)) 1 0 + left k ks = left-cons k x ks in
-        let b : left j (x ∷ ks) ≡ cond (is_lt (cmp j x)) 1 0 + left j ks = left-cons j x ks in
-        elim (cases_Bool (is_lt (cmp k x))) [
-          | inl i ↦
-              let a1 : left k (x ∷ ks) ≡ 1 + left k ks = a ∙ ap (λ t. cond t 1 0 + left k ks) i in
-              let b1 : left j (x ∷ ks) ≡ 1 + left j ks = b ∙ ap (λ t. cond t 1 0 + left j ks) (over j k x e i) in
-              omega arith
-          | inr o ↦
-              let a0 : left k (x ∷ ks) ≡ 0 + left k ks = a ∙ ap (λ t. cond t 1 0 + left k ks) o in
-              any (is_lt (cmp j x)) a0 b rest
-        ]
-      where
-        any : (t : Bool) → left k (x ∷ ks) ≡ 0 + left k ks → left j (x ∷ ks) ≡ cond t 1 0 + left j ks → left k ks ≤ left j ks → left k (x ∷ ks) ≤ left j (x ∷ ks)
-        any true a0 b rest = omega arith
-        any false a0 b rest = omega arith
-
-    -- fewer keys are left above the next one
-    pub fewer_left : (j k : K) → cmp j k ≡ Less → (ks : List K) → Contains ks k → left k ks < left j ks
-    fewer_left j k e [] c = absurd (omega (arith, c.1))
-    fewer_left j k e (x ∷ ks) (zero, lt, at) =
-        let same : x ≡ k = at in
-        let rest : left k ks ≤ left j ks = no_more j k e ks in
-        let off : is_lt (cmp k x) ≡ false = ap (λ y. is_lt (cmp k y)) same ∙ not_itself k in
-        let on : is_lt (cmp j x) ≡ true = ap (λ y. is_lt (cmp j y)) same ∙ less_lt j k e in
-        let a : left k (x ∷ ks) ≡ 0 + left k ks = left-cons k x ks ∙ ap (λ t. cond t 1 0 + left k ks) off in
-        let b : left j (x ∷ ks) ≡ 1 + left j ks = left-cons j x ks ∙ ap (λ t. cond t 1 0 + left j ks) on in
-        omega arith
-    fewer_left j k e (x ∷ ks) (suc i, lt, at) =
-        let rest : left k ks < left j ks = fewer_left j k e ks (i, omega arith, at) in
-        let a : left k (x ∷ ks) ≡ cond (is_lt (cmp k x)) 1 0 + left k ks = left-cons k x ks in
-        let b : left j (x ∷ ks) ≡ cond (is_lt (cmp j x)) 1 0 + left j ks = left-cons j x ks in
-        elim (cases_Bool (is_lt (cmp k x))) [
-          | inl y ↦
-              let a1 : left k (x ∷ ks) ≡ 1 + left k ks = a ∙ ap (λ t. cond t 1 0 + left k ks) y in
-              let b1 : left j (x ∷ ks) ≡ 1 + left j ks = b ∙ ap (λ t. cond t 1 0 + left j ks) (over j k x e y) in
-              omega arith
-          | inr o ↦
-              let a0 : left k (x ∷ ks) ≡ 0 + left k ks = a ∙ ap (λ t. cond t 1 0 + left k ks) o in
-              any (is_lt (cmp j x)) a0 b rest
-        ]
-      where
-        any : (t : Bool) → left k (x ∷ ks) ≡ 0 + left k ks → left j (x ∷ ks) ≡ cond t 1 0 + left j ks → left k ks < left j ks → left k (x ∷ ks) < left j (x ∷ ks)
-        any true a0 b rest = omega arith
-        any false a0 b rest = omega arith
+    over : (j k : K) → cmp j k ≡ Less → (x : K) → is_lt (cmp k x) ≡ true → is_lt (cmp j x) ≡ true
+    over j k e x i = less_lt j x (order.trans j k x e (lt_less (cmp k x) i))
 
 -- how many keys are left above one, or above none
 abbrev pub left_above : {K : Type 0} → (K → K → Ordering) → Option K → List K → ℕ
@@ -110,38 +73,19 @@ left_above cmp None ks = length ks
 left_above cmp (Some k) ks = count_by (λ x. is_lt (cmp k x)) ks
 
 module _ {K : Type 0} (cmp : K → K → Ordering) (order : IsTotalOrder cmp) where
-  few_left : (k : K) (ks : List K) → left cmp order k ks ≤ length ks
-  few_left k [] = omega arith
-  few_left k (x ∷ ks) =
-      let rest : left cmp order k ks ≤ length ks = few_left k ks in
-      let a : left cmp order k (x ∷ ks) ≡ cond (is_lt (cmp k x)) 1 0 + left cmp order k ks = left-cons cmp order k x ks in
-      any (is_lt (cmp k x)) a rest
-    where
-      any : (t : Bool) → left cmp order k (x ∷ ks) ≡ cond t 1 0 + left cmp order k ks → left cmp order k ks ≤ length ks → left cmp order k (x ∷ ks) ≤ length (x ∷ ks)
-      any true a rest = omega arith
-      any false a rest = omega arith
+  -- fewer keys are left above the next one
+  pub fewer_left : (j k : K) → cmp j k ≡ Less → (ks : List K) → Contains ks k → left_above cmp (Some k) ks < left_above cmp (Some j) ks
+  fewer_left j k e ks c = fewer (λ x. is_lt (cmp k x)) (λ x. is_lt (cmp j x)) (over cmp order j k e) k (not_itself cmp order k) (less_lt cmp j k e) ks c
 
-  -- fewer than all are left above one of them
-  fewer_than_all : (k : K) (ks : List K) → Contains ks k → left cmp order k ks < length ks
-  fewer_than_all k [] c = absurd (omega (arith, c.1))
-  fewer_than_all k (x ∷ ks) (zero, lt, at) =
-      let same : x ≡ k = at in
-      let off : is_lt (cmp k x) ≡ false = ap (λ y. is_lt (cmp k y)) same ∙ not_itself cmp order k in
-      let a : left cmp order k (x ∷ ks) ≡ 0 + left cmp order k ks = left-cons cmp order k x ks ∙ ap (λ t. cond t 1 0 + left cmp order k ks) off in
-      let rest : left cmp order k ks ≤ length ks = few_left k ks in
+  fewer_than_all : (k : K) (ks : List K) → Contains ks k → count_by (λ x. is_lt (cmp k x)) ks < length ks
+  fewer_than_all k ks c =
+      let less : count_by (λ x. is_lt (cmp k x)) ks < count_by (λ (x : K). true) ks = fewer (λ x. is_lt (cmp k x)) (λ x. true) (λ x on. refl) k (not_itself cmp order k) refl ks c in
+      let all : count_by (λ (x : K). true) ks ≤ length ks = count_by-le-length (λ x. true) ks in
       omega arith
-  fewer_than_all k (x ∷ ks) (suc i, lt, at) =
-      let rest : left cmp order k ks < length ks = fewer_than_all k ks (i, omega arith, at) in
-      let a : left cmp order k (x ∷ ks) ≡ cond (is_lt (cmp k x)) 1 0 + left cmp order k ks = left-cons cmp order k x ks in
-      any (is_lt (cmp k x)) a rest
-    where
-      any : (t : Bool) → left cmp order k (x ∷ ks) ≡ cond t 1 0 + left cmp order k ks → left cmp order k ks < length ks → left cmp order k (x ∷ ks) < length (x ∷ ks)
-      any true a rest = omega arith
-      any false a rest = omega arith
 
   pub fewer_above : (from : Option K) (k : K) (ks : List K) → IsNextKey cmp ks from (Some k) → left_above cmp (Some k) ks < left_above cmp from ks
   fewer_above None k ks next = fewer_than_all k ks next.0
-  fewer_above (Some j) k ks next = fewer_left cmp order j k next.1 ks next.0
+  fewer_above (Some j) k ks next = fewer_left j k next.1 ks next.0
 
   module _ (exact : (a b : K) → cmp a b ≡ Equal → a ≡ b) (shown : K → Type 0) (ks : List K) (within : (x : K) → shown x → Contains ks x) where
     -- the next key, where it is shown

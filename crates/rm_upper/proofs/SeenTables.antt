@@ -11,10 +11,10 @@ use Rattle.rm_rows.specs.declared.touch.Touch.{Touch}
 use Rattle.rm_rows.specs.declared.touch.Touch.TheVariants.{Held, Fresh}
 use Rattle.rm_rows.specs.Table.{evicted, row_of, value_of, tick_of, keys_of, with_value, IsPairAbove, IsNextMark}
 use Rattle.rm_upper.specs.Kept.{NetworkRow}
-use Rattle.rm_upper.specs.Shown.{is_held, row_as, applications_of}
+use Rattle.rm_upper.specs.Shown.{had_row, row_as, applications_of}
 use Rattle.rm_upper.specs.Cells.{counted_by, network_in}
 use Rattle.rm_upper.proofs.SeenLemmas.{at_first-through}
-use Rattle.rm_upper.proofs.CreditLemmas.{credited-here}
+use Rattle.rm_rows.proofs.CreditLemmas.{credited-here}
 
 module _ {K V W : Type 0} (f : V → W) where
   abbrev all : List (Row K V) → List (Row K W)
@@ -102,14 +102,14 @@ module _ {K V : Type 0} where
   no_row_by_tick (Some row) e = cc
 
   -- the answer to a reference tells whether the key had a row
-  answered : (h b : Bool) (r : Option (Row K V)) → is_held (cond h Held (cond b Fresh (evicted r))) ≡ h
+  answered : (h b : Bool) (r : Option (Row K V)) → had_row (cond h Held (cond b Fresh (evicted r))) ≡ h
   answered true b r = refl
   answered false true r = refl
   answered false false None = refl
   answered false false (Some row) = refl
 
-  pub is_answer : (o : Touch K) (h b : Bool) (r : Option (Row K V)) → o ≡ cond h Held (cond b Fresh (evicted r)) → is_held o ≡ h
-  is_answer o h b r e = ap is_held e ∙ answered h b r
+  pub is_answer : (o : Touch K) (h b : Bool) (r : Option (Row K V)) → o ≡ cond h Held (cond b Fresh (evicted r)) → had_row o ≡ h
+  is_answer o h b r e = ap had_row e ∙ answered h b r
 
 module _ {K N A : Type 0} where
   -- what the row of a key shows

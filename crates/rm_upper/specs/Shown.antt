@@ -14,10 +14,10 @@ use Rattle.rm_upper.specs.Tally.{Tally}
 use Rattle.rm_upper.specs.Kept.{is_among, all_with, all_made}
 
 -- whether the key of a reference had a row
-abbrev pub is_held : {K : Type 0} → Touch K → Bool
-is_held Held = true
-is_held Fresh = false
-is_held (Evicted key) = false
+abbrev pub had_row : {K : Type 0} → Touch K → Bool
+had_row Held = true
+had_row Fresh = false
+had_row (Evicted key) = false
 
 -- the tick of the first contribution, where another came at a tick
 abbrev pub created_by : ℕ → Option ℕ → Option ℕ

@@ -31,7 +31,7 @@ impl<K: Key, N: LayerCounts> Model for KeptRows<K, N> {
 impl<K: Key, N: LayerCounts> KeptRows<K, N> {
     ghost use Rattle.rm_rows.specs.Table.{AreAfter, IsNextKey, IsNextMark, keys_of, pair_copied, key_at, row_of, tick_of};
     ghost use Rattle.rm_layers.specs.Applications.{AreApart};
-    ghost use Rattle.rm_upper.specs.Shown.{blank_row, gained_value, made_in, applications_of, is_held, protocols};
+    ghost use Rattle.rm_upper.specs.Shown.{blank_row, gained_value, made_in, applications_of, had_row, protocols};
     ghost use Rattle.rm_upper.specs.Cells.{network_in};
 
     /// No rows, and memory for so many. NoMemory where there is none.
@@ -50,7 +50,7 @@ impl<K: Key, N: LayerCounts> KeptRows<K, N> {
         requires stamp { All (λ row. row.last < stamp) self.old.rows }
         requires tick { All (λ row. row.tick ≤ tick) self.old.rows }
         ensures rows { self.new ≡ record { room = self.old.room; capacity = self.old.capacity; rows = touched K.eq (blank_row N.tally.blank) self.old.capacity key stamp tick self.old.rows } }
-        ensures held { is_held result ≡ holds K.eq key self.old.rows }
+        ensures held { had_row result ≡ holds K.eq key self.old.rows }
         ensures keys { AreAfter K.eq key result (keys_of self.old.rows) (keys_of self.new.rows) }
         ensures few { length self.new.rows ≤ self.new.room }
     {

@@ -59,7 +59,7 @@ impl<K: Key, N: LayerCounts> LayerTable<K, N> {
     }
 
     /// Takes a frame that names a key, with the protocols on its path that are on, its stamp, its tick, and what it adds: a reference
-    /// while ip is on. Tells what it did to the keys: nothing is entered while ip is off, as where the key is held.
+    /// while ip is on, and else nothing. Tells what it did to the keys; while ip is off, that is what it does to them where the key is held.
     pub fn name(&mut self, key: K, path: &[u32], stamp: u64, tick: u32, gain: &N) -> Touch<K>
         requires next { self.old.next ≤ stamp }
         requires latest { self.old.latest ≤ tick }
@@ -102,7 +102,7 @@ impl<K: Key, N: LayerCounts> LayerTable<K, N> {
         ensures room { self.new.layered.table.room ≡ self.old.layered.table.room }
         ensures next { self.new.next ≡ self.old.next }
         ensures latest { self.new.latest ≡ self.old.latest }
-        ensures emptied { self.new.layered.table.rows ≡ [] }
+        ensures none { self.new.layered.table.rows ≡ [] }
         ensures stands { (earlier : List (Event K N)) → StandsFor N.tally K.eq earlier self.old.layered → StandsFor N.tally K.eq (turns_ip on ∷ earlier) self.new.layered }
     {
         self.rows.clear();
@@ -138,7 +138,7 @@ impl<K: Key, N: LayerCounts> LayerTable<K, N> {
         ensures room { self.new.layered.table.room ≡ self.old.layered.table.room }
         ensures next { self.new.next ≡ 0 }
         ensures latest { self.new.latest ≡ 0 }
-        ensures emptied { self.new.layered.table.rows ≡ [] }
+        ensures none { self.new.layered.table.rows ≡ [] }
         ensures stands { (earlier : List (Event K N)) → StandsFor N.tally K.eq (begins ∷ earlier) self.new.layered }
     {
         self.rows.begin(capacity, now);

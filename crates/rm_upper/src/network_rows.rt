@@ -4,7 +4,7 @@ ghost use Rattle.std.specs.Prelude.{◌≡◌, ◌+◌, ◌-◌, ◌<◌, ◌≤
 ghost use Rattle.rm_layers.specs.Event.{Contribution, Event, names, turns_ip, begins, is_ip_on, AreUpTo, AreRising};
 ghost use Rattle.rm_layers.specs.Upper.{AreTuned};
 ghost use Rattle.rm_layers.specs.Turning.{IsChange};
-ghost use Rattle.rm_upper.specs.Shown.{is_held};
+ghost use Rattle.rm_upper.specs.Shown.{had_row};
 
 use crate::counts::{Counted, LayerCounts};
 use crate::kept_rows::KeptRows;
@@ -276,7 +276,7 @@ impl<K: Key, N: LayerCounts> RowOrder for NetworkRows<K, N> {
 
 // How many rows a reference entered.
 fn entered<K>(touch: &Touch<K>) -> u64
-    ensures { result ≡ cond (is_held touch.now) 0 1 }
+    ensures { result ≡ cond (had_row touch.now) 0 1 }
 {
     match touch {
         Touch::Held => 0,

@@ -1,7 +1,7 @@
 use Rattle.std.specs.Ordering.{nat_cmp}
 use Rattle.rm_evicting.proofs.Keys.{exact_key}
 use Rattle.rm_layers.specs.Marks.{IsAboveName}
-use Rattle.rm_reversed.proofs.KeyLemmas.{alike_of}
+use Rattle.rm_order.proofs.ReversedLemmas.{alike_of}
 use Rattle.rm_reversed.proofs.RowLemmas.{network_in-of, application_in_row-of, shows_network-of, shows_application-of, stands_at-of, next_in-of}
 use Rattle.rm_reversed.proofs.shown.Goals as goal
 

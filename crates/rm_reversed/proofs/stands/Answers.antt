@@ -1,5 +1,5 @@
 use Rattle.rm_evicting.proofs.Keys.{exact_key}
-use Rattle.rm_reversed.proofs.KeyLemmas.{alike_of}
+use Rattle.rm_order.proofs.ReversedLemmas.{alike_of}
 use Rattle.rm_reversed.proofs.StandingLemmas.{stands_for-of}
 use Rattle.rm_reversed.proofs.stands.Goals as goal
 

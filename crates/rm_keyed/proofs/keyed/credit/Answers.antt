@@ -1,5 +1,5 @@
 use Rattle.std.proofs.Common.{refl}
-use Rattle.rm_keyed.proofs.Credits.{credited-here, credited-absent}
+use Rattle.rm_rows.proofs.CreditLemmas.{credited-here, credited-absent}
 use Rattle.rm_keyed.proofs.keyed.credit.Goals as goal
 
 pub returns-in-Some : goal.returns-in-Some

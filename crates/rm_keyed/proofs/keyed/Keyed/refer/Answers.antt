@@ -2,10 +2,10 @@ use Rattle.std.proofs.Common.{◌≡◌, ℕ, ◌+◌, ◌≤◌, length, refl, 
 use Rattle.rm_evicting.specs.Row.{takes_place}
 use Rattle.rm_evicting.proofs.Keys.{exact_key}
 use Rattle.rm_rows.specs.Table.{Table}
+use Rattle.rm_rows.proofs.CreditLemmas.{keys-credited, length-credited}
 use Rattle.rm_keyed.specs.declared.keyed.TheConstants.{MOST_ROWS}
 use Rattle.rm_keyed.specs.Entered.{Entered, IsOf}
 use Rattle.rm_keyed.proofs.Evictions.{answers_eviction, answers_none}
-use Rattle.rm_keyed.proofs.Credits.{keys_credited, length_credited}
 use Rattle.rm_keyed.proofs.EachRow.{referred, ready-referred}
 use Rattle.rm_keyed.proofs.Mentions.{is_of-refers}
 use Rattle.rm_keyed.proofs.keyed.Keyed.refer.Goals as goal
@@ -47,7 +47,7 @@ returns-clause-means g c = λ mentions is.
 
 pub returns-clause-keys : goal.returns-clause-keys
 returns-clause-keys g c =
-    let same = keys_credited g.K.PartialEq.eq g.V.Counts.plus c.args.key c.args.gain.now c.touch-touch.new.self.rows in
+    let same = keys-credited g.K.PartialEq.eq g.V.Counts.plus c.args.key c.args.gain.now c.touch-touch.new.self.rows in
     elim c.match-touch.branch [
       | in-Evicted w ↦ rw (c.credit.ensures, w.self-inside-is, ← c.self.view_is, same) c.touch-touch.ensures.keys
       | in_default w ↦ rw (c.credit.ensures, w.self-inside-is, ← c.self.view_is, same) c.touch-touch.ensures.keys
@@ -57,7 +57,7 @@ pub returns-clause-few : goal.returns-clause-few
 returns-clause-few g c =
     let room : c.touch-touch.new.self.room ≡ MOST_ROWS = ap (λ (table : Table g.row.K.Denot g.row.V.Denot). table.room) c.touch-touch.ensures.rows ∙ c.self.invariant.room in
     let few : length c.touch-touch.new.self.rows ≤ MOST_ROWS = rw (← room) c.touch-touch.ensures.few in
-    let many = length_credited g.K.PartialEq.eq g.V.Counts.plus c.args.key c.args.gain.now c.touch-touch.new.self.rows in
+    let many = length-credited g.K.PartialEq.eq g.V.Counts.plus c.args.key c.args.gain.now c.touch-touch.new.self.rows in
     elim c.match-touch.branch [
       | in-Evicted w ↦ rw (c.credit.ensures, w.self-inside-is, many) few
       | in_default w ↦ rw (c.credit.ensures, w.self-inside-is, many) few

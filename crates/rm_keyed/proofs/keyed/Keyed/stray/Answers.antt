@@ -1,7 +1,7 @@
 use Rattle.std.proofs.Common.{refl}
 use Rattle.rm_evicting.proofs.Keys.{exact_key}
 use Rattle.rm_keyed.specs.Entered.{Entered, IsOf}
-use Rattle.rm_keyed.proofs.Credits.{keys_credited}
+use Rattle.rm_rows.proofs.CreditLemmas.{keys-credited}
 use Rattle.rm_keyed.proofs.EachRow.{ready-strayed}
 use Rattle.rm_keyed.proofs.Mentions.{is_of-strays}
 use Rattle.rm_keyed.proofs.keyed.Keyed.stray.Goals as goal
@@ -19,4 +19,4 @@ returns-clause-means g c = λ mentions is.
     is_of-strays g.K.PartialEq.eq exact g.V.Blank.blank_value g.V.Counts.plus mentions old new before c.args.key.now c.args.gain.now c.credit.ensures refl refl
 
 pub returns-clause-keys : goal.returns-clause-keys
-returns-clause-keys g c = rw (c.credit.ensures, ← c.self.view_is) (keys_credited g.K.PartialEq.eq g.V.Counts.plus c.args.key.now c.args.gain.now c.self.inside.rows.rows)
+returns-clause-keys g c = rw (c.credit.ensures, ← c.self.view_is) (keys-credited g.K.PartialEq.eq g.V.Counts.plus c.args.key.now c.args.gain.now c.self.inside.rows.rows)

@@ -3,7 +3,8 @@ use Rattle.rm_evicting.specs.Row.{credited}
 use Rattle.rm_rows.specs.Table.{Table}
 use Rattle.rm_upper.specs.Kept.{NetworkRow}
 use Rattle.rm_upper.specs.Shown.{gained_value, made_in, row_as}
-use Rattle.rm_upper.proofs.CreditLemmas.{credited-absent, made-here, made-absent}
+use Rattle.rm_rows.proofs.CreditLemmas.{credited-absent}
+use Rattle.rm_upper.proofs.CreditLemmas.{made-here, made-absent}
 use Rattle.rm_upper.proofs.SeenTables.{value-seen, absent-seen, gained-seen}
 use Rattle.rm_upper.proofs.kept_rows.KeptRows.gain.Goals as goal
 use Rattle.rm_upper.proofs.kept_rows.KeptRows.gain.Goals.{in-Some, in-None}

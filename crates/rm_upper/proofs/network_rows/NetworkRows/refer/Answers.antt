@@ -8,7 +8,7 @@ use Rattle.rm_upper.specs.Kept.{NetworkRow}
 use Rattle.rm_upper.specs.Shown.{protocols, Agrees, blank_row, gained_value}
 use Rattle.rm_upper.specs.Sound.{AreSound}
 use Rattle.rm_upper.specs.Standing.{Layered, StandsFor, referred}
-use Rattle.rm_upper.proofs.CreditLemmas.{keys-credited, length-credited}
+use Rattle.rm_rows.proofs.CreditLemmas.{keys-credited, length-credited}
 use Rattle.rm_upper.proofs.SoundLemmas.{sound-referred}
 use Rattle.rm_upper.proofs.StandingLemmas.{stands-referred}
 use Rattle.rm_upper.proofs.network_rows.NetworkRows.refer.Goals as goal

@@ -2,9 +2,11 @@
 use Rattle.std.proofs.Common.{◌≡◌, Bool, List, [], ◌∷◌, length, Some, None, refl, sym, ap, ◌∙◌, inl, inr}
 use Rattle.std.specs.Option.{option_map}
 use Rattle.std.proofs.lemmas.Bool.{cases_Bool}
+use Rattle.std.proofs.lemmas.List.{length-map}
 use Rattle.rm_evicting.specs.declared.Row.{Row}
 use Rattle.rm_evicting.specs.Row.{credited}
-use Rattle.rm_rows.specs.Table.{keys_of, row_of, value_of, with_value}
+use Rattle.rm_rows.specs.Table.{key_of, keys_of, row_of, value_of, with_value}
+use Rattle.rm_rows.proofs.KeyLemmas.{keys_still}
 use Rattle.rm_rows.proofs.ValueLemmas.{unchanged}
 
 module _ {K C V : Type 0} (eq : K → K → Bool) (plus : V → C → V) where
@@ -19,20 +21,12 @@ module _ {K C V : Type 0} (eq : K → K → Bool) (plus : V → C → V) where
     | inr f ↦ rw f (ap (λ l. row ∷ l) (credited-here key old new gain rows (rw f at is) e))
   ]
 
-  -- the keys stay
-  pub keys_credited : (key : K) (gain : C) (rows : List (Row K V)) → keys_of (credited eq plus key gain rows) ≡ keys_of rows
-  keys_credited key gain [] = refl
-  keys_credited key gain (row ∷ rows) = elim (cases_Bool (eq key row.key)) [
-    | inl t ↦ rw t refl
-    | inr f ↦ rw f (ap (λ l. row.key ∷ l) (keys_credited key gain rows))
-  ]
-
-  pub length_credited : (key : K) (gain : C) (rows : List (Row K V)) → length (credited eq plus key gain rows) ≡ length rows
-  length_credited key gain [] = refl
-  length_credited key gain (row ∷ rows) = elim (cases_Bool (eq key row.key)) [
-    | inl t ↦ rw t refl
-    | inr f ↦ rw (f, length_credited key gain rows) refl
-  ]
-
   pub credited-absent : (key : K) (gain : C) (rows : List (Row K V)) → row_of eq key rows ≡ None → credited eq plus key gain rows ≡ rows
   credited-absent key gain rows none = unchanged (λ row. eq key row.key) (λ row. record row { value = plus row.value gain }) rows none
+
+  -- the keys stay
+  pub keys-credited : (key : K) (gain : C) (rows : List (Row K V)) → keys_of (credited eq plus key gain rows) ≡ keys_of rows
+  keys-credited key gain rows = keys_still (λ row. eq key row.key) (λ row. record row { value = plus row.value gain }) (λ row. refl) rows
+
+  pub length-credited : (key : K) (gain : C) (rows : List (Row K V)) → length (credited eq plus key gain rows) ≡ length rows
+  length-credited key gain rows = sym (length-map (credited eq plus key gain rows) key_of) ∙ ap length (keys-credited key gain rows) ∙ length-map rows key_of
