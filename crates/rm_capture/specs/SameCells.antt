@@ -1,8 +1,7 @@
 -- That rows and buffers show what bufferControlTable and captureBufferTable have after a journal.
-use Rattle.std.proofs.Common.{◌≡◌, ℕ, zero, suc, ◌-◌, ◌/◌, List, [], ◌∷◌, map, filter, length, reverse, Bool, true, false, cond, ◌&&◌, ◌||◌, nat_eq, nat_le, nat_lt, Option, Some, None, refl, sym, ap, ◌∙◌, subst, option_map, arith}
+use Rattle.std.proofs.Common.{◌≡◌, ℕ, zero, suc, ◌-◌, ◌/◌, List, [], ◌∷◌, map, filter, length, reverse, Bool, true, false, cond, ◌&&◌, nat_eq, nat_le, nat_lt, Option, Some, None, refl, sym, ap, ◌∙◌, subst, option_map}
 use Rattle.std.specs.Prelude.{pos, is_some, slice_get}
 use Rattle.std.specs.Option.{option_or, option_and_then, option_map_or}
-use Rattle.std.proofs.lemmas.Bool.Decides.{nat_tests}
 use Rattle.std.proofs.lemmas.List.{length-map, length-reverse}
 use Rattle.rm_val.specs.Val.{Val, int, octets, ticks, null}
 use Rattle.rm_model.specs.Counting.{Counting}
@@ -30,6 +29,7 @@ use Rattle.rm_acts.specs.Shown.{natural, row_of, while_valid, buffer_shown, buff
 use Rattle.rm_ring.specs.Kept.{Stored}
 use Rattle.rm_collect.specs.Rows.{IsKept}
 use Rattle.rm_collect.specs.Sampled.{never_activated, never_seen}
+use Rattle.rm_filter.proofs.OneOf.{each_of}
 use Rattle.rm_capture.specs.declared.buffer.Buffer.{Buffer}
 use Rattle.rm_capture.specs.declared.buffer_row.BufferRow.{BufferRow}
 use Rattle.rm_capture.specs.declared.captured.PacketInfo.{PacketInfo}
@@ -43,19 +43,6 @@ use Rattle.rm_capture.specs.Taking.{frames_accepted, IsBuffer}
 use Rattle.rm_capture.specs.PacketTable.{packet_entry, packet_columns, integer, packets_kept, packet_of, packet_shown, packet_table, buffer_cells}
 use Rattle.rm_capture.specs.BufferShown.{status_number, other_of, kept_other, shows, data_shown, stored_shown, packet_value, packets_shown}
 use Rattle.rm_capture.specs.ShownLaws.{shown_is}
-
--- what is so of each of some numbers
-abbrev AllOf : (ℕ → Type 0) → List ℕ → Type 0
-AllOf P [] = Unit {0}
-AllOf P (n ∷ more) = P n × AllOf P more
-
-each_of : (P : ℕ → Type 0) (numbers : List ℕ) → AllOf P numbers → (n : ℕ) → is_one_of numbers n ≡ true → P n
-each_of P [] all n is = absurd (cc)
-each_of P (m ∷ more) all n is =
-    elim (nat_eq m n) as (λ t. nat_eq m n ≡ t → (t || is_one_of more n) ≡ true → P n) [
-      | true ↦ λ same _. let e : m ≡ n = grind (arith, nat_tests) in subst P e all.0
-      | false ↦ λ _ rest. each_of P more all.1 n rest
-    ] refl is
 
 -- of no packets none is kept
 none_kept : (is_wrap : Bool) (cost : Packet → ℕ) (most : ℕ) → kept_of is_wrap cost most [] ≡ []

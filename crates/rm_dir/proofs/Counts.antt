@@ -60,6 +60,16 @@ count_within f low high under = subst (λ n. count_below f low ≤ count_below f
     rest : (a b : ℕ) → a ≤ b → a + (b - a) ≡ b
     rest a b h = omega (arith, h)
 
+-- no more numbers pass a test than pass one that all of them pass
+pub count_under : (f g : ℕ → Bool) (n : ℕ) → ((i : ℕ) → f i ≡ true → g i ≡ true) → count_below f n ≤ count_below g n
+unfolding count_below
+count_under f g zero under = omega arith
+count_under f g (suc n) under = let rest = count_under f g n under in let here = one (f n) (g n) (under n) in omega (arith, rest, here)
+  where
+    one : (a b : Bool) → (a ≡ true → b ≡ true) → cond a 1 0 ≤ cond b 1 0
+    one true b so = let is = so refl in rw is (omega arith)
+    one false b so = omega arith
+
 -- whether some pass, with one more
 pub some_more : (n : ℕ) (t : Bool) → nat_lt 0 (n + cond t 1 0) ≡ (nat_lt 0 n || t)
 some_more n true = more (nat_lt 0 n) refl

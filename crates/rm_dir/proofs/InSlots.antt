@@ -1,5 +1,5 @@
 -- The slots of the protocols that are active, as the rows change.
-use Rattle.std.proofs.Common.{◌≡◌, ℕ, zero, suc, ◌+◌, ◌<◌, ◌≤◌, ◌^◌, List, [], ◌∷◌, length, set, Bool, true, false, cond, ◌||◌, nat_eq, nat_le, nat_lt, Option, Some, None, is_some, option_map, refl, sym, ◌∙◌, ap, subst, arith, length-set, get_or-set_same, get_or-set_other}
+use Rattle.std.proofs.Common.{◌≡◌, ℕ, suc, ◌+◌, ◌<◌, ◌≤◌, ◌^◌, List, [], ◌∷◌, length, set, Bool, true, false, cond, ◌||◌, nat_eq, nat_le, nat_lt, Option, Some, None, is_some, option_map, refl, sym, ◌∙◌, ap, subst, arith, length-set, get_or-set_same, get_or-set_other}
 use Rattle.std.specs.Prelude.{option_and_then}
 use Rattle.std.specs.Option.{option_map_or}
 use Rattle.std.specs.List.{list_any}
@@ -22,6 +22,7 @@ use Rattle.rm_dir.specs.declared.row.DirectoryRow.{DirectoryRow}
 use Rattle.rm_dir.specs.Active.{protocol_kept, held_protocol}
 use Rattle.rm_dir.specs.DirectoryIndex.{identified, may_have_row, number_within, of_number, row_of, row_protocol}
 use Rattle.rm_dir.specs.Paths.{AreKnown, AreOfRows, DoStay}
+use Rattle.rm_dir.proofs.Counts.{count_under}
 
 -- what is known of a protocol is known of that one
 its_own : (identifier : ProtocolIdentifier) (state : State) (columns : DirectoryRow) (protocol : Protocol) → protocol_kept identifier state columns ≡ Some protocol → protocol.identifier ≡ identifier
@@ -152,16 +153,6 @@ counted (first ∷ slots) bound full apart low =
                 let is : number_of protocol.identifier ≡ n = eqb-true _ n named in
                 let same = apart 0 (suc it.0) protocol.identifier it.1.identifier (ap (option_map (λ one. one.identifier)) e) (ap (option_map (λ one. one.identifier)) it.2) (is ∙ sym it.3) in
                 absurd (omega (arith, same))
-
--- no more numbers pass a test than pass one that all of them pass
-count_under : (f g : ℕ → Bool) (n : ℕ) → ((i : ℕ) → f i ≡ true → g i ≡ true) → count_below f n ≤ count_below g n
-unfolding count_below
-count_under f g zero under = omega arith
-count_under f g (suc n) under = let rest = count_under f g n under in let here = one (f n) (g n) (under n) in omega (arith, rest, here)
-  where
-    one : (a b : Bool) → (a ≡ true → b ≡ true) → cond a 1 0 ≤ cond b 1 0
-    one true b so = let is = so refl in rw is (omega arith)
-    one false b so = omega arith
 
 module _ (rows : List (Row DirectoryRow)) (slots : List (Option Protocol)) (known : AreKnown rows slots) where
   low_number : (slot : ℕ) (protocol : Protocol) → protocol_in slots slot ≡ Some protocol → number_of protocol.identifier < 2 ^ 32

@@ -2,7 +2,7 @@ mod Actives
 mod Asked
 mod Begins
 mod Cells
-mod Counts
+pub mod Counts
 mod Examples
 mod Found
 mod InSlots

@@ -28,6 +28,16 @@ has journal identifier = not (is_absent (directory_state journal (index_with ide
 abbrev pub local_of : Journal → ProtocolIdentifier → ℕ
 local_of journal identifier = local_index journal (index_with identifier)
 
+-- what is known of a protocol that is active has its local index
+pub active_local : (journal : Journal) (identifier : ProtocolIdentifier) (known : Protocol) → active_protocol journal identifier ≡ Some known → known.local ≡ local_index journal (index_with identifier)
+active_local journal identifier known is = by_test (may_have_row identifier && is_valid (directory_state journal (index_with identifier))) is
+  where
+    by_test : (t : Bool)
+        → cond t (Some (record { identifier = identifier; local = local_index journal (index_with identifier); host = is_on journal (index_with identifier) 7; matrix = is_on journal (index_with identifier) 8 })) None ≡ Some known
+        → known.local ≡ local_index journal (index_with identifier)
+    by_test true some = sym (ap (λ one. one.local) (same_Some _ _ some))
+    by_test false none = absurd (none-some known none)
+
 -- the protocol of the index of a protocol that can have a row
 own_protocol : (identifier : ProtocolIdentifier) → may_have_row identifier ≡ true → protocol_of (index_with identifier) ≡ Some identifier
 own_protocol identifier may =

@@ -1,8 +1,7 @@
 -- What the channels that are kept show is what channelTable shows after the journal.
-use Rattle.std.proofs.Common.{◌≡◌, ℕ, ◌%◌, ◌^◌, List, [], ◌∷◌, true, false, cond, ◌||◌, not, Option, Some, None, refl, sym, ap, subst, ◌∙◌, nat_eq, arith}
+use Rattle.std.proofs.Common.{◌≡◌, ℕ, ◌%◌, ◌^◌, List, [], ◌∷◌, true, false, cond, not, Option, Some, None, refl, sym, ap, ◌∙◌, nat_eq}
 use Rattle.std.specs.Prelude.{pos, is_some}
 use Rattle.std.specs.Option.{option_map_or}
-use Rattle.std.proofs.lemmas.Bool.Decides.{nat_tests}
 use Rattle.std.proofs.lemmas.Option.{same_Some}
 use Rattle.rm_val.specs.Val.{Val, int, counter}
 use Rattle.rm_model.specs.Counting.{Counting}
@@ -29,19 +28,7 @@ use Rattle.rm_filter.specs.DataControl.{control_number}
 use Rattle.rm_filter.specs.EventStatus.{status_number}
 use Rattle.rm_filter.specs.Shown.{kept_other, control_in, status_in, present_value, set_kept, channels_kept}
 use Rattle.rm_filter.specs.Tables.{ArePresent}
-
--- what is so of each of some numbers
-abbrev AllOf : (ℕ → Type 0) → List ℕ → Type 0
-AllOf P [] = Unit {0}
-AllOf P (n ∷ more) = P n × AllOf P more
-
-each_of : (P : ℕ → Type 0) (numbers : List ℕ) → AllOf P numbers → (n : ℕ) → is_one_of numbers n ≡ true → P n
-each_of P [] all n is = absurd (cc)
-each_of P (m ∷ more) all n is =
-    elim (nat_eq m n) as (λ t. nat_eq m n ≡ t → (t || is_one_of more n) ≡ true → P n) [
-      | true ↦ λ same _. let e : m ≡ n = grind (arith, nat_tests) in subst P e all.0
-      | false ↦ λ _ rest. each_of P more all.1 n rest
-    ] refl is
+use Rattle.rm_filter.proofs.OneOf.{each_of}
 
 module _ (rows : List (Row Channel)) (held : AreControlRows channel_table rows) (settings : Counting) (journal : Journal)
     (is : AreRowsAfter channel_table no_rows set_to rows journal) (are : ArePresent rows settings journal (fired settings journal)) where

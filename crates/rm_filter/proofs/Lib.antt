@@ -1,6 +1,7 @@
 pub mod FindLemmas
 pub mod MatchLemmas
 pub mod FilterCells
+pub mod OneOf
 pub mod ChannelCells
 pub mod MatchCounts
 pub mod Assigned

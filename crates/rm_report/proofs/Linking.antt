@@ -56,31 +56,34 @@ module _ (settings : Counting) where
       go true = (omega arith, (omega arith, tt))
       go false = tt
 
-  module _ (from : Journal) (source : Val) where
+  -- what is so of no mentions, of those of two runs and of those of each frame is so of those of all frames of a data source
+  module _ (Q : List HostMention → Type 0) (none : Q []) (both : (one other : List HostMention) → Q one → Q other → Q (one ++ other))
+      (P : Seen → Type 0) (each : (one : Seen) → P one → Q (mentioned settings one)) (source : Val) where
+    of_seen : (seen : List Seen) → AllByRecursion P seen → Q (mentions_in source seen)
+    of_seen [] all = none
+    of_seen (one ∷ seen) all = go (is_interface source one.frame.interface) (of_seen seen all.1)
+      where
+        go : (t : Bool) → Q (mentions_in source seen) → Q (flat_map (mentioned settings) (cond t (one ∷ filter (λ other. is_interface source other.frame.interface) seen) (filter (λ other. is_interface source other.frame.interface) seen)))
+        go true rest = both (mentioned settings one) (mentions_in source seen) (each one all.0) rest
+        go false rest = rest
+
+  module _ (from : Journal) where
     abbrev least : ℕ
     least = 2 * length (frames_in from)
 
-    from_seen : (seen : List Seen) → AreLater from seen → AllFrom least (mentions_in source seen)
-    from_seen [] later = tt
-    from_seen (one ∷ seen) later = go (is_interface source one.frame.interface) (from_seen seen later.1)
-      where
-        go : (t : Bool) → AllFrom least (mentions_in source seen) → AllFrom least (flat_map (mentioned settings) (cond t (one ∷ filter (λ other. is_interface source other.frame.interface) seen) (filter (λ other. is_interface source other.frame.interface) seen)))
-        go true rest =
-            let facts = frame_facts settings one.frame in
-            from_both least (mentioned settings one) (mentions_in source seen)
-            (from_one (length (frames_in from)) (length (frames_in one.before)) (one.frame.moment / 10) facts facts.pair later.0.1) rest
-        go false rest = rest
+    from_seen : (source : Val) (seen : List Seen) → AreLater from seen → AllFrom least (mentions_in source seen)
+    from_seen =
+        of_seen (AllFrom least) tt (from_both least) (λ one. (length from ≤ length one.before) × (length (frames_in from) ≤ length (frames_in one.before)))
+        (λ one later.
+        let facts = frame_facts settings one.frame in
+        from_one (length (frames_in from)) (length (frames_in one.before)) (one.frame.moment / 10) facts facts.pair later.1)
 
-    before_seen : (seen : List Seen) → AllByRecursion (IsEarlier from) seen → AllBefore least (mentions_in source seen)
-    before_seen [] earlier = tt
-    before_seen (one ∷ seen) earlier = go (is_interface source one.frame.interface) (before_seen seen earlier.1)
-      where
-        go : (t : Bool) → AllBefore least (mentions_in source seen) → AllBefore least (flat_map (mentioned settings) (cond t (one ∷ filter (λ other. is_interface source other.frame.interface) seen) (filter (λ other. is_interface source other.frame.interface) seen)))
-        go true rest =
-            let facts = frame_facts settings one.frame in
-            before_both least (mentioned settings one) (mentions_in source seen)
-            (before_one (length (frames_in from)) (length (frames_in one.before)) (one.frame.moment / 10) facts facts.pair earlier.0.1) rest
-        go false rest = rest
+    before_seen : (source : Val) (seen : List Seen) → AllByRecursion (IsEarlier from) seen → AllBefore least (mentions_in source seen)
+    before_seen =
+        of_seen (AllBefore least) tt (before_both least) (IsEarlier from)
+        (λ one earlier.
+        let facts = frame_facts settings one.frame in
+        before_one (length (frames_in from)) (length (frames_in one.before)) (one.frame.moment / 10) facts facts.pair earlier.1)
 
   mentions_both : (source : Val) (one other : List Seen) → mentions_in source (one ++ other) ≡ mentions_in source one ++ mentions_in source other
   mentions_both source one other =

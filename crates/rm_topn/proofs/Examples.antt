@@ -3,9 +3,10 @@ use Rattle.std.proofs.Common.{◌≡◌, ℕ, List, [], ◌∷◌, ◌++◌, map
 use Rattle.std.specs.Prelude.{pos}
 use Rattle.rm_val.specs.Val.{Val, int, octets, ticks}
 use Rattle.rm_model.specs.Counting.{Counting}
-use Rattle.rm_model.specs.Journal.{Act, Assignment, passes, assigns, Journal}
+use Rattle.rm_model.specs.Journal.{Assignment, assigns, Journal}
 use Rattle.rm_model.proofs.ExampleSettings.{plain}
 use Rattle.rm_proto.specs.Ethernet.{pair_of}
+use Rattle.rm_sourced.proofs.ExampleFrames.{a, b, sized, set_status, begun}
 use Rattle.rm_hosts.specs.Control.{control_entry as hosts_entry}
 use Rattle.rm_topn.specs.Control.{control_entry}
 use Rattle.rm_topn.specs.HostTop.{report_entry, top_cells}
@@ -13,40 +14,23 @@ use Rattle.rm_topn.specs.HostTop.{report_entry, top_cells}
 abbrev settings : Counting
 settings = record plain { hosts = 3 }
 
--- a column of row 1 of hostTopNControl, or the status of row 1 of hostControl, that is set to a number
+-- a column of row 1 of hostTopNControl that is set to a number
 abbrev set : ℕ → ℕ → Assignment
 set column n = record { name = control_entry ++ column ∷ 1 ∷ []; value = int (pos n) }
 
-abbrev set_hosts : ℕ → Assignment
-set_hosts n = record { name = hosts_entry ++ 6 ∷ 1 ∷ []; value = int (pos n) }
-
--- two hosts
-abbrev address : ℕ → List ℕ
-address last = 2 ∷ 0 ∷ 0 ∷ 0 ∷ 0 ∷ last ∷ []
-
-abbrev a : List ℕ
-a = address 10
-
-abbrev b : List ℕ
-b = address 11
-
--- a frame from one host to another, with so many octets beside the check sequence
-abbrev frame : (moment original : ℕ) (source dest : List ℕ) → Act
-frame moment original source dest = passes (record { interface = 1; moment = moment; number = 1; octets = dest ++ source; original = original })
-
 -- The hosts are collected from 2000 on. At 4000 row 1 becomes valid, with the octets that hosts send (4), for 10 seconds.
 abbrev before : Journal
-before = assigns 2000 (set_hosts 1 ∷ []) ∷ assigns 1100 (set_hosts 2 ∷ []) ∷ []
+before = begun hosts_entry
 
 abbrev made : Journal
 made = assigns 3500 (set 10 2 ∷ set 2 1 ∷ set 3 4 ∷ set 4 10 ∷ []) ∷ before
 
 abbrev began : Journal
-began = assigns 4000 (set 10 1 ∷ []) ∷ frame 4000 100 b a ∷ made
+began = assigns 4000 (set 10 1 ∷ []) ∷ sized 100 4000 b a ∷ made
 
 -- a question and an answer, and a frame at the moment of the end
 abbrev ran : Journal
-ran = frame 14000 60 a b ∷ frame 6000 86 b a ∷ frame 5000 70 a b ∷ began
+ran = sized 60 14000 a b ∷ sized 86 6000 b a ∷ sized 70 5000 a b ∷ began
 
 -- what columns of row 1 show at a moment, and a column of the first places of its report
 abbrev control : Journal → (now : ℕ) → List ℕ → List (Option Val)
@@ -80,17 +64,17 @@ ends_time : control ran 20000 (4 ∷ 5 ∷ 8 ∷ []) ≡ Some (int (pos 0)) ∷ 
 ends_time = refl
 
 -- The hosts that are shown stay when their row of hostControl isn't valid any more, and there are none where it wasn't at the end.
-stays : report (assigns 15000 (set_hosts 3 ∷ []) ∷ ran) 16000 4 ≡ Some (int (pos 90)) ∷ Some (int (pos 74)) ∷ None ∷ []
+stays : report (set_status hosts_entry 15000 3 ∷ ran) 16000 4 ≡ Some (int (pos 90)) ∷ Some (int (pos 74)) ∷ None ∷ []
 unfolding pair_of
 stays = refl
 
-idle : report (assigns 13000 (set_hosts 3 ∷ []) ∷ began) 16000 4 ≡ None ∷ None ∷ None ∷ []
+idle : report (set_status hosts_entry 13000 3 ∷ began) 16000 4 ≡ None ∷ None ∷ None ∷ []
 unfolding pair_of
 idle = refl
 
 -- TimeRemaining set anew begins a report of so many seconds, and the hosts that were shown go.
 abbrev anew : Journal
-anew = frame 17000 60 a b ∷ assigns 16005 (set 4 2 ∷ []) ∷ ran
+anew = sized 60 17000 a b ∷ assigns 16005 (set 4 2 ∷ []) ∷ ran
 
 anew_shows : control anew 17500 (4 ∷ 5 ∷ 8 ∷ []) ≡ Some (int (pos 1)) ∷ Some (int (pos 2)) ∷ Some (ticks 1600) ∷ []
 anew_shows = refl
