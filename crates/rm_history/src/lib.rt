@@ -8,8 +8,6 @@ mod plan;
 mod run;
 mod samples;
 mod shown_buckets;
-#[cfg(test)]
-mod tests;
 
 use rm_collect::Collecting;
 use run::Run;

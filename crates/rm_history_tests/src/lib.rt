@@ -1,0 +1,5 @@
+//! Tests of rm_history.
+#![tactic(auto)]
+
+#[cfg(test)]
+mod tests;
