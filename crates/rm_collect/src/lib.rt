@@ -2,7 +2,6 @@
 #![tactic(auto)]
 
 mod assigning;
-mod beside;
 mod collected;
 mod collecting;
 mod group;
@@ -12,9 +11,8 @@ mod shown;
 mod table;
 mod turned;
 
-pub use beside::CollectingBeside;
 pub use collected::{ByFacts, Collected};
 pub use collecting::Collecting;
 pub use row_columns::RowColumns;
 pub use sampled_tables::SampledTables;
-pub use turned::{ByItself, ByOther, Turned};
+pub use turned::{ByItself, ByOther, Turned, complete};

@@ -55,8 +55,8 @@ impl<P: Turned> Change<P> for Turning<'_, P> {
     }
 }
 
-/// Completes a Set that was begun, once another group has done it: what the Set turns is turned for each row.
-pub(crate) fn complete<G: Group, P: ByOther<G>>(collecting: &mut Collecting<P>, other: &G)
+/// Completes a Set that was begun (`Collecting::assign`), once another group has done it: what the Set turns is turned for each row.
+pub fn complete<G: Group, P: ByOther<G>>(collecting: &mut Collecting<P>, other: &G)
     ensures stands { (settings : Counting) (journal : Journal) → G.stands other.now settings journal
         → HasBegun P.Columns.form P.collection collecting.old settings journal → Stands P.Columns.form P.collection collecting.new settings journal }
     ensures frames { frames_given collecting.new ≡ frames_given collecting.old }

@@ -18,11 +18,11 @@ use Rattle.rm_dir.specs.DirectoryIndex.{index_with, may_have_row}
 use Rattle.rm_dir.specs.LocalIndexes.{local_index}
 use Rattle.rm_dir.specs.Paths.{AreActiveAfter, is_active_after}
 use Rattle.rm_dir.specs.ProtocolDir.{directory_state}
+use Rattle.rm_dir.proofs.LocalLaws.{active_local}
 use Rattle.rm_dist.specs.Control.{control_state, source_of}
 use Rattle.rm_dist.specs.Marks.{Mark, is_counted, marks, marks_of, new_marks, of_active}
 use Rattle.rm_dist.specs.Resting.{has_local, is_local}
 use Rattle.rm_dist.proofs.MarkLemmas.{AllIn}
-use Rattle.rm_dist.proofs.SlotLocals.{active_local}
 
 -- a protocol is active where its row is
 pub active_is : (journal : Journal) (protocol : ProtocolIdentifier) → is_active_after journal protocol ≡ (may_have_row protocol && is_valid (directory_state journal (index_with protocol)))

@@ -9,6 +9,7 @@ use Rattle.rm_model.specs.Judgement.{count_below}
 use Rattle.rm_status.proofs.Held.{count_none, count_one, count_or}
 use Rattle.rm_path.specs.declared.identifier.ProtocolIdentifier.{ProtocolIdentifier}
 use Rattle.rm_path.specs.declared.protocol.Protocol.{Protocol}
+use Rattle.rm_dir.proofs.Counts.{count_under}
 use Rattle.rm_dist.specs.declared.count.Count.{Count}
 use Rattle.rm_dist.specs.Counts.{Rising, count_in, first_frame, marked, with_marks}
 use Rattle.rm_dist.specs.DistStats.{are_some, packets_of, octets_of}
@@ -83,15 +84,6 @@ count_either f g (suc n) = let rest = count_either f g n in let here = one (f n)
     one true true = omega arith
     one true false = omega arith
     one false b = omega arith
-
-count_under : (f g : ℕ → Bool) (n : ℕ) → ((i : ℕ) → f i ≡ true → g i ≡ true) → count_below f n ≤ count_below g n
-unfolding count_below
-count_under f g zero under = omega arith
-count_under f g (suc n) under = let rest = count_under f g n under in let here = one (f n) (g n) (under n) in omega (arith, rest, here)
-  where
-    one : (a b : Bool) → (a ≡ true → b ≡ true) → cond a 1 0 ≤ cond b 1 0
-    one true b so = let is = so refl in rw is (omega arith)
-    one false b so = omega arith
 
 count_single : (k n : ℕ) → count_below (nat_eq k) n ≤ 1
 count_single k n = by_test (nat_lt k n) refl

@@ -21,7 +21,7 @@ use Rattle.rm_dir.specs.DirectoryIndex.{index_with, may_have_row, protocol_of}
 use Rattle.rm_dir.specs.LocalIndexes.{count_made_below, greatest_given, local_index, makes}
 use Rattle.rm_dir.specs.Paths.{AreActiveAfter, is_active_after}
 use Rattle.rm_dir.specs.ProtocolDir.{directory_state}
-use Rattle.rm_dir.proofs.LocalLaws.{local_given, locals_apart}
+use Rattle.rm_dir.proofs.LocalLaws.{active_local, local_given, locals_apart}
 use Rattle.rm_dist.proofs.Changed.{was_there}
 use Rattle.rm_dist.specs.declared.count.Count.{Count}
 use Rattle.rm_dist.specs.declared.row.DistributionRow.{DistributionRow}
@@ -34,7 +34,6 @@ use Rattle.rm_dist.specs.Marks.{Mark, marks, new_marks, of_active, with_local}
 use Rattle.rm_dist.specs.Resting.{has_local, is_local, sifted, sifted_tally, sifting}
 use Rattle.rm_dist.specs.Standing.{AreOfMarks, IsTallied, IsTalliedBy, count_by, unsifted}
 use Rattle.rm_dist.proofs.MarkFacts.{AreMarksOf, IsMarkOf, active_is, all_are, both_of, has_slot, new_are, row_stays}
-use Rattle.rm_dist.proofs.SlotLocals.{active_local}
 
 -- what is counted of a local index, once the counts were sifted
 sifted_has : (slots : List (Option Protocol)) (counts : List Count) (local : ℕ) → count_in (sifted slots counts) local ≡ cond (has_local slots local) (count_in counts local) None

@@ -1,33 +1,21 @@
 -- The local indexes of protocols in slots, after a journal.
-use Rattle.std.proofs.Common.{◌≡◌, ℕ, ◌<◌, List, [], ◌∷◌, length, map, take, Bool, true, false, cond, ◌&&◌, Option, Some, None, option_map, refl, sym, ap, ◌∙◌}
+use Rattle.std.proofs.Common.{◌≡◌, ℕ, ◌<◌, List, [], ◌∷◌, length, map, take, Option, Some, None, option_map, refl, ap, ◌∙◌}
 use Rattle.std.specs.Option.{option_map_or}
 use Rattle.std.proofs.lemmas.Option.{none-some, same_Some}
 use Rattle.rm_model.specs.Journal.{Journal}
-use Rattle.rm_model.specs.ControlRows.{is_valid}
 use Rattle.rm_path.specs.declared.identifier.ProtocolIdentifier.{ProtocolIdentifier}
 use Rattle.rm_path.specs.declared.protocol.Protocol.{Protocol}
 use Rattle.rm_path.specs.Slots.{protocol_in, identifier_in}
-use Rattle.rm_dir.specs.Active.{active_protocol, is_on}
-use Rattle.rm_dir.specs.DirectoryIndex.{index_with, may_have_row}
+use Rattle.rm_dir.specs.DirectoryIndex.{index_with}
 use Rattle.rm_dir.specs.LocalIndexes.{local_index}
 use Rattle.rm_dir.specs.Paths.{AreActiveAfter}
-use Rattle.rm_dir.specs.ProtocolDir.{directory_state}
+use Rattle.rm_dir.proofs.LocalLaws.{active_local}
 use Rattle.rm_dist.specs.Slots.{local_in}
 
 -- the local indexes of so many slots, of which there are 32 where some were looked at
 pub record IsSoFar (slots : List (Option Protocol)) (path : List ℕ) (at : ℕ) (locals : List ℕ) : Type 0 where
   pub are : locals ≡ map (local_in slots) (take at path)
   pub count : 0 < length locals → length slots ≡ 32
-
--- what is known of a protocol that is active has its local index
-pub active_local : (journal : Journal) (identifier : ProtocolIdentifier) (known : Protocol) → active_protocol journal identifier ≡ Some known → known.local ≡ local_index journal (index_with identifier)
-active_local journal identifier known is = by_test (may_have_row identifier && is_valid (directory_state journal (index_with identifier))) is
-  where
-    by_test : (t : Bool)
-        → cond t (Some (record { identifier = identifier; local = local_index journal (index_with identifier); host = is_on journal (index_with identifier) 7; matrix = is_on journal (index_with identifier) 8 })) None ≡ Some known
-        → known.local ≡ local_index journal (index_with identifier)
-    by_test true some = sym (ap (λ one. one.local) (same_Some _ _ some))
-    by_test false none = absurd (none-some known none)
 
 module _ (journal : Journal) (slots : List (Option Protocol)) (are : AreActiveAfter journal slots) where
   local_is : (slot : ℕ) (identifier : ProtocolIdentifier) → identifier_in slots slot ≡ Some identifier → local_in slots slot ≡ local_index journal (index_with identifier)

@@ -82,8 +82,8 @@ impl Distribution {
         cell_of_both(rows, &Others, &Counted { rows }, name, now)
     }
 
-    // Begins a Set at a moment in milliseconds, with which nothing is wrong: what isn't active any more by it is still counted.
-    pub(crate) fn assign<A: Assigns>(&mut self, set: &A, now: u32)
+    /// Begins a Set at a moment in milliseconds, with which nothing is wrong: what isn't active any more by it is still counted.
+    pub fn assign<A: Assigns>(&mut self, set: &A, now: u32)
         requires fine { AreFine self.old (A.bindings set.now) }
         ensures begun { (settings : Settings) (journal : Journal) (values : Assignments) → Stands self.old settings journal
             → ((name : List ℕ) → value_given values name ≡ value_given (A.bindings set.now) name)
@@ -97,8 +97,8 @@ impl Distribution {
         self.last = now;
     }
 
-    // Completes a Set that was begun, once the directory has done it: what isn't active any more isn't counted any more.
-    pub(crate) fn sift(&mut self, directory: &Directory)
+    /// Completes a Set that was begun, once the directory has done it: what isn't active any more isn't counted any more.
+    pub fn sift(&mut self, directory: &Directory)
         ensures stands { (settings : Settings) (journal : Journal) → IsDirectory directory.now journal → HasBegun self.old settings journal
             → Stands self.new settings journal }
         ensures frames { self.new.frames ≡ self.old.frames }

@@ -3,14 +3,10 @@ use crate::cell::Others;
 use crate::distribution::Distribution;
 use crate::row::{CONTROL_OBJECTS, DistributionRow};
 use crate::stats::{Counted, STATS_OBJECTS};
-use rm_dir::Directory;
-use rm_group::{
-    Assigns, Beside, Denied, Group, Look, NeverDue, Readable, Storeless, TableObjects, Tables,
-};
+use rm_group::{Assigns, Group, Look, NeverDue, Readable, Storeless, TableObjects, Tables};
 use rm_model::Verdict;
 use rm_nested::{cell_of_both, judge_both, next_of_both};
 use rm_val::{Oid, Value};
-use std::alloc::Global;
 
 /// The tables of the group.
 const OBJECTS: &[TableObjects] = &[CONTROL_OBJECTS, STATS_OBJECTS];
@@ -66,51 +62,6 @@ impl Group for Distribution {
 }
 
 impl Storeless for Distribution {}
-
-// What isn't active any more by a Set isn't counted any more once the directory has done the Set.
-impl Beside<Directory> for Distribution {
-    ghost use Rattle.rm_model.specs.ControlRows.{no_rows};
-    ghost use Rattle.rm_model.specs.Judgement.{second_pass, rows_after};
-    ghost use Rattle.rm_dist.specs.Control.{dist_control};
-    ghost use Rattle.rm_dist.specs.Group.{AreFine, HasBegun};
-
-    ghost tied = { λ settings. Unit {0} };
-
-    ghost together_beside = { λ settings journal now readings bindings place. second_pass dist_control (rows_after dist_control no_rows journal) bindings place };
-
-    ghost ready = { λ s first now bindings. AreFine s bindings };
-
-    ghost begun = { HasBegun };
-
-    fn judge_beside<A: Assigns, L: Look>(
-        &self,
-        _directory: &Directory,
-        set: &A,
-        now: u32,
-        look: &L,
-    ) -> Verdict {
-        self.judge_rows(set, now, look)
-    }
-
-    fn prepare_beside<A: Assigns, L: Look>(
-        &mut self,
-        _directory: &Directory,
-        _alloc: Global,
-        _set: &A,
-        _now: u32,
-        _look: &L,
-    ) -> Result<(), Denied> {
-        Ok(())
-    }
-
-    fn begin<A: Assigns>(&mut self, _directory: &Directory, set: &A, now: u32) {
-        self.assign(set, now);
-    }
-
-    fn complete(&mut self, directory: &Directory, _now: u32) {
-        self.sift(directory);
-    }
-}
 
 impl Tables for Distribution {
     ghost use Rattle.rm_model.specs.Cells.{cells_of};

@@ -6,18 +6,21 @@ ghost use Rattle.rm_val.specs.Spellable.{IsSpellable};
 use rm_dir::Directory;
 use rm_dist::Distribution;
 use rm_group::{
-    Assignments, Both, Commits, FallsDue, Group, Look, MOST_FRAMES, MOST_OCTETS, Objects, Passing,
-    Readable, Steps, Stores,
+    Assignments, Commits, FallsDue, Group, Look, MOST_FRAMES, MOST_OCTETS, Objects, Passing,
+    Readable, Steps, lower_verdict,
 };
 use rm_model::{Reading, Verdict};
 use rm_proto::{Cast, Facts, Ports};
 use rm_val::{ErrorStatus, Oid, Value};
-use std::alloc::Global;
 use std::process::Abort;
 use std::test::Fail;
 
-/// The directory, and beside it the distribution.
-type Distributed = Both<Directory, Distribution>;
+/// The directory, and the distribution, which counts by it.
+#[derive(Drop)]
+struct Distributed {
+    directory: Directory,
+    distribution: Distribution,
+}
 
 /// A Set of at most four bindings.
 type Set = Assignments<'static, 4>;
@@ -73,22 +76,27 @@ impl Look for Unread {
 }
 
 // Judges a Set at a moment, and does it where nothing is wrong with it.
-fn apply(alloc: Global, protocols: &mut Distributed, set: &Set, now: u32) -> Verdict
-    requires later { protocols.old.second.last ≤ now }
-    ensures last { protocols.new.second.last ≤ now }
-    ensures frames { protocols.new.second.frames ≡ protocols.old.second.frames }
+fn apply(protocols: &mut Distributed, set: &Set, now: u32) -> Verdict
+    requires later { protocols.old.distribution.last ≤ now }
+    ensures last { protocols.new.distribution.last ≤ now }
+    ensures frames { protocols.new.distribution.frames ≡ protocols.old.distribution.frames }
 {
-    let alone = protocols.judge_alone(set);
+    let Distributed {
+        directory,
+        distribution,
+    } = protocols;
+    let alone = lower_verdict(directory.judge_alone(set), distribution.judge_alone(set));
     if alone != Verdict::Fine {
         return alone;
     }
-    let together = protocols.judge_rows(set, now, &Unread);
-    if together != Verdict::Fine {
-        return together;
-    }
-    match protocols.prepare(alloc, set, now, &Unread) {
-        Ok(()) => protocols.commit(set, now),
-        Err(_) => protocols.discard(),
+    let together = lower_verdict(
+        directory.judge_rows(set, now, &Unread),
+        distribution.judge_rows(set, now, &Unread),
+    );
+    if together == Verdict::Fine {
+        distribution.assign(set, now);
+        directory.commit(set, now);
+        distribution.sift(directory);
     }
     together
 }
@@ -120,27 +128,27 @@ fn datagram(source: u16, dest: u16, moment: u32) -> Passing<'static>
 
 // The directory and the distribution before the first frame.
 fn before_all() -> Distributed
-    ensures last { result.second.last ≡ 0 }
-    ensures frames { result.second.frames ≡ 0 }
+    ensures last { result.distribution.last ≡ 0 }
+    ensures frames { result.distribution.frames ≡ 0 }
 {
-    Both {
-        first: Directory::new(),
-        second: Distribution::new(),
+    Distributed {
+        directory: Directory::new(),
+        distribution: Distribution::new(),
     }
 }
 
 // A frame passes.
 fn count(protocols: &mut Distributed, passing: &Passing<'_>)
-    requires later { protocols.old.second.last ≤ passing.now.moment }
-    requires room { protocols.old.second.frames < MOST_FRAMES }
+    requires later { protocols.old.distribution.last ≤ passing.now.moment }
+    requires room { protocols.old.distribution.frames < MOST_FRAMES }
     requires length { passing.now.facts.length ≤ MOST_OCTETS }
-    ensures last { protocols.new.second.last ≡ passing.now.moment }
-    ensures frames { protocols.new.second.frames ≡ protocols.old.second.frames + 1 }
+    ensures last { protocols.new.distribution.last ≡ passing.now.moment }
+    ensures frames { protocols.new.distribution.frames ≡ protocols.old.distribution.frames + 1 }
 {
     protocols
-        .second
-        .frame(&protocols.first, &passing.facts, passing.moment);
-    protocols.first.pass(passing);
+        .distribution
+        .frame(&protocols.directory, &passing.facts, passing.moment);
+    protocols.directory.pass(passing);
 }
 
 // The number of a Gauge32 or of TimeTicks. None for any other value.
@@ -153,14 +161,14 @@ fn number_of(value: Option<Value<'_>>) -> Option<u32> {
 
 // What a cell shows at a moment, also to an alarm.
 fn shown(
-    protocols: &Distributed,
+    distribution: &Distribution,
     column: &[u32],
     index: &[u32],
     now: u32,
 ) -> Result<Option<u32>, Fail> {
     let name = name_of(column, index)?;
-    let number = number_of(protocols.cell(&name, now));
-    if number == number_of(protocols.value(&name, now)) && Distributed::has_object(&name) {
+    let number = number_of(distribution.cell(&name, now));
+    if number == number_of(distribution.value(&name, now)) && Distribution::has_object(&name) {
         Ok(number)
     } else {
         Ok(None)
@@ -173,16 +181,13 @@ fn frames_are_counted(rt: HostRuntime) -> Result<(), Fail> {
     let mut protocols = before_all();
     count(&mut protocols, &datagram(40000, 161, 500));
     let set = set_of(STATUS, &[1], 4)?;
-    assert_eq!(rt;
-        apply(rt.alloc(), &mut protocols, &set, 1000),
-        Verdict::Fine
-    );
+    assert_eq!(rt; apply(&mut protocols, &set, 1000), Verdict::Fine);
     count(&mut protocols, &datagram(40000, 161, 1000));
     let mut bad = datagram(40000, 161, 1500);
     bad.facts.good = false;
     count(&mut protocols, &bad);
     count(&mut protocols, &datagram(7, 8, 2000));
-    protocols.second.sample_begins(2500);
+    protocols.distribution.sample_begins(2500);
     for (local, packets) in [
         (1, Some(2)),
         (2, Some(2)),
@@ -190,11 +195,20 @@ fn frames_are_counted(rt: HostRuntime) -> Result<(), Fail> {
         (6, Some(2)),
         (19, Some(1)),
     ] {
-        assert_eq!(rt; shown(&protocols, PACKETS, &[1, local], 3000)?, packets);
+        assert_eq!(rt;
+            shown(&protocols.distribution, PACKETS, &[1, local], 3000)?,
+            packets
+        );
     }
-    assert_eq!(rt; shown(&protocols, OCTETS, &[1, 6], 3000)?, Some(128));
-    assert_eq!(rt; shown(&protocols, CREATE_TIME, &[1], 3000)?, Some(100));
-    assert!(rt; protocols.next_due().is_none());
+    assert_eq!(rt;
+        shown(&protocols.distribution, OCTETS, &[1, 6], 3000)?,
+        Some(128)
+    );
+    assert_eq!(rt;
+        shown(&protocols.distribution, CREATE_TIME, &[1], 3000)?,
+        Some(100)
+    );
+    assert!(rt; protocols.distribution.next_due().is_none());
     Ok(())
 }
 
@@ -203,42 +217,43 @@ fn frames_are_counted(rt: HostRuntime) -> Result<(), Fail> {
 fn idle_protocols_lose_counts(rt: HostRuntime) -> Result<(), Fail> {
     let mut protocols = before_all();
     let row = set_of(STATUS, &[1], 4)?;
-    assert_eq!(rt;
-        apply(rt.alloc(), &mut protocols, &row, 1000),
-        Verdict::Fine
-    );
+    assert_eq!(rt; apply(&mut protocols, &row, 1000), Verdict::Fine);
     let made = set_of(PROTOCOL_STATUS, DISCARD, 4)?;
-    assert_eq!(rt;
-        apply(rt.alloc(), &mut protocols, &made, 1000),
-        Verdict::Fine
-    );
+    assert_eq!(rt; apply(&mut protocols, &made, 1000), Verdict::Fine);
     count(&mut protocols, &datagram(40000, 9, 2000));
     count(&mut protocols, &datagram(9, 40000, 2000));
-    assert_eq!(rt; shown(&protocols, PACKETS, &[1, 21], 3000)?, Some(2));
+    assert_eq!(rt;
+        shown(&protocols.distribution, PACKETS, &[1, 21], 3000)?,
+        Some(2)
+    );
     for status in [2, 1] {
         let set = set_of(PROTOCOL_STATUS, DISCARD, status)?;
+        assert_eq!(rt; apply(&mut protocols, &set, 3000), Verdict::Fine);
         assert_eq!(rt;
-            apply(rt.alloc(), &mut protocols, &set, 3000),
-            Verdict::Fine
+            shown(&protocols.distribution, PACKETS, &[1, 21], 3000)?,
+            None
         );
-        assert_eq!(rt; shown(&protocols, PACKETS, &[1, 21], 3000)?, None);
-        assert_eq!(rt; shown(&protocols, PACKETS, &[1, 6], 3000)?, Some(2));
+        assert_eq!(rt;
+            shown(&protocols.distribution, PACKETS, &[1, 6], 3000)?,
+            Some(2)
+        );
     }
     count(&mut protocols, &datagram(40000, 9, 4000));
-    assert_eq!(rt; shown(&protocols, PACKETS, &[1, 21], 4000)?, Some(1));
+    assert_eq!(rt;
+        shown(&protocols.distribution, PACKETS, &[1, 21], 4000)?,
+        Some(1)
+    );
     Ok(())
 }
 
-// A walk comes from the directory to both tables, the counts in the order of the local indexes.
+// A walk comes to both tables, the counts in the order of the local indexes.
 #[test]
 fn counts_are_walked(rt: HostRuntime) -> Result<(), Fail> {
     let mut protocols = before_all();
     let row = set_of(STATUS, &[7], 4)?;
-    assert_eq!(rt;
-        apply(rt.alloc(), &mut protocols, &row, 1000),
-        Verdict::Fine
-    );
+    assert_eq!(rt; apply(&mut protocols, &row, 1000), Verdict::Fine);
     count(&mut protocols, &datagram(40000, 53, 2000));
+    let distribution = &protocols.distribution;
     let mut name = name_of(STATUS, &[7])?;
     let expected: [(&[u32], u32); 5] = [
         (PACKETS, 1),
@@ -249,14 +264,14 @@ fn counts_are_walked(rt: HostRuntime) -> Result<(), Fail> {
     ];
     for (column, local) in expected {
         let mut next = Oid::new();
-        assert!(rt; protocols.after(&name, 3000, &mut next).is_some());
+        assert!(rt; distribution.after(&name, 3000, &mut next).is_some());
         assert!(rt; next.compare(&name_of(column, &[7, local])?).is_eq());
         name = next;
     }
     let last = name_of(OCTETS, &[7, 15])?;
-    assert!(rt; protocols.after(&last, 3000, &mut name).is_none());
+    assert!(rt; distribution.after(&last, 3000, &mut name).is_none());
     let from = name_of(&[11, 3], &[])?;
-    assert!(rt; protocols.after(&from, 3000, &mut name).is_some());
+    assert!(rt; distribution.after(&from, 3000, &mut name).is_some());
     assert!(rt; name.compare(&name_of(&[12, 1, 1, 2], &[7])?).is_eq());
     Ok(())
 }
@@ -277,7 +292,7 @@ fn sets_are_refused(rt: HostRuntime) -> Result<(), Fail> {
             status: *status,
             index: 1,
         };
-        assert_eq!(rt; apply(rt.alloc(), &mut protocols, set, 1000), wrong);
+        assert_eq!(rt; apply(&mut protocols, set, 1000), wrong);
     }
     Ok(())
 }

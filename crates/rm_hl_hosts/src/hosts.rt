@@ -1,14 +1,14 @@
 // What the rows of hlHostControl collect.
 
 use crate::control::{CONTROL_OBJECTS, HostColumns};
-use crate::counted_frame::CountedFrame;
 use crate::part::HostPart;
 use crate::view::{APPLICATION_OBJECTS, HostView, NETWORK_OBJECTS};
 use rm_collect::{ByOther, Collected, RowColumns, SampledTables, Turned};
+use rm_dir::Directory;
 use rm_group::{Assigns, Passing, TableObjects};
 use rm_keyed::{PartRows, cell_of_two, judge_two, next_of_two};
-use rm_layer_slots::{HasDirectory, TableKind};
-use rm_layer_tables::{ByApplication, ByNetwork, LayerShared, control_counter};
+use rm_layer_slots::TableKind;
+use rm_layer_tables::{ByApplication, ByNetwork, CountedFrame, LayerShared, control_counter};
 use rm_model::Verdict;
 use rm_pool::Pool;
 use rm_status::Row;
@@ -116,8 +116,8 @@ impl Turned for HostPart {
 }
 
 #[tactic(auto, unfolding(crate::specs::Collection::host_collection))]
-impl<G: HasDirectory> ByOther<G> for HostPart {
-    fn shared_by(before: &LayerShared, other: &G) -> LayerShared {
-        LayerShared::by(TableKind::Hosts, other.directory(), before.upper)
+impl ByOther<Directory> for HostPart {
+    fn shared_by(before: &LayerShared, directory: &Directory) -> LayerShared {
+        LayerShared::by(TableKind::Hosts, directory, before.upper)
     }
 }

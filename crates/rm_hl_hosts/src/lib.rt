@@ -6,8 +6,6 @@ mod counted_frame;
 mod frames;
 mod hosts;
 mod part;
-#[cfg(test)]
-mod tests;
 mod view;
 
 pub use control::{HostColumns, HostControl};

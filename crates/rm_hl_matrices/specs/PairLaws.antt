@@ -1,4 +1,4 @@
--- A frame names one pair, and the columns of pairs add up.
+-- A frame names one pair, the pairs by destination are those by source the other way round, and the columns of pairs add up.
 use Rattle.std.proofs.Common.{◌≡◌, ℕ, ◌+◌, ◌%◌, ◌^◌, Bool, true, false, cond, nat_eq, refl, arith}
 use Rattle.std.specs.Str.{bytes_eq}
 use Rattle.std.proofs.lemmas.Bool.{and_parts}
@@ -8,7 +8,7 @@ use Rattle.rm_model.specs.Journal.{Journal}
 use Rattle.rm_evicting.specs.Held.{IsExact}
 use Rattle.rm_upper.specs.LayerTable.{LayerTable}
 use Rattle.rm_reversed.specs.Reversed.{reversed_table}
-use Rattle.rm_reversed.proofs.KeyLemmas.{alike_of}
+use Rattle.rm_order.proofs.ReversedLemmas.{alike_of}
 use Rattle.rm_layer_matrices.specs.AddressPairs.{reversed}
 use Rattle.rm_layer_matrices.specs.declared.pair_counts.PairCounts.{PairCounts}
 use Rattle.rm_layer_matrices.specs.PairCounts.{no_counts, plus, pair_tally}

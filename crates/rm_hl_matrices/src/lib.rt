@@ -7,8 +7,6 @@ mod counted_frame;
 mod frames;
 mod pairs;
 mod part;
-#[cfg(test)]
-mod tests;
 mod views;
 
 pub use control::{MatrixColumns, MatrixControl};

@@ -5,16 +5,16 @@ ghost use Rattle.rm_hl_matrices.specs.Collection.{by_source};
 ghost use Rattle.rm_hl_matrices.specs.PairCells.{same_pair};
 
 use crate::control::{CONTROL_OBJECTS, MatrixColumns};
-use crate::counted_frame::CountedFrame;
 use crate::part::PairPart;
 use crate::views::{
     AL_MATRIX_DS, AL_MATRIX_SD, DestinationView, NL_MATRIX_DS, NL_MATRIX_SD, SourceView,
 };
 use rm_collect::{ByOther, Collected, RowColumns, SampledTables, Turned};
+use rm_dir::Directory;
 use rm_group::{Assigns, Passing, TableObjects, choose_nearer, lower_verdict};
 use rm_keyed::{PartRows, cell_of_two, judge_two, next_of_two};
-use rm_layer_slots::{HasDirectory, TableKind};
-use rm_layer_tables::{ByApplication, ByNetwork, LayerShared, control_counter};
+use rm_layer_slots::TableKind;
+use rm_layer_tables::{ByApplication, ByNetwork, CountedFrame, LayerShared, control_counter};
 use rm_model::Verdict;
 use rm_pool::Pool;
 use rm_status::Row;
@@ -157,8 +157,8 @@ impl Turned for PairPart {
 }
 
 #[tactic(auto, unfolding(crate::specs::Collection::pair_collection))]
-impl<G: HasDirectory> ByOther<G> for PairPart {
-    fn shared_by(before: &LayerShared, other: &G) -> LayerShared {
-        LayerShared::by(TableKind::Matrices, other.directory(), before.upper)
+impl ByOther<Directory> for PairPart {
+    fn shared_by(before: &LayerShared, directory: &Directory) -> LayerShared {
+        LayerShared::by(TableKind::Matrices, directory, before.upper)
     }
 }

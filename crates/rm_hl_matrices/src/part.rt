@@ -8,8 +8,9 @@ use std::alloc::Global;
 /// Pairs of addresses, which are shown by source and destination, and by destination and source.
 pub(crate) type PairTable = TwoOrders<AddressPair<[u8; 4]>, PairCounts>;
 
-/// The pairs of hosts that a row of hlMatrixControl has, in a part of a pool: storage for as many as any row has room for, in both orders. It
-/// is taken as the Set that makes the row active is made ready for, so that neither a frame nor the doing of a Set asks for memory.
+/// The pairs of hosts that a row of hlMatrixControl has, in a part of a pool: storage for as many as any row has room for, and for their keys
+/// in the second order. It is taken as the Set that makes the row active is made ready for, so that neither a frame nor the doing of a Set
+/// asks for memory.
 #[derive(Drop)]
 pub struct PairPart {
     /// The interface whose frames it takes.

@@ -2,10 +2,8 @@
 //! protocolDirMatrixConfig), by the directory of protocols, and their slots.
 #![tactic(auto)]
 
-mod has_directory;
 mod settling;
 mod slots;
 
-pub use has_directory::HasDirectory;
 pub use settling::settle;
 pub use slots::{TableKind, slots_on};

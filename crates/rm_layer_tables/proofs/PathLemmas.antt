@@ -1,21 +1,19 @@
 -- The protocols above ip on a path, by their slots and by the journal.
-use Rattle.std.proofs.Common.{◌≡◌, ℕ, zero, suc, ◌+◌, ◌<◌, ◌≤◌, List, [], ◌∷◌, ◌++◌, length, map, filter, take, Bool, true, false, cond, nat_eq, ◌&&◌, ◌||◌, Option, Some, None, option_map, refl, sym, ap, ◌∙◌, arith, inl, inr}
+use Rattle.std.proofs.Common.{◌≡◌, ℕ, zero, suc, ◌+◌, ◌<◌, ◌≤◌, List, [], ◌∷◌, ◌++◌, length, map, filter, take, cond, nat_eq, ◌||◌, Option, Some, None, option_map, refl, sym, ap, ◌∙◌, arith, inl, inr}
 use Rattle.std.specs.Prelude.{slice_index}
 use Rattle.std.specs.List.{list_any}
 use Rattle.std.proofs.lemmas.Bool.{cases_Bool}
 use Rattle.std.proofs.lemmas.Bool.Decides.{nat_tests}
 use Rattle.std.proofs.lemmas.Option.{none-some, same_Some}
 use Rattle.rm_model.specs.Journal.{Journal}
-use Rattle.rm_model.specs.ControlRows.{is_valid}
 use Rattle.rm_path.specs.declared.identifier.ProtocolIdentifier.{ProtocolIdentifier}
 use Rattle.rm_path.specs.declared.protocol.Protocol.{Protocol}
 use Rattle.rm_path.specs.Identifier.{is_above_ip}
 use Rattle.rm_path.specs.Slots.{protocol_in, identifier_in}
-use Rattle.rm_dir.specs.Active.{active_protocol, is_on}
-use Rattle.rm_dir.specs.DirectoryIndex.{index_with, may_have_row}
+use Rattle.rm_dir.specs.DirectoryIndex.{index_with}
 use Rattle.rm_dir.specs.LocalIndexes.{local_index}
 use Rattle.rm_dir.specs.Paths.{AreActiveAfter}
-use Rattle.rm_dir.specs.ProtocolDir.{directory_state}
+use Rattle.rm_dir.proofs.LocalLaws.{active_local}
 use Rattle.rm_upper.specs.Kept.{is_among}
 use Rattle.rm_layer_slots.specs.On.{with_local}
 use Rattle.rm_layer_tables.specs.Paths.{local_above, locals_in}
@@ -55,16 +53,6 @@ module _ (slots : List (Option Protocol)) where
   pub more : (i : ℕ) (path : List ℕ) (local : Option ℕ) → i < length path → local ≡ local_above (protocol_in slots (slice_index path i)) → locals_in slots (take (i + 1) path) ≡ locals_in slots (take i path) ++ one_local local
   more i path local lt is =
       ap (λ n. locals_in slots (take n path)) (let one : i + 1 ≡ suc i = omega arith in one) ∙ one_more i path lt ∙ ap (λ o. locals_in slots (take i path) ++ one_local o) (sym is)
-
--- what is known of a protocol that is active has its local index
-active_local : (journal : Journal) (identifier : ProtocolIdentifier) (known : Protocol) → active_protocol journal identifier ≡ Some known → known.local ≡ local_index journal (index_with identifier)
-active_local journal identifier known is = by_test (may_have_row identifier && is_valid (directory_state journal (index_with identifier))) is
-  where
-    by_test : (t : Bool)
-        → cond t (Some (record { identifier = identifier; local = local_index journal (index_with identifier); host = is_on journal (index_with identifier) 7; matrix = is_on journal (index_with identifier) 8 })) None ≡ Some known
-        → known.local ≡ local_index journal (index_with identifier)
-    by_test true some = sym (ap (λ one. one.local) (same_Some _ _ some))
-    by_test false none = absurd (none-some known none)
 
 module _ (journal : Journal) (slots : List (Option Protocol)) (are : AreActiveAfter journal slots) where
   abbrev local_of : ProtocolIdentifier → ℕ

@@ -11,8 +11,7 @@ use Rattle.rm_upper.specs.LayerTable.{LayerTable}
 use Rattle.rm_upper.specs.Standing.{StandsFor}
 use Rattle.rm_upper.specs.Tally.{Tally}
 use Rattle.rm_layer_events.specs.Side.{Reference}
-use Rattle.rm_reversed.specs.Renamed.{renamed, renamed_reference}
-use Rattle.rm_reversed.specs.Reversed.{reversed_layered, reversed_table}
+use Rattle.rm_reversed.specs.Reversed.{reversed_events, reversed_reference, reversed_layered, reversed_table}
 use Rattle.rm_reversed.proofs.SideLemmas.{by_references-of}
 use Rattle.rm_reversed.proofs.StandingLemmas.{stands_for-of}
 use Rattle.rm_layer_tables.specs.Control.{control_set}
@@ -25,13 +24,13 @@ module _ {K G : Type 0} (to : K → K) where
   abbrev pub reversed_layer : Layer K G → Layer K G
   reversed_layer layer = record { control = layer.control; kind = layer.kind; named = λ facts pair. map (λ one. (to one.0, one.1)) (layer.named facts pair) }
 
-  references-of : (tick : ℕ) (path : List ℕ) (named : List (K × G)) → references_to tick path (map (λ one. (to one.0, one.1)) named) ≡ map (renamed_reference to) (references_to tick path named)
+  references-of : (tick : ℕ) (path : List ℕ) (named : List (K × G)) → references_to tick path (map (λ one. (to one.0, one.1)) named) ≡ map (reversed_reference to) (references_to tick path named)
   references-of tick path [] = refl
   references-of tick path (one ∷ named) = ap (λ more. record { key = to one.0; tick = tick; path = path; gain = one.1 } ∷ more) (references-of tick path named)
 
   module _ (layer : Layer K G) (settings : Counting) (row : ℕ) where
     -- a frame names the same keys to a row, each the other way round
-    names-of : (frame : Frame) (journal : Journal) → names_of (reversed_layer layer) settings row frame journal ≡ map (renamed_reference to) (names_of layer settings row frame journal)
+    names-of : (frame : Frame) (journal : Journal) → names_of (reversed_layer layer) settings row frame journal ≡ map (reversed_reference to) (names_of layer settings row frame journal)
     names-of frame journal = by_test (facts.good && is_interface (control_set layer.control journal row 2) facts.interface) facts.ip
       where
         facts : Facts
@@ -40,12 +39,12 @@ module _ {K G : Type 0} (to : K → K) where
         named : Layer K G → Bool → Option IpPair → List (Reference K G)
         named one counts ip = cond counts (references_to (frame.moment / 10) (locals_above_ip journal facts) (named_by one facts ip)) []
 
-        by_test : (counts : Bool) (ip : Option IpPair) → named (reversed_layer layer) counts ip ≡ map (renamed_reference to) (named layer counts ip)
+        by_test : (counts : Bool) (ip : Option IpPair) → named (reversed_layer layer) counts ip ≡ map (reversed_reference to) (named layer counts ip)
         by_test false ip = refl
         by_test true None = refl
         by_test true (Some pair) = references-of (frame.moment / 10) (locals_above_ip journal facts) (layer.named facts pair)
 
-    events-of : (eq : K → K → Bool) (journal : Journal) → seen_events (reversed_layer layer) eq settings journal row ≡ renamed to (seen_events layer eq settings journal row)
+    events-of : (eq : K → K → Bool) (journal : Journal) → seen_events (reversed_layer layer) eq settings journal row ≡ reversed_events to (seen_events layer eq settings journal row)
     events-of eq journal = by_references-of to (side_of layer settings row) (names_of (reversed_layer layer) settings row) names-of journal
 
 -- The rows after a journal, with each key told the other way round, are those of what is counted so.

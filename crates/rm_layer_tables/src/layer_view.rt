@@ -30,7 +30,7 @@ pub trait LayerView {
     /// What network rows count.
     type Counts: LayerCounts;
 
-    /// What has the rows of a part.
+    /// What shows the rows of a part: by their keys (`HeldTable`), or by these reversed (`TwoOrders`).
     type Rows: LayerRows<Key = Self::Key, Counts = Self::Counts>;
 
     /// The rows of a part, as they are shown.

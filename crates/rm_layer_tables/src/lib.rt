@@ -7,6 +7,7 @@ mod address_pair;
 mod beginning;
 mod by_application;
 mod by_network;
+mod counted_frame;
 mod held_rows;
 mod held_table;
 mod layer_columns;
@@ -25,6 +26,7 @@ mod two_orders;
 
 pub use by_application::ByApplication;
 pub use by_network::ByNetwork;
+pub use counted_frame::CountedFrame;
 pub use held_table::HeldTable;
 pub use layer_columns::{LAYER_NUMBERS, LayerColumns, LayerControl};
 pub use layer_key::LayerKey;

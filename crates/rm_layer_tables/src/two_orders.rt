@@ -1,5 +1,5 @@
 // The rows of a control row, which are shown in two orders of their keys.
-ghost use Rattle.std.specs.Prelude.{◌≡◌, ◌∷◌, ◌+◌, ◌<◌, ◌≤◌, ◌^◌, List, ℕ, true, false};
+ghost use Rattle.std.specs.Prelude.{◌≡◌, ◌∷◌, ◌+◌, ◌<◌, ◌≤◌, ◌^◌, List, [], ℕ, IfOk, true, false};
 ghost use Rattle.rm_val.specs.Val.{int};
 ghost use Rattle.rm_model.specs.Counting.{Counting};
 ghost use Rattle.rm_model.specs.Journal.{Act, Assignments, Journal, assigns};
@@ -48,7 +48,9 @@ impl<K: Reversible, N: LayerCounts> TwoOrders<K, N> {
     ghost use Rattle.rm_upper.specs.Standing.{StandsFor};
 
     /// No rows, with storage for 1024 network rows. NoMemory where there is none.
-    pub fn spare(alloc: Global) -> Result<TwoOrders<K, N>, NoMemory> {
+    pub fn spare(alloc: Global) -> Result<TwoOrders<K, N>, NoMemory>
+        ensures none { IfOk result (λ rows. rows.layered.table.rows ≡ []) }
+    {
         let first = HeldTable::spare(alloc)?;
         let reverse = OrderedKeys::new(alloc, MOST_ROWS)?;
         Ok(TwoOrders { first, reverse })

@@ -1,15 +1,21 @@
-// The directory and the tables that count by it, as one group of objects: what the pairs of them do.
-use crate::protocol_tables::{Groups, ProtocolTables};
+// The directory and the tables that count by it, as one group of objects. Where more than one had a variable of a name, the first one's would count.
+use crate::protocol_tables::ProtocolTables;
+use rm_collect::{Collecting, complete};
+use rm_dir::Directory;
+use rm_dist::Distribution;
+use rm_four::{lowest_verdict, nearer_in};
 use rm_group::{
     Assigns, Commits, Denied, Group, Look, NeverDue, Objects, Passing, Readable, Steps, Stores,
     Unfired,
 };
+use rm_hl_hosts::HostPart;
+use rm_hl_matrices::PairPart;
 use rm_layer_tables::locals_above_ip;
 use rm_model::Verdict;
 use rm_val::{Oid, Value};
 use std::alloc::Global;
 
-#[tactic(auto, unfolding(crate::specs::Group::Stands, crate::specs::Group::protocol_cells, crate::specs::Group::protocol_alone, crate::specs::Group::protocol_together))]
+#[tactic(auto, unfolding(crate::specs::Group::protocol_cells, crate::specs::Group::protocol_alone, crate::specs::Group::protocol_together))]
 impl Group for ProtocolTables {
     ghost use Rattle.rm_protocols.specs.Group.{Stands, AreFine, protocol_cells, protocol_alone, protocol_together, frames_given, last_given};
     ghost use Rattle.rm_protocols.specs.Laws.{all_finite};
@@ -18,7 +24,7 @@ impl Group for ProtocolTables {
 
     ghost clock = { last_given };
 
-    ghost askable = { λ s moment. ((Unit {0} × Unit {0}) × Unit {0}) × Unit {0} };
+    ghost askable = { λ s moment. Unit {0} };
 
     ghost frames = { frames_given };
 
@@ -33,27 +39,49 @@ impl Group for ProtocolTables {
     ghost finite = { all_finite };
 
     fn least() -> &'static [u32] {
-        Groups::least()
+        let protocols = Directory::least().min(Distribution::least());
+        let with_hosts = protocols.min(Collecting::<HostPart>::least());
+        with_hosts.min(Collecting::<PairPart>::least())
     }
 
     fn cell(&self, name: &Oid, now: u32) -> Option<Value<'_>> {
-        self.groups.cell(name, now)
+        if let Some(value) = self.directory.cell(name, now) {
+            return Some(value);
+        }
+        if let Some(value) = self.distribution.cell(name, now) {
+            return Some(value);
+        }
+        if let Some(value) = self.hosts.cell(name, now) {
+            return Some(value);
+        }
+        self.pairs.cell(name, now)
     }
 
     fn after(&self, name: &Oid, now: u32, out: &mut Oid) -> Option<Value<'_>> {
-        self.groups.after(name, now, out)
+        let directory = self.directory.after(name, now, out);
+        let protocols = nearer_in(directory, &self.distribution, name, now, out);
+        let with_hosts = nearer_in(protocols, &self.hosts, name, now, out);
+        nearer_in(with_hosts, &self.pairs, name, now, out)
     }
 
     fn judge_alone<A: Assigns>(&self, set: &A) -> Verdict {
-        self.groups.judge_alone(set)
+        let directory = self.directory.judge_alone(set);
+        let distribution = self.distribution.judge_alone(set);
+        let hosts = self.hosts.judge_alone(set);
+        let pairs = self.pairs.judge_alone(set);
+        lowest_verdict(directory, distribution, hosts, pairs)
     }
 
     fn judge_rows<A: Assigns, L: Look>(&self, set: &A, now: u32, look: &L) -> Verdict {
-        self.groups.judge_rows(set, now, look)
+        let directory = self.directory.judge_rows(set, now, look);
+        let distribution = self.distribution.judge_rows(set, now, look);
+        let hosts = self.hosts.judge_rows(set, now, look);
+        let pairs = self.pairs.judge_rows(set, now, look);
+        lowest_verdict(directory, distribution, hosts, pairs)
     }
 }
 
-#[tactic(auto, unfolding(crate::specs::Group::Stands, crate::specs::Group::ProtocolReserves))]
+#[tactic(auto, unfolding(crate::specs::Group::ProtocolReserves))]
 impl Stores for ProtocolTables {
     ghost use Rattle.rm_protocols.specs.Group.{ArePrepared, IsStocked, AreReleased, ProtocolReserves};
 
@@ -72,18 +100,30 @@ impl Stores for ProtocolTables {
         now: u32,
         look: &L,
     ) -> Result<(), Denied> {
-        self.groups.prepare(alloc, set, now, look)
+        self.hosts.prepare(alloc, set, now, look)?;
+        let pairs = self.pairs.prepare(alloc, set, now, look);
+        if pairs.is_err() {
+            self.hosts.discard();
+        }
+        pairs
     }
 
     fn discard(&mut self) {
-        self.groups.discard();
+        self.hosts.discard();
+        self.pairs.discard();
     }
 }
 
-#[tactic(auto, unfolding(crate::specs::Group::Stands))]
+// What counts by the directory begins a Set before the directory does it, and completes it then.
 impl Commits for ProtocolTables {
     fn commit<A: Assigns>(&mut self, set: &A, now: u32) {
-        self.groups.commit(set, now);
+        self.distribution.assign(set, now);
+        self.hosts.assign(set, now);
+        self.pairs.assign(set, now);
+        self.directory.commit(set, now);
+        self.distribution.sift(&self.directory);
+        complete(&mut self.hosts, &self.directory);
+        complete(&mut self.pairs, &self.directory);
     }
 }
 
@@ -101,12 +141,15 @@ impl Objects for ProtocolTables {
     ghost refused = { all_refused };
 
     fn has_object(name: &Oid) -> bool {
-        Groups::has_object(name)
+        Directory::has_object(name)
+            || Distribution::has_object(name)
+            || Collecting::<HostPart>::has_object(name)
+            || Collecting::<PairPart>::has_object(name)
     }
 }
 
 // Alarms may sample the distribution, and nothing else.
-#[tactic(auto, unfolding(crate::specs::Group::Stands, crate::specs::Group::distributed_cells))]
+#[tactic(auto, unfolding(crate::specs::Group::distributed_cells))]
 impl Readable for ProtocolTables {
     ghost use Rattle.rm_protocols.specs.Group.{distributed_cells, shown};
     ghost use Rattle.rm_protocols.specs.Laws.{all_recurring};
@@ -116,35 +159,30 @@ impl Readable for ProtocolTables {
     ghost shown = { λ s now. shown s };
 
     fn value(&self, name: &Oid, now: u32) -> Option<Value<'_>> {
-        self.groups.first.first.value(name, now)
+        self.distribution.value(name, now)
     }
 
     fn shows(&self, now: u32) {
-        self.groups.first.first.shows(now);
+        self.distribution.shows(now);
     }
 
     ghost recurring = { all_recurring };
 }
 
 // A frame counts by the protocols that are active before it, and makes no difference to the directory itself.
-#[tactic(auto, unfolding(crate::specs::Group::Stands))]
 impl Unfired for ProtocolTables {
     fn take_frame(&mut self, passing: &Passing<'_>) {
         let facts = &passing.facts;
-        let distributed = &mut self.groups.first.first;
-        let above_ip = locals_above_ip(&distributed.first, facts);
-        distributed
-            .second
-            .frame(&distributed.first, facts, passing.moment);
-        distributed.first.pass(passing);
+        let above_ip = locals_above_ip(&self.directory, facts);
+        self.distribution
+            .frame(&self.directory, facts, passing.moment);
+        self.directory.pass(passing);
         let path = above_ip.as_slice();
-        let hosts = &mut self.groups.first.second.collecting;
-        hosts.take_judged(path, passing);
-        let pairs = &mut self.groups.second.collecting;
-        pairs.take_judged(path, passing);
+        self.hosts.take_judged(path, passing);
+        self.pairs.take_judged(path, passing);
     }
 }
 
 impl NeverDue for ProtocolTables {
-    ghost always_asked = { λ s moment. (((tt, tt), tt), tt) };
+    ghost always_asked = { λ s moment. tt };
 }

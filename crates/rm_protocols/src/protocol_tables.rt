@@ -4,10 +4,10 @@ ghost use Rattle.rm_model.specs.Counting.{Counting};
 ghost use Rattle.rm_model.specs.Journal.{Journal, last_moment, samples};
 ghost use Rattle.rm_protocols.specs.Group.{Stands, IsStocked, frames_given, last_given};
 
-use rm_collect::{Collecting, CollectingBeside};
+use rm_collect::Collecting;
 use rm_dir::Directory;
 use rm_dist::Distribution;
-use rm_group::{Both, sample_begins};
+use rm_group::sample_begins;
 use rm_hl_hosts::HostPart;
 use rm_hl_matrices::PairPart;
 use rm_layer_slots::TableKind;
@@ -16,15 +16,6 @@ use rm_settings::Settings;
 use rm_val::NoMemory;
 use std::alloc::Global;
 
-/// The directory, with the distribution and the hosts; and beside all of these the pairs of hosts of the network and application layer.
-pub(crate) type Groups = Both<WithHosts, CollectingBeside<PairPart>>;
-
-/// The directory and the distribution, and beside both the hosts of the network and application layer.
-type WithHosts = Both<Distributed, CollectingBeside<HostPart>>;
-
-/// The directory, and beside it the distribution.
-type Distributed = Both<Directory, Distribution>;
-
 /// The directory of the protocols that the probe knows, and what counts by it (RFC 2021, section 6): protocolDirTable with
 /// protocolDirLastChange; protocolDistControlTable with protocolDistStatsTable; hlHostControlTable with nlHostTable and alHostTable;
 /// hlMatrixControlTable with nlMatrixSDTable, nlMatrixDSTable, alMatrixSDTable and alMatrixDSTable. A frame counts by the protocols that are
@@ -32,13 +23,17 @@ type Distributed = Both<Directory, Distribution>;
 /// these.
 #[derive(Drop)]
 pub struct ProtocolTables {
-    pub(crate) groups: Groups,
+    pub(crate) directory: Directory,
+    pub(crate) distribution: Distribution,
+    // The hosts of the network and application layer.
+    pub(crate) hosts: Collecting<HostPart>,
+    // The pairs of these hosts.
+    pub(crate) pairs: Collecting<PairPart>,
 }
 
 impl ProtocolTables {
     /// The tables of a probe that is set so, before the first frame: the built-in rows of the directory, and no row of the others. They have
     /// no storage.
-    #[tactic(auto, unfolding(crate::specs::Group::Stands))]
     pub fn new(settings: &Settings) -> ProtocolTables
         ensures stands { (counting : Counting) → counting.upper ≡ settings.now.upper → Stands result counting [] }
         ensures frames { frames_given result ≡ 0 }
@@ -50,16 +45,10 @@ impl ProtocolTables {
         let hosts = Collecting::new(host_shared);
         let pairs = Collecting::new(pair_shared);
         ProtocolTables {
-            groups: Both {
-                first: Both {
-                    first: Both {
-                        first: directory,
-                        second: Distribution::new(),
-                    },
-                    second: CollectingBeside { collecting: hosts },
-                },
-                second: CollectingBeside { collecting: pairs },
-            },
+            directory,
+            distribution: Distribution::new(),
+            hosts,
+            pairs,
         }
     }
 
@@ -71,8 +60,8 @@ impl ProtocolTables {
         ensures frames { frames_given self.new ≡ frames_given self.old }
         ensures last { last_given self.new ≡ last_given self.old }
     {
-        self.groups.first.second.collecting.reserve(alloc)?;
-        self.groups.second.collecting.reserve(alloc)
+        self.hosts.reserve(alloc)?;
+        self.pairs.reserve(alloc)
     }
 
     /// A law: the sample of an alarm at a moment in milliseconds, which isn't below that of the last act, makes no difference to the tables. It
@@ -81,11 +70,9 @@ impl ProtocolTables {
         ensures { (settings : Counting) (earlier : Journal) (alarm : ℕ) (reading : Option ℤ) → Stands self.now settings earlier
             → last_moment earlier ≤ moment → Stands self.now settings (samples moment alarm reading ∷ earlier) }
     {
-        let with_hosts = &self.groups.first;
-        let distributed = &with_hosts.first;
-        sample_begins(&distributed.first, moment);
-        distributed.second.sample_begins(moment);
-        with_hosts.second.collecting.sample_begins(moment);
-        self.groups.second.collecting.sample_begins(moment);
+        sample_begins(&self.directory, moment);
+        self.distribution.sample_begins(moment);
+        self.hosts.sample_begins(moment);
+        self.pairs.sample_begins(moment);
     }
 }

@@ -1,5 +1,5 @@
 use Rattle.rm_evicting.proofs.Keys.{exact_key}
-use Rattle.rm_reversed.proofs.KeyLemmas.{alike_of}
+use Rattle.rm_order.proofs.ReversedLemmas.{alike_of}
 use Rattle.rm_layer_tables.proofs.SoundLemmas.{sound-of}
 use Rattle.rm_layer_tables.proofs.reversed_rows.TwoOrdersLayerRows.are_sound.Goals as goal
 

@@ -1,6 +1,6 @@
 use Rattle.std.proofs.Common.{sym, ◌∙◌}
 use Rattle.rm_evicting.proofs.Keys.{exact_key}
-use Rattle.rm_reversed.proofs.KeyLemmas.{alike_of}
+use Rattle.rm_order.proofs.ReversedLemmas.{alike_of}
 use Rattle.rm_reversed.proofs.RowLemmas.{network_in-of}
 use Rattle.rm_layer_tables.proofs.reversed_rows.TwoOrdersLayerRows.network.Goals as goal
 

@@ -1,7 +1,7 @@
 use Rattle.std.specs.Ordering.{nat_cmp}
 use Rattle.rm_evicting.proofs.Keys.{exact_key}
 use Rattle.rm_layers.specs.Marks.{IsAboveName}
-use Rattle.rm_reversed.proofs.KeyLemmas.{alike_of}
+use Rattle.rm_order.proofs.ReversedLemmas.{alike_of}
 use Rattle.rm_reversed.proofs.RowLemmas.{next_in-of}
 use Rattle.rm_layer_tables.proofs.two_orders.TwoOrdersRowOrder.next_in.Goals as goal
 

@@ -1,5 +1,5 @@
 use Rattle.rm_evicting.proofs.Keys.{exact_key}
-use Rattle.rm_reversed.proofs.KeyLemmas.{alike_of}
+use Rattle.rm_order.proofs.ReversedLemmas.{alike_of}
 use Rattle.rm_reversed.proofs.RowLemmas.{stands_at-of}
 use Rattle.rm_layer_tables.proofs.two_orders.TwoOrdersRowOrder.stands_at.Goals as goal
 

@@ -2,7 +2,6 @@ use Rattle.std.proofs.Common.{rules, sym, ap, ◌∙◌}
 use Rattle.rm_hl_hosts.specs.Collection.{host_collection}
 use Rattle.rm_hl_matrices.specs.Collection.{pair_collection}
 use Rattle.rm_layer_tables.specs.Layer.{locals_above_ip}
-use Rattle.rm_protocols.specs.Group.{Stands}
 use Rattle.rm_protocols.proofs.group.ProtocolTablesUnfired.take_frame.Goals as goal
 
 pub take_judged-requires : goal.take_judged-requires
@@ -14,18 +13,11 @@ unfolding pair_collection
 take_judged-requires-2 c = (search rules, (search rules, (search rules, (search rules, tt))))
 
 pub returns-clause-stands : goal.returns-clause-stands
-unfolding Stands host_collection pair_collection
+unfolding host_collection pair_collection
 returns-clause-stands c settings earlier frame is stands later asked =
-    let path = c.as_slice-path.ensures.value ∙ c.locals_above_ip-above_ip.ensures earlier stands.first.first.first ∙ ap (locals_above_ip earlier) is.known in record {
-      first = record {
-        first = record {
-          first = c.pass.ensures.begins settings earlier frame is stands.first.first.first later tt;
-          second = c.frame.ensures.stands settings earlier frame stands.first.first.first stands.first.first.second is.known (sym is.at);
-          tied = tt;
-        };
-        second = c.take_judged.ensures.stands settings earlier frame stands.first.second is path;
-        tied = tt;
-      };
-      second = c.take_judged-2.ensures.stands settings earlier frame stands.second is path;
-      tied = tt;
+    let path = c.as_slice-path.ensures.value ∙ c.locals_above_ip-above_ip.ensures earlier stands.directory ∙ ap (locals_above_ip earlier) is.known in record {
+      directory = c.pass.ensures.begins settings earlier frame is stands.directory later tt;
+      distribution = c.frame.ensures.stands settings earlier frame stands.directory stands.distribution is.known (sym is.at);
+      hosts = c.take_judged.ensures.stands settings earlier frame stands.hosts is path;
+      pairs = c.take_judged-2.ensures.stands settings earlier frame stands.pairs is path;
     }

@@ -1,6 +1,0 @@
-use Rattle.rm_hl_matrices.specs.Collection.{pair_collection}
-use Rattle.rm_hl_matrices.proofs.pairs.PairPartByOther.shared_by.Goals as goal
-
-pub returns : goal.returns
-unfolding pair_collection
-returns g c settings earlier later shared stands = c.by.ensures settings later shared.upper (c.directory.ensures settings later stands)

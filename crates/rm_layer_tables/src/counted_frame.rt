@@ -1,0 +1,18 @@
+// A frame that the rows of a control table count.
+ghost use Rattle.std.specs.Prelude.{◌+◌, ◌<◌, ◌^◌};
+
+use rm_proto::Facts;
+
+/// A frame that each active control row counts. It has two stamps, since it may name two keys.
+#[derive(Drop)]
+pub struct CountedFrame<'a> {
+    /// What is known of it.
+    pub facts: &'a Facts,
+    /// The local indexes of the protocols above ip on its path.
+    pub path: &'a [u32],
+    /// The moment at which it passed, in milliseconds.
+    pub moment: u32,
+    /// The first of its two stamps.
+    pub stamp: u64,
+    ghost fits: { stamp + 1 < 2 ^ 58 },
+}
