@@ -8,7 +8,7 @@ pub sources_askable : (keeps : Groups) (moment : ℕ) → all_groups.askable kee
 sources_askable keeps moment asked = asked.1.1.0
 
 pub by_collectors : (keeps : Groups) (moment : ℕ) → IsAskable (collectors_of keeps) moment → all_groups.askable keeps moment
-by_collectors keeps moment asked = (tt, (tt, (((tt, asked), ((((tt, tt), tt), tt), (tt, tt))), tt)))
+by_collectors keeps moment asked = (tt, (tt, (((tt, asked), (tt, (tt, tt))), tt)))
 
 -- so they may be while these stay the same
 pub still_askable : (keeps then : Groups) (moment : ℕ) → collectors_of then ≡ collectors_of keeps → all_groups.askable keeps moment → all_groups.askable then moment

@@ -5,7 +5,7 @@ use Rattle.std.proofs.lemmas.Option.{same_Some}
 use Rattle.rm_acts.specs.Alarms.{due_of, IsNextDue}
 use Rattle.rm_alarm.proofs.NextDue.{due_is}
 use Rattle.rm_alarm.specs.Group.{due_in}
-use Rattle.rm_collectors.specs.Group.{FallsDue as ReportsFallDue, ended_by, reports_of}
+use Rattle.rm_collectors.specs.Group.{FallsDue as ReportsFallDue, ended_by}
 use Rattle.rm_collectors.specs.Laws.{all_asked, ends_are}
 use Rattle.rm_group.specs.Due.{ComesFirst, HaveEnded, IsFirst}
 use Rattle.rm_group.specs.declared.due.Due.{Due}
@@ -27,7 +27,7 @@ module _ (groups : Groups) (settings : Counting) (journal : Journal) (stands : G
   abbrev ended_of : ℕ
   ended_of = ended_by (collectors_of groups) journal
 
-  end_is : (row : ℕ) → end_in (reports_of (collectors_of groups)).courses row ≡ end_after ended_of journal row
+  end_is : (row : ℕ) → end_in (collectors_of groups).reports.courses row ≡ end_after ended_of journal row
   unfolding SourcesStand
   end_is = ends_are (collectors_of groups) settings journal stands.second.second.first.first.second
 

@@ -5,22 +5,25 @@ ghost use Rattle.rm_model.specs.Journal.{Journal};
 ghost use Rattle.rm_topn.specs.Due.{HasEnded};
 ghost use Rattle.rm_collectors.specs.Group.{Stands, IsAskable, IsStocked, IsSetTo, FallsDue, frames_given, last_given, left_of};
 
-use rm_group::Both;
-use rm_reported::Reported;
+use rm_history::History;
+use rm_hosts::{HostRoom, Hosts};
+use rm_matrix::{Matrix, MatrixRoom};
 use rm_settings::Settings;
-use rm_traffic::Traffic;
+use rm_topn::Reports;
 use rm_val::NoMemory;
 use std::alloc::Global;
 
-/// The history with the matrix, and the hosts with their reports. Each is a type of its own, and no pair: each level of pairs makes what
-/// stands over them longer to prove.
-pub(crate) type Groups = Both<Traffic, Reported>;
-
-/// The control tables whose valid rows collect what frames bring, with what they have collected: those of the history, of the hosts, of
-/// the reports of hosts, and of the matrix (RFC 1757, section 5). It may be asked at a moment where the reports that are due have ended.
+/// The control tables whose valid rows collect what frames bring, with what they have collected (RFC 1757, section 5): historyControlTable
+/// with etherHistoryTable; matrixControlTable with matrixSDTable and matrixDSTable; hostControlTable with hostTable and hostTimeTable;
+/// hostTopNControlTable with hostTopNTable. It may be asked at a moment where the reports that are due have ended.
 #[derive(Drop)]
 pub struct Collectors {
-    pub(crate) groups: Groups,
+    pub(crate) history: History,
+    // The pairs of hosts.
+    pub(crate) matrix: Matrix,
+    pub(crate) hosts: Hosts,
+    // The reports of the hosts that gained most, beside the hosts.
+    pub(crate) reports: Reports,
 }
 
 impl Collectors {
@@ -30,11 +33,18 @@ impl Collectors {
         ensures last { last_given result ≡ 0 }
         ensures frames { frames_given result ≡ 0 }
     {
+        let history = History::new(());
+        let matrix = Matrix::new(MatrixRoom {
+            pairs: settings.pairs,
+        });
+        let hosts = Hosts::new(HostRoom {
+            hosts: settings.hosts,
+        });
         Collectors {
-            groups: Both {
-                first: Traffic::new(settings),
-                second: Reported::new(settings),
-            },
+            history,
+            matrix,
+            hosts,
+            reports: Reports::new(),
         }
     }
 
@@ -46,8 +56,10 @@ impl Collectors {
         ensures last { last_given self.new ≡ last_given self.old }
         ensures frames { frames_given self.new ≡ frames_given self.old }
     {
-        self.groups.first.reserve(alloc)?;
-        self.groups.second.reserve(alloc)
+        self.history.reserve(alloc)?;
+        self.matrix.reserve(alloc)?;
+        self.hosts.reserve(alloc)?;
+        self.reports.reserve(alloc)
     }
 
     /// Ends the reports that are due up to a moment, in milliseconds. The tables may then be asked at that moment. It takes no memory.
@@ -59,6 +71,6 @@ impl Collectors {
         ensures last { last_given self.new ≤ max (last_given self.old) moment }
         ensures frames { frames_given self.new ≡ frames_given self.old }
     {
-        self.groups.second.end_by(moment);
+        self.reports.end_by(&self.hosts, moment);
     }
 }

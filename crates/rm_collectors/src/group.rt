@@ -1,14 +1,19 @@
-// The control tables whose valid rows collect, as one group of objects: what the pair of their groups does.
-use crate::collectors::{Collectors, Groups};
+// The control tables whose valid rows collect, as one group of objects. Where more than one had a variable of a name, the first one's would count.
+use crate::collectors::Collectors;
+use rm_four::{lowest_verdict, nearer_in};
 use rm_group::{
-    Assigns, Commits, Denied, Due, FallsDue, Group, Look, Objects, Passing, Readable, Steps,
+    Assigns, Beside, Commits, Denied, Due, FallsDue, Group, Look, Objects, Passing, Readable,
     Stores, Unfired, Unsampled,
 };
+use rm_history::History;
+use rm_hosts::Hosts;
+use rm_matrix::Matrix;
 use rm_model::Verdict;
+use rm_topn::Reports;
 use rm_val::{Oid, Value};
 use std::alloc::Global;
 
-#[tactic(auto, unfolding(crate::specs::Group::Stands, crate::specs::Group::collected_cells, crate::specs::Group::collected_alone, crate::specs::Group::collected_together))]
+#[tactic(auto, unfolding(crate::specs::Group::collected_cells, crate::specs::Group::collected_alone, crate::specs::Group::collected_together))]
 impl Group for Collectors {
     ghost use Rattle.rm_collectors.specs.Group.{Stands, IsAskable, AreFine, collected_cells, collected_alone, collected_together, frames_given, last_given};
     ghost use Rattle.rm_collectors.specs.Laws.{all_finite};
@@ -32,27 +37,49 @@ impl Group for Collectors {
     ghost finite = { all_finite };
 
     fn least() -> &'static [u32] {
-        Groups::least()
+        let of_two = History::least().min(Matrix::least());
+        let of_three = of_two.min(Hosts::least());
+        of_three.min(Reports::least())
     }
 
     fn cell(&self, name: &Oid, now: u32) -> Option<Value<'_>> {
-        self.groups.cell(name, now)
+        if let Some(value) = self.history.cell(name, now) {
+            return Some(value);
+        }
+        if let Some(value) = self.matrix.cell(name, now) {
+            return Some(value);
+        }
+        if let Some(value) = self.hosts.cell(name, now) {
+            return Some(value);
+        }
+        self.reports.cell(name, now)
     }
 
     fn after(&self, name: &Oid, now: u32, out: &mut Oid) -> Option<Value<'_>> {
-        self.groups.after(name, now, out)
+        let history = self.history.after(name, now, out);
+        let of_two = nearer_in(history, &self.matrix, name, now, out);
+        let of_three = nearer_in(of_two, &self.hosts, name, now, out);
+        nearer_in(of_three, &self.reports, name, now, out)
     }
 
     fn judge_alone<A: Assigns>(&self, set: &A) -> Verdict {
-        self.groups.judge_alone(set)
+        let history = self.history.judge_alone(set);
+        let matrix = self.matrix.judge_alone(set);
+        let hosts = self.hosts.judge_alone(set);
+        let reports = self.reports.judge_alone(set);
+        lowest_verdict(history, matrix, hosts, reports)
     }
 
     fn judge_rows<A: Assigns, L: Look>(&self, set: &A, now: u32, look: &L) -> Verdict {
-        self.groups.judge_rows(set, now, look)
+        let history = self.history.judge_rows(set, now, look);
+        let matrix = self.matrix.judge_rows(set, now, look);
+        let hosts = self.hosts.judge_rows(set, now, look);
+        let reports = self.reports.judge_beside(&self.hosts, set, now, look);
+        lowest_verdict(history, matrix, hosts, reports)
     }
 }
 
-#[tactic(auto, unfolding(crate::specs::Group::Stands, crate::specs::Group::CollectedReserves))]
+#[tactic(auto, unfolding(crate::specs::Group::CollectedReserves))]
 impl Stores for Collectors {
     ghost use Rattle.rm_collectors.specs.Group.{ArePrepared, IsStocked, AreReleased, CollectedReserves};
 
@@ -71,18 +98,42 @@ impl Stores for Collectors {
         now: u32,
         look: &L,
     ) -> Result<(), Denied> {
-        self.groups.prepare(alloc, set, now, look)
+        self.history.prepare(alloc, set, now, look)?;
+        let matrix = self.matrix.prepare(alloc, set, now, look);
+        if matrix.is_err() {
+            self.discard();
+            return matrix;
+        }
+        let hosts = self.hosts.prepare(alloc, set, now, look);
+        if hosts.is_err() {
+            self.discard();
+            return hosts;
+        }
+        let reports = self
+            .reports
+            .prepare_beside(&self.hosts, alloc, set, now, look);
+        if reports.is_err() {
+            self.discard();
+        }
+        reports
     }
 
     fn discard(&mut self) {
-        self.groups.discard();
+        self.history.discard();
+        self.matrix.discard();
+        self.hosts.discard();
+        self.reports.discard();
     }
 }
 
-#[tactic(auto, unfolding(crate::specs::Group::Stands))]
+// The reports that a Set begins take the hosts as they are after it.
 impl Commits for Collectors {
     fn commit<A: Assigns>(&mut self, set: &A, now: u32) {
-        self.groups.commit(set, now);
+        self.reports.begin(&self.hosts, set, now);
+        self.history.commit(set, now);
+        self.matrix.commit(set, now);
+        self.hosts.commit(set, now);
+        self.reports.complete(&self.hosts, now);
     }
 }
 
@@ -100,11 +151,14 @@ impl Objects for Collectors {
     ghost refused = { all_refused };
 
     fn has_object(name: &Oid) -> bool {
-        Groups::has_object(name)
+        History::has_object(name)
+            || Matrix::has_object(name)
+            || Hosts::has_object(name)
+            || Reports::has_object(name)
     }
 }
 
-#[tactic(auto, unfolding(crate::specs::Group::Stands, crate::specs::Group::collected_cells))]
+#[tactic(auto, unfolding(crate::specs::Group::collected_cells, rm_history::specs::Collection::history_collection, rm_sourced::specs::Collection::source_collection))]
 impl Readable for Collectors {
     ghost use Rattle.rm_collectors.specs.Group.{collected_cells, shown};
     ghost use Rattle.rm_collectors.specs.Laws.{all_recurring};
@@ -114,20 +168,34 @@ impl Readable for Collectors {
     ghost shown = { shown };
 
     fn value(&self, name: &Oid, now: u32) -> Option<Value<'_>> {
-        self.groups.value(name, now)
+        if let Some(value) = self.history.value(name, now) {
+            return Some(value);
+        }
+        if let Some(value) = self.matrix.value(name, now) {
+            return Some(value);
+        }
+        if let Some(value) = self.hosts.value(name, now) {
+            return Some(value);
+        }
+        self.reports.value(name, now)
     }
 
     fn shows(&self, now: u32) {
-        self.groups.shows(now);
+        self.history.shows(now);
+        self.matrix.shows(now);
+        self.hosts.shows(now);
+        self.reports.shows(now);
     }
 
     ghost recurring = { all_recurring };
 }
 
-#[tactic(auto, unfolding(crate::specs::Group::Stands))]
 impl Unfired for Collectors {
     fn take_frame(&mut self, passing: &Passing<'_>) {
-        self.groups.pass(passing);
+        self.history.take_frame(passing);
+        self.matrix.take_frame(passing);
+        self.hosts.take_frame(passing);
+        self.reports.take_frame(passing);
     }
 }
 
@@ -147,7 +215,7 @@ impl FallsDue for Collectors {
     ghost left = { left_of };
 
     fn next_due(&self) -> Option<Due> {
-        self.groups.second.next_due()
+        self.reports.next_due()
     }
 
     ghost asked = { all_asked };

@@ -1,5 +1,5 @@
-//! The control tables whose valid rows collect what frames bring, as one group of objects: the history, the hosts with their
-//! reports, and the matrix.
+//! The control tables whose valid rows collect what frames bring, as one group of objects: the history, the matrix, and the hosts with
+//! their reports.
 #![tactic(auto)]
 
 mod collectors;

@@ -7,5 +7,4 @@ pub mod WritableLemmas
 pub mod SetLemmas
 pub mod AcceptedLemmas
 pub mod NumberLemmas
-pub mod SourceNumbers
-pub mod LayerNumbers
+pub mod FigureNumbers

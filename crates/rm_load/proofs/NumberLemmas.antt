@@ -19,6 +19,9 @@ in_three one a b c is = in_front (option_or (option_or one a) b) c (in_front (op
 pub in_four : (one a b c d : Option Val) → IsNumber one → IsNumber (option_or (option_or (option_or (option_or one a) b) c) d)
 in_four one a b c d is = in_three (option_or one a) b c d (in_front one a is)
 
+pub in_five : (one a b c d e : Option Val) → IsNumber one → IsNumber (option_or (option_or (option_or (option_or (option_or one a) b) c) d) e)
+in_five one a b c d e is = in_four (option_or one a) b c d e (in_front one a is)
+
 module _ (table : Journal → Table)
     (made : (table rows_made).is_row (1 ∷ []) ≡ true)
     (goes_on : (frame : Frame) (earlier : Journal) → (table (passes frame ∷ earlier)).is_row (1 ∷ []) ≡ (table earlier).is_row (1 ∷ []))

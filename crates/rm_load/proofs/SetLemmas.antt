@@ -29,8 +29,6 @@ use Rattle.rm_hl_hosts.specs.Control.{control_rows as hl_host_rows}
 use Rattle.rm_hl_hosts.specs.Collection.{host_collection as hl_host_collection}
 use Rattle.rm_hl_matrices.specs.Control.{control_rows as hl_matrix_rows}
 use Rattle.rm_hl_matrices.specs.Collection.{pair_collection}
-use Rattle.rm_traffic.specs.Group.{traffic_objects, traffic_alone, traffic_together, TrafficReserves}
-use Rattle.rm_reported.specs.Group.{reported_objects, reported_alone, reported_together, ReportedReserves}
 use Rattle.rm_collectors.specs.Group.{collected_objects, collected_alone, collected_together, CollectedReserves}
 use Rattle.rm_protocols.specs.Group.{protocol_objects, protocol_alone, protocol_together, ProtocolReserves}
 use Rattle.rm_sources.specs.Group.{source_objects, source_alone, source_together, SourceReserves}
@@ -45,7 +43,7 @@ first_made = assigns 100 (assignments_of first_set) ∷ []
 -- nothing is wrong with a binding alone
 
 pub first_alone : (place : ℕ) → place < length first_set → alone_at (alone_among objects alone) first_set place ≡ None
-unfolding source_rows layer_rows source_objects source_alone collected_objects collected_alone traffic_objects traffic_alone reported_objects reported_alone protocol_objects protocol_alone history_collection source_collection buffer_collection hl_host_collection pair_collection
+unfolding source_rows layer_rows source_objects source_alone collected_objects collected_alone protocol_objects protocol_alone history_collection source_collection buffer_collection hl_host_collection pair_collection
 first_alone zero within = refl
 first_alone (suc zero) within = refl
 first_alone (suc (suc zero)) within = refl
@@ -53,7 +51,7 @@ first_alone (suc (suc (suc zero))) within = refl
 first_alone (suc (suc (suc (suc n)))) within = absurd (omega (arith, within))
 
 pub second_alone : (place : ℕ) → place < length second_set → alone_at (alone_among objects alone) second_set place ≡ None
-unfolding source_rows layer_rows source_objects source_alone collected_objects collected_alone traffic_objects traffic_alone reported_objects reported_alone protocol_objects protocol_alone history_collection source_collection buffer_collection hl_host_collection pair_collection
+unfolding source_rows layer_rows source_objects source_alone collected_objects collected_alone protocol_objects protocol_alone history_collection source_collection buffer_collection hl_host_collection pair_collection
 second_alone zero within = refl
 second_alone (suc zero) within = refl
 second_alone (suc (suc n)) within = absurd (omega (arith, within))
@@ -93,15 +91,15 @@ made_fault table ask crowded = row_fault table (1 ∷ []) Absent ask true crowde
 
 -- Nothing is wrong with a binding together with the others of its row: no other table has its name, and its own isn't crowded.
 pub first_together : (settings : Settings) (place : ℕ) → place < length first_set → together settings [] 100 first_set place ≡ None
-unfolding source_rows layer_rows source_together collected_together traffic_together reported_together protocol_together
+unfolding source_rows layer_rows source_together collected_together protocol_together
 first_together settings zero within = ap (λ (crowded : Bool). option_or (option_or (option_or (made_fault host_rows.table Create crowded) None) None) None) hosts_fit
-first_together settings (suc zero) within = ap (λ (crowded : Bool). option_or (option_or (option_or (made_fault matrix_rows.table Create crowded) None) None) None) pairs_fit
+first_together settings (suc zero) within = ap (λ (crowded : Bool). option_or (option_or (option_or (option_or (made_fault matrix_rows.table Create crowded) None) None) None) None) pairs_fit
 first_together settings (suc (suc zero)) within = ap (λ (crowded : Bool). option_or (option_or (option_or (made_fault hl_host_rows.table CreateValid crowded) None) None) None) hl_hosts_fit
 first_together settings (suc (suc (suc zero))) within = ap (λ (crowded : Bool). option_or (option_or (made_fault hl_matrix_rows.table CreateValid crowded) None) None) hl_pairs_fit
 first_together settings (suc (suc (suc (suc n)))) within = absurd (omega (arith, within))
 
 pub second_together : (settings : Settings) (place : ℕ) → place < length second_set → together settings first_made 200 second_set place ≡ None
-unfolding source_rows layer_rows source_together collected_together traffic_together reported_together protocol_together
+unfolding source_rows layer_rows source_together collected_together protocol_together
 second_together settings zero within = refl
 second_together settings (suc zero) within = refl
 second_together settings (suc (suc n)) within = absurd (omega (arith, within))
@@ -163,18 +161,18 @@ module _ (index : ℕ) where
       (by_row (λ row. is_valid (state_after matrix_rows.table (rows_after matrix_rows.table no_rows first_made) second_set (row ∷ []))) refl (λ row other. rw other refl))
 
   pub first_reserves_none : Reserves [] first_set index → ⊥
-  unfolding source_rows SourceReserves CollectedReserves TrafficReserves ReportedReserves ProtocolReserves
+  unfolding source_rows SourceReserves CollectedReserves ProtocolReserves
   first_reserves_none =
-      let collected = neither (neither (first_inactive history_rows.table refl refl refl refl) (first_inactive matrix_rows.table refl refl refl refl))
-      (neither (first_inactive host_rows.table refl refl refl refl) (first_inactive top_control refl refl refl refl)) in
-      let protocols = neither (neither (neither none none) first_hl_hosts) first_hl_pairs in
+      let collected = neither (first_inactive history_rows.table refl refl refl refl) (neither (first_inactive matrix_rows.table refl refl refl refl)
+      (neither (first_inactive host_rows.table refl refl refl refl) (first_inactive top_control refl refl refl refl))) in
+      let protocols = neither first_hl_hosts first_hl_pairs in
       let channels = neither none (first_inactive buffer_rows.table refl refl refl refl) in
       neither none (neither (first_inactive event_table refl refl refl refl) (neither (neither (neither none collected) (neither protocols channels)) none))
 
   pub second_reserves_none : Reserves first_made second_set index → ⊥
-  unfolding source_rows layer_rows SourceReserves CollectedReserves TrafficReserves ReportedReserves ProtocolReserves
+  unfolding source_rows layer_rows SourceReserves CollectedReserves ProtocolReserves
   second_reserves_none =
-      let collected = neither (neither (second_inactive history_rows.table refl refl) second_pairs) (neither second_hosts (second_inactive top_control refl refl)) in
-      let protocols = neither (neither (neither none none) (second_inactive hl_host_rows.table refl refl)) (second_inactive hl_matrix_rows.table refl refl) in
+      let collected = neither (second_inactive history_rows.table refl refl) (neither second_pairs (neither second_hosts (second_inactive top_control refl refl))) in
+      let protocols = neither (second_inactive hl_host_rows.table refl refl) (second_inactive hl_matrix_rows.table refl refl) in
       let channels = neither none (second_inactive buffer_rows.table refl refl) in
       neither none (neither (second_inactive event_table refl refl) (neither (neither (neither none collected) (neither protocols channels)) none))

@@ -49,7 +49,7 @@ pub record IsUnderWay (held : Sources) (settings : Counting) (act : Act) (earlie
 
 -- it may be asked at a moment where the reports of hosts that are due have ended, and the others may always be asked
 abbrev pub IsAskable : Sources → (moment : ℕ) → Type 0
-IsAskable held moment = (Unit {0} × AreCollectorsAskable (collectors_of held) moment) × ((((Unit {0} × Unit {0}) × Unit {0}) × Unit {0}) × (Unit {0} × Unit {0}))
+IsAskable held moment = (Unit {0} × AreCollectorsAskable (collectors_of held) moment) × (Unit {0} × (Unit {0} × Unit {0}))
 
 -- What falls due is the end of a report of hosts that runs, and so many are left that end up to a moment.
 abbrev pub FallsDue : Sources → Due → Type 0

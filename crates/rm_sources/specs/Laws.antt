@@ -89,4 +89,4 @@ all_refused =
 pub all_asked : (held : Sources) (moment : ℕ) → IsAskable held moment ↔ HaveEnded (FallsDue held) moment
 all_asked held moment =
     let asked = collectors_asked (collectors_of held) moment in
-    (λ may. asked.0 may.0.1, λ ended. ((tt, asked.1 ended), ((((tt, tt), tt), tt), (tt, tt))))
+    (λ may. asked.0 may.0.1, λ ended. ((tt, asked.1 ended), (tt, (tt, tt))))
