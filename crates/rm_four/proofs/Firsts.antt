@@ -19,10 +19,6 @@ module _ {A : Type 0} where
       let third = neither (option_or one two) three last.0 in
       ((neither one two third.0, third.1), last.1)
 
-  -- where the first three have none, it is that of the fourth
-  pub of_fourth : (one two three four : Option A) → one ≡ None → two ≡ None → three ≡ None → first_of one two three four ≡ four
-  of_fourth one two three four no_first no_second no_third = rw (no_first, no_second, no_third) refl
-
 -- where nothing is wrong with a binding alone by four together, nothing is by one of them
 pub fine_alone : (one two three four : List ℕ → Val → Option ErrorStatus) (bindings : Bindings)
     → AreFineAlone (λ name value. first_of (one name value) (two name value) (three name value) (four name value)) bindings

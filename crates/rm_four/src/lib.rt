@@ -1,8 +1,8 @@
 //! Four groups of objects as one: what a type makes of them that has each of them by its name.
 #![tactic(auto)]
 
+mod least;
 mod lowest;
-mod nearer;
 
+pub use least::least_of;
 pub use lowest::lowest_verdict;
-pub use nearer::nearer_in;

@@ -1,6 +1,6 @@
 -- Cells that begin at a name, and the next one of two lots of cells.
-use Rattle.std.proofs.Common.{◌≡◌, ℕ, List, [], ◌∷◌, ◌++◌, refl, sym, ◌∙◌, ap, subst, Bool, true, false, cond, Option, Some, None, nat_eq, nat_lt, arith}
-use Rattle.std.specs.Prelude.{is_some, IsTrue}
+use Rattle.std.proofs.Common.{◌≡◌, ℕ, List, [], ◌∷◌, refl, sym, ◌∙◌, subst, true, false, cond, Option, Some, None, option_map, nat_eq, nat_lt, arith}
+use Rattle.std.specs.Prelude.{is_some}
 use Rattle.std.specs.Option.{option_or}
 use Rattle.std.specs.Ordering.{nat_cmp, ordering_then, is_lt}
 use Rattle.std.specs.declared.cmp.Ordering.TheVariants.{Less, Equal, Greater}
@@ -9,8 +9,8 @@ use Rattle.std.proofs.lemmas.Bool.Decides.{nat_tests}
 use Rattle.std.proofs.lemmas.Cmp.{nat_list_cmp_total}
 use Rattle.std.proofs.lemmas.Map.Lookups.{exact_bytes}
 use Rattle.rm_val.specs.Val.{Val}
-use Rattle.rm_model.specs.Names.{Below, IsLeastAbove}
-use Rattle.rm_model.specs.Cells.{Cells, has_cell, IsNext, Table, cells_of, cell_at, instance_left, behind}
+use Rattle.rm_model.specs.Names.{Below}
+use Rattle.rm_model.specs.Cells.{Cells, has_cell, IsNext, Table, cells_of, behind}
 use Rattle.rm_model.proofs.Next.{below_of_greater}
 use Rattle.rm_group.specs.Least.{AreFrom}
 
@@ -72,6 +72,13 @@ module _ (cells others : Cells) where
   second_before asked found least value next under from =
       let over = second_of_none (cells found) (others found) (from found under) in
       ((next.0.0, rw over next.0.1, λ name above before. neither name (from name (below_further name found least before under)) (next.0.2 name above before)), over ∙ next.1)
+
+-- what a search found is next among both, where it was found below all others
+pub found_first : {A : Type 0} (shown : A → Val) (cells others : Cells) (asked found least : List ℕ) (value : Option A) → true ≡ is_some value
+    → IsNext cells asked (option_map shown value) found → Below found least → AreFrom least others
+    → IsNext (both cells others) asked (option_map shown value) found
+found_first shown cells others asked found least None there next under from = absurd (cc)
+found_first shown cells others asked found least (Some value) there next under from = first_before cells others asked found least (shown value) next under from
 
 -- cells that begin at a name begin at each one below it
 pub from_below : (least other : List ℕ) (cells : Cells) → Below least other → AreFrom other cells → AreFrom least cells

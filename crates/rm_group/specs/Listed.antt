@@ -37,12 +37,14 @@ alone_beside table other name value =
 abbrev pub AreOfObjects : (List ℕ → Bool) → Cells → Type 0
 AreOfObjects objects cells = (name : List ℕ) → IsTrue (has_cell cells name) → objects name ≡ true
 
+-- a binding is notWritable, or its name begins with none of the objects and nothing is wrong with it
+abbrev pub IsRefused : (listed : Bool) → Option ErrorStatus → Type 0
+IsRefused listed fault = (fault ≡ Some NotWritable) ⊎ ((listed ≡ false) × (fault ≡ None))
+
 -- A name that begins with nothing that can be set is notWritable, or it begins with none of the objects and nothing is
 -- wrong with it alone.
 abbrev pub AreRefused : (objects settable : List ℕ → Bool) → (List ℕ → Val → Option ErrorStatus) → Type 0
-AreRefused objects settable alone =
-    (name : List ℕ) (value : Val) → settable name ≡ false
-    → (alone name value ≡ Some NotWritable) ⊎ ((objects name ≡ false) × (alone name value ≡ None))
+AreRefused objects settable alone = (name : List ℕ) (value : Val) → settable name ≡ false → IsRefused (objects name) (alone name value)
 
 -- whether a name begins with a column of a control table that can be set
 abbrev pub is_settable : ControlTable → List ℕ → Bool
@@ -85,7 +87,7 @@ of_table table name has = either_listed (is_of_column table.entry table.columns 
 pub with_table : (table : Table) (tables : List ListedTable) (cells : Cells) → AreOfObjects (is_listed tables) cells → AreOfObjects (is_listed (listed_as table ∷ tables)) (λ name. option_or (cells_of table name) (cells name))
 with_table table tables cells = both_of_objects (is_of_column table.entry table.columns) (is_listed tables) (cells_of table) cells (of_columns table)
 
-read_only_name : (listed : Bool) → (unless (not listed) NotWritable ≡ Some NotWritable) ⊎ ((listed ≡ false) × (unless (not listed) NotWritable ≡ None))
+read_only_name : (listed : Bool) → IsRefused listed (unless (not listed) NotWritable)
 read_only_name true = inl refl
 read_only_name false = inr (refl, refl)
 
@@ -118,7 +120,7 @@ module _ (table : ControlTable) (columns : List ℕ) where
       rw (turned table.status column parts.0) (ap (option_map (λ c. c.kind)) (no_column table.columns column parts.1))
 
   refused_behind : (left : Option (List ℕ)) (value : Val) → is_some (instance_left settable_columns left) ≡ false
-      → (alone_fault table (place_behind table left) value ≡ Some NotWritable) ⊎ ((is_some (instance_left columns left) ≡ false) × (alone_fault table (place_behind table left) value ≡ None))
+      → IsRefused (is_some (instance_left columns left)) (alone_fault table (place_behind table left) value)
   refused_behind None value none = inr (refl, refl)
   refused_behind (Some []) value none = inl refl
   refused_behind (Some (column ∷ index)) value none = inl (by_number (table.indexing.number_of index))
@@ -132,10 +134,7 @@ module _ (table : ControlTable) (columns : List ℕ) where
   control_refused name value none =
       rw (sym (is_of_column-instance table.entry columns name)) (refused_behind (behind table.entry name) value (is_of_column-instance table.entry settable_columns name ∙ none))
 
-abbrev Refused : Bool → Option ErrorStatus → Type 0
-Refused listed fault = (fault ≡ Some NotWritable) ⊎ ((listed ≡ false) × (fault ≡ None))
-
-join : (a b : Bool) (x y : Option ErrorStatus) → Refused a x → Refused b y → Refused (a || b) (option_or x y)
+join : (a b : Bool) (x y : Option ErrorStatus) → IsRefused a x → IsRefused b y → IsRefused (a || b) (option_or x y)
 join a b x y (inl is) other = inl (rw is refl)
 join a b x y (inr none) (inl is) = inl (rw none.1 is)
 join a b x y (inr none) (inr more) = inr (rw none.0 more.0, rw none.1 more.1)
@@ -144,12 +143,31 @@ join a b x y (inr none) (inr more) = inr (rw none.0 more.0, rw none.1 more.1)
 pub both_refused : (objects others settable more : List ℕ → Bool) (alone other : List ℕ → Val → Option ErrorStatus) → AreRefused objects settable alone → AreRefused others more other
     → AreRefused (λ name. objects name || others name) (λ name. settable name || more name) (λ name value. option_or (alone name value) (other name value))
 both_refused objects others settable more alone other one two name value none =
-    elim (settable name) as (λ t. settable name ≡ t → (t || more name) ≡ false → Refused (objects name || others name) (option_or (alone name value) (other name value))) [
+    elim (settable name) as (λ t. settable name ≡ t → (t || more name) ≡ false → IsRefused (objects name || others name) (option_or (alone name value) (other name value))) [
       | true ↦ λ is there. absurd (cc)
       | false ↦ λ is there. join (objects name) (others name) (alone name value) (other name value) (one name value is) (two name value there)
     ] refl none
 
-one_of_none : (a : Bool) (x : Option ErrorStatus) → Refused a x → Refused (a || false) x
+moved : (a b : Bool) (x y : Option ErrorStatus) → a ≡ b → x ≡ y → IsRefused a x → IsRefused b y
+moved a b x y same alike (inl is) = inl (sym alike ∙ is)
+moved a b x y same alike (inr none) = inr (sym same ∙ none.0, sym alike ∙ none.1)
+
+together : (x y z : Option ErrorStatus) → option_or (option_or x y) z ≡ option_or x (option_or y z)
+together None y z = refl
+together (Some fault) y z = refl
+
+-- the objects of a group, and further ones of which none can be set, listed as one
+pub further_refused : (objects further listed settable : List ℕ → Bool) (alone other more : List ℕ → Val → Option ErrorStatus)
+    → ((name : List ℕ) → (objects name || further name) ≡ listed name)
+    → AreRefused objects settable (λ name value. option_or (alone name value) (other name value)) → AreRefused further (λ name. false) more
+    → AreRefused listed settable (λ name value. option_or (alone name value) (option_or (other name value) (more name value)))
+further_refused objects further listed settable alone other more same one two name value none =
+    moved (objects name || further name) (listed name)
+    (option_or (option_or (alone name value) (other name value)) (more name value)) (option_or (alone name value) (option_or (other name value) (more name value)))
+    (same name) (together (alone name value) (other name value) (more name value))
+    (join (objects name) (further name) (option_or (alone name value) (other name value)) (more name value) (one name value none) (two name value refl))
+
+one_of_none : (a : Bool) (x : Option ErrorStatus) → IsRefused a x → IsRefused (a || false) x
 one_of_none true x is = is
 one_of_none false x is = is
 

@@ -1,24 +1,20 @@
 // Two groups as one.
-ghost use Rattle.std.specs.Prelude.{◌≡◌, ◌≤◌, ◌||◌, ◌⊎◌, max, IfSome, OnSome, IfNone};
-ghost use Rattle.std.specs.Option.{option_map, option_or};
-ghost use Rattle.rm_val.specs.Val.{val_of};
-ghost use Rattle.rm_val.specs.Spellable.{IsSpellable, HasSpelling};
-ghost use Rattle.rm_model.specs.Counting.{Counting};
-ghost use Rattle.rm_model.specs.Journal.{Journal, last_moment};
-ghost use Rattle.rm_model.specs.Cells.{IsNext};
+ghost use Rattle.std.specs.Prelude.{◌||◌, ◌⊎◌, max};
+ghost use Rattle.std.specs.Option.{option_or};
 ghost use Rattle.rm_model.proofs.Finite.{both_finite};
 ghost use Rattle.rm_group.specs.Both.{StandAsOne};
 ghost use Rattle.rm_group.specs.Listed.{both_of_objects, both_refused};
 
 use crate::assigns::Assigns;
 use crate::beside::Beside;
+use crate::cell::cell_in;
 use crate::commits::Commits;
 use crate::denied::Denied;
 use crate::group::Group;
 use crate::least::{is_before, is_under, lesser};
 use crate::look::Look;
 use crate::lower::lower_verdict;
-use crate::nearer::choose_nearer;
+use crate::nearer::{choose_nearer, nearer_in};
 use crate::objects::Objects;
 use crate::stores::Stores;
 use rm_model::Verdict;
@@ -57,10 +53,7 @@ impl<G: Stores, H: Beside<G>> Group for Both<G, H> {
         both_finite (G.cells settings journal now) (H.cells settings journal now) (G.finite settings journal now) (H.finite settings journal now) };
 
     fn cell(&self, name: &Oid, now: u32) -> Option<Value<'_>> {
-        match self.first.cell(name, now) {
-            Some(value) => Some(value),
-            None => self.second.cell(name, now),
-        }
+        cell_in(self.first.cell(name, now), &self.second, name, now)
     }
 
     fn least() -> &'static [u32] {
@@ -81,15 +74,8 @@ impl<G: Stores, H: Beside<G>> Group for Both<G, H> {
             *out = nearest;
             nearer
         } else {
-            let Some(value) = self.first.after(name, now, out) else {
-                return self.second.after(name, now, out);
-            };
-            if is_under(out, H::least()) {
-                return Some(value);
-            }
-            let mut other = Oid::new();
-            let other_value = self.second.after(name, now, &mut other);
-            choose_nearer(Some(value), out, other_value, other)
+            let found = self.first.after(name, now, out);
+            nearer_in(found, &self.second, name, now, out)
         }
     }
 

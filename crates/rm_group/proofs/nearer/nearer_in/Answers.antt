@@ -3,7 +3,7 @@ use Rattle.std.specs.Option.{option_map}
 use Rattle.rm_val.specs.Val.{val_of}
 use Rattle.rm_model.specs.Cells.{IsNext}
 use Rattle.rm_group.proofs.Leasts.{is_below, first_before}
-use Rattle.rm_four.proofs.nearer.nearer_in.Goals as goal
+use Rattle.rm_group.proofs.nearer.nearer_in.Goals as goal
 
 pub returns-then-is_under-clause-next : goal.returns-then-is_under-clause-next
 returns-then-is_under-clause-next g c cells settings journal next stands later askable =
