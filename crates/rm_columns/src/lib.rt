@@ -18,5 +18,6 @@ pub use rm_model::INTERFACES;
 pub use row_keys::{OneNumber, RowKeys};
 pub use sheet::{check, is_ready, may_always, shown};
 pub use values::{
-    counter_32, interface_in, name_in, natural_in, number_in, put_text, same_text, short_in,
+    MOST_OWNER, counter_32, interface_in, name_in, natural, natural_in, number_in, put_text,
+    same_text, short_in,
 };

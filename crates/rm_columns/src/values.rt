@@ -3,11 +3,14 @@ ghost use Rattle.std.specs.Prelude.{◌≡◌, ◌≤◌, ◌%◌, ◌^◌, leng
 ghost use Rattle.rm_val.specs.Val.{val_of};
 ghost use Rattle.rm_model.specs.ControlTable.{number, text, data_source};
 ghost use Rattle.rm_model.specs.Judgement.{value_fault};
-ghost use Rattle.rm_columns.specs.Values.{interface_in, octets_in, natural_in, number_of, name_of};
+ghost use Rattle.rm_columns.specs.Values.{interface_in, octets_in, natural_in, natural_of, number_of, name_of};
 
 use crate::interface::source;
 use arrayvec::ArrayVec;
 use rm_val::{ErrorStatus, Oid, Value};
+
+/// The most octets that a Set may give an OwnerString (RFC 1757, section 5).
+pub const MOST_OWNER: usize = 127;
 
 /// What is wrong with a value for a column that takes the numbers from the least one to the greatest one: wrongType, or
 /// wrongValue outside the range.
@@ -62,12 +65,20 @@ pub fn interface_in(value: &Value<'_>) -> u32
     }
 }
 
+/// A number, 0 where it is negative.
+pub fn natural(number: i32) -> u32
+    ensures value { result ≡ natural_of number }
+    ensures most { result ≤ 2147483647 }
+{
+    if number >= 0 { number as u32 } else { 0 }
+}
+
 /// The number that a value is, 0 where it is none or is negative.
 pub fn natural_in(value: &Value<'_>) -> u32
     ensures { result ≡ natural_in (val_of value.now) }
 {
     match value {
-        Value::Int(number) => u32::try_from(*number).unwrap_or(0),
+        Value::Int(number) => natural(*number),
         _ => 0,
     }
 }

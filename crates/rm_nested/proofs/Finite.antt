@@ -1,5 +1,5 @@
 -- That nested rows are finitely many.
-use Rattle.std.proofs.Common.{◌≡◌, ℕ, zero, suc, ◌<◌, ◌≤◌, ◌⊎◌, inl, inr, List, [], ◌∷◌, ◌++◌, map, Contains, Bool, true, false, nat_le, ◌&&◌, refl, subst, arith}
+use Rattle.std.proofs.Common.{◌≡◌, ℕ, zero, suc, ◌<◌, ◌≤◌, ◌⊎◌, inl, inr, List, [], ◌∷◌, ◌++◌, map, Contains, Bool, true, false, nat_le, ◌&&◌, refl, ap, subst, arith}
 use Rattle.std.specs.Prelude.{flat_map, not}
 use Rattle.std.proofs.lemmas.Bool.{and_parts}
 use Rattle.std.proofs.lemmas.Bool.Decides.{nat_tests}
@@ -8,11 +8,11 @@ use Rattle.rm_model.specs.Journal.{Journal}
 use Rattle.rm_model.specs.ControlTable.{ControlTable}
 use Rattle.rm_model.specs.ControlRows.{no_rows, state_of, is_absent, is_valid}
 use Rattle.rm_model.specs.Indexes.{indexes_of}
-use Rattle.rm_model.specs.declared.row.State.{State}
-use Rattle.rm_model.specs.declared.row.State.TheVariants.{Absent, UnderCreation, Valid}
+use Rattle.rm_model.specs.declared.row.State.TheVariants.{Absent}
 use Rattle.rm_model.proofs.Members.{none_in, here, there, each, in_map}
 use Rattle.rm_model.proofs.Rows.{row_listed}
 use Rattle.rm_status.specs.Rows.{row_number}
+use Rattle.rm_status.proofs.RowFacts.{valid_there}
 use Rattle.rm_nested.specs.Nested.{is_nested, is_number}
 
 -- the numbers up to one
@@ -71,11 +71,6 @@ in_nested is_inner rows inner outer within (row ∷ index) is =
 none_begins : (index : List ℕ) → not (is_absent Absent) ≡ true → Contains {X = List ℕ} [] index
 none_begins index is = absurd (cc)
 
-there_is : (s : State) → is_valid s ≡ true → not (is_absent s) ≡ true
-there_is Absent h = absurd (cc)
-there_is UnderCreation h = refl
-there_is Valid h = refl
-
 module _ (table : ControlTable) (journal : Journal) where
   -- the indexes that its rows can have after a journal
   abbrev pub rows_of : List (List ℕ)
@@ -98,7 +93,7 @@ module _ (table : ControlTable) (journal : Journal) where
 
     of_row : (row : ℕ) (index : List ℕ) → is_number (is_inner row) index ≡ true → Contains rows_of (row ∷ [])
     of_row row [] is = absurd (cc)
-    of_row row (number ∷ []) is = in_rows (row ∷ []) (there_is (state_of table no_rows journal (row ∷ [])) (parts row number is).0)
+    of_row row (number ∷ []) is = in_rows (row ∷ []) (ap not (valid_there (state_of table no_rows journal (row ∷ [])) (parts row number is).0))
     of_row row (number ∷ next ∷ more) is = absurd (cc)
 
     of_number : (row : ℕ) (index : List ℕ) → is_number (is_inner row) index ≡ true → Contains (numbers (last row)) index

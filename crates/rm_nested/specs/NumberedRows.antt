@@ -6,6 +6,7 @@ use Rattle.rm_val.specs.Val.{Val, null}
 use Rattle.rm_pool.specs.declared.slot.Slot.{Slot}
 use Rattle.rm_pool.specs.Slots.{part_in, has_part}
 use Rattle.rm_nested.specs.Nested.{is_number}
+use Rattle.rm_nested.specs.InnerTable.{numbered_value}
 
 -- By whether a part shows a number at a moment.
 module _ {P : Type 0} (is_shown : P → ℕ → ℕ → Bool) where
@@ -44,7 +45,10 @@ module _ {P : Type 0} (value : ℕ → P → ℕ → ℕ → Val) where
   value_by row None number column = null
   value_by row (Some part) number column = value row part number column
 
-  -- the same by the numbers of an index
-  abbrev pub value_at : List (Slot P) → List ℕ → ℕ → Val
-  value_at parts (row ∷ number ∷ []) column = value_by row (part_in parts row) number column
-  value_at parts index column = null
+  -- the same by the parts
+  abbrev pub value_in : List (Slot P) → ℕ → ℕ → ℕ → Val
+  value_in parts row number column = value_by row (part_in parts row) number column
+
+  -- the same at an index
+  abbrev pub value_at : List (Slot P) → ℕ → List ℕ → Val
+  value_at parts = numbered_value (value_in parts)

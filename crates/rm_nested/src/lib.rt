@@ -15,6 +15,6 @@ pub use inner_cells::{
 pub use inner_rows::InnerRows;
 pub use inner_table::InnerTable;
 pub use nested::Nested;
-pub use number::{first_number, one_number_above};
+pub use number::{first_number, one_number_above, two_numbers};
 pub use numbered_cells::NumberedCells;
 pub use numbered_rows::{NumberedPart, NumberedRows};

@@ -3,12 +3,13 @@ ghost use Rattle.std.specs.Prelude.{◌≡◌, ◌≤◌, true};
 ghost use Rattle.rm_val.specs.Val.{val_of};
 ghost use Rattle.rm_val.specs.Spellable.{HasSpelling};
 ghost use Rattle.rm_pool.specs.Pools.{AreNumbered};
-ghost use Rattle.rm_nested.specs.NumberedRows.{two_numbers, value_at};
+ghost use Rattle.rm_nested.specs.NumberedRows.{value_at};
 
 use crate::inner_cells::InnerCells;
+use crate::number::two_numbers;
 use crate::numbered_rows::{NumberedPart, NumberedRows};
 use rm_model::Instance;
-use rm_val::{Oid, Value};
+use rm_val::Value;
 
 /// Inner rows that are shown by their numbers, with what the columns of their table show. What implements it is an `InnerCells` too.
 pub trait NumberedCells<'a>: NumberedRows {
@@ -21,7 +22,7 @@ pub trait NumberedCells<'a>: NumberedRows {
 }
 
 impl<'a, R: NumberedCells<'a>> InnerCells<'a> for R {
-    ghost shown = { λ s column index. value_at (R.value_of s) (R.parts s) index column };
+    ghost shown = { λ s. value_at (R.value_of s) (R.parts s) };
 
     ghost can_show = { λ s. AreNumbered (R.parts s) };
 
@@ -33,16 +34,5 @@ impl<'a, R: NumberedCells<'a>> InnerCells<'a> for R {
         } else {
             None
         }
-    }
-}
-
-// The numbers of an index that has two.
-fn two_numbers(index: &Oid) -> Option<(u32, u32)>
-    ensures { result ≡ two_numbers index.now }
-{
-    if index.len() == 2 {
-        Some((index.at(0), index.at(1)))
-    } else {
-        None
     }
 }

@@ -3,3 +3,4 @@ pub mod Pools
 pub mod Each
 pub mod Follow
 pub mod Lending
+pub mod Room

@@ -1,16 +1,16 @@
 // The storage that a Set needs.
-ghost use Rattle.std.specs.Prelude.{◌≡◌, ℕ, ◌≤◌, length, max, OnOk, OnErr, IfErr};
-ghost use Rattle.rm_model.specs.Judgement.{IsFirstFault, first_pass, second_pass};
-ghost use Rattle.rm_model.specs.Reserves.{Reserves, count_valid, count_valid_after};
+ghost use Rattle.std.specs.Prelude.{◌≡◌, ℕ, OnOk, OnErr, IfErr};
+ghost use Rattle.rm_model.specs.Reserves.{Reserves, count_valid_after};
+ghost use Rattle.rm_status.specs.Fine.{AreFine};
 ghost use Rattle.rm_status.specs.Rows.{rows_before};
 ghost use Rattle.rm_pool.specs.Pools.{IsOfValid};
+ghost use Rattle.rm_pool.specs.Room.{IsStocked, IsReleased, HasRoom};
 ghost use Rattle.rm_pool.specs.Slots.{part_in};
 
 use crate::part::Part;
 use crate::pool::Pool;
 use rm_columns::ControlRow;
 use rm_group::{Assigns, Denied};
-use rm_model::Verdict;
 use rm_status::Controls;
 use rm_val::NoMemory;
 use std::alloc::Global;
@@ -25,14 +25,13 @@ impl<P: Part> Pool<P> {
         rows: &Controls<C>,
         set: &A,
     ) -> Result<(), Denied>
-        requires fine { IsFirstFault (length (A.bindings set.now)) (first_pass C.form.table (A.bindings set.now)) Verdict.Fine }
-        requires together { let bindings = A.bindings set.now in IsFirstFault (length bindings) (second_pass C.form.table (rows_before C.form.table C.form.set_to rows.now) bindings) Verdict.Fine }
+        requires fine { AreFine C.form rows.now (A.bindings set.now) }
         requires of_valid { IsOfValid self.old rows.now }
-        requires stocked { 1 ≤ length self.old }
+        requires stocked { IsStocked self.old }
         ensures parts { (row : ℕ) → part_in self.new row ≡ part_in self.old row }
-        ensures stocked { 1 ≤ length self.new }
-        ensures ready { OnOk result (count_valid_after C.form.table (rows_before C.form.table C.form.set_to rows.now) (A.bindings set.now) ≤ length self.new) }
-        ensures released { OnErr result (length self.new ≤ max 1 (count_valid C.form.table (rows_before C.form.table C.form.set_to rows.now))) }
+        ensures stocked { IsStocked self.new }
+        ensures ready { OnOk result (HasRoom C.form rows.now self.new (A.bindings set.now)) }
+        ensures released { OnErr result (IsReleased C.form rows.now self.new) }
         ensures denied { IfErr result (λ denied. Reserves C.form.table (rows_before C.form.table C.form.set_to rows.now) (A.bindings set.now) denied.index) }
     {
         prove!(self.len() >= 1);
@@ -53,8 +52,8 @@ impl<P: Part> Pool<P> {
     pub fn give_back<C: ControlRow>(&mut self, rows: &Controls<C>)
         requires { IsOfValid self.old rows.now }
         ensures parts { (row : ℕ) → part_in self.new row ≡ part_in self.old row }
-        ensures stocked { 1 ≤ length self.old → 1 ≤ length self.new }
-        ensures released { length self.new ≤ max 1 (count_valid C.form.table (rows_before C.form.table C.form.set_to rows.now)) }
+        ensures stocked { IsStocked self.old → IsStocked self.new }
+        ensures released { IsReleased C.form rows.now self.new }
     {
         let count = rows.count_valid();
         self.trim(count.max(1));
@@ -63,8 +62,7 @@ impl<P: Part> Pool<P> {
 
 // How many rows are valid after a Set with which nothing is wrong.
 fn count_after<C: ControlRow, A: Assigns>(rows: &Controls<C>, set: &A) -> usize
-    requires fine { IsFirstFault (length (A.bindings set.now)) (first_pass C.form.table (A.bindings set.now)) Verdict.Fine }
-    requires together { let bindings = A.bindings set.now in IsFirstFault (length bindings) (second_pass C.form.table (rows_before C.form.table C.form.set_to rows.now) bindings) Verdict.Fine }
+    requires { AreFine C.form rows.now (A.bindings set.now) }
     ensures { result ≡ count_valid_after C.form.table (rows_before C.form.table C.form.set_to rows.now) (A.bindings set.now) }
 {
     let after = rows.rows_after(set);

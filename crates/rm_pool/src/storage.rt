@@ -1,6 +1,7 @@
 // How much storage a pool has.
 ghost use Rattle.std.specs.Prelude.{◌≡◌, ℕ, ◌<◌, ◌≤◌, ◌∷◌, [], ◌++◌, length, min, max, None, OnOk, OnErr, is_ok, position, if◌then◌else◌};
 ghost use Rattle.rm_pool.specs.Pools.{in_use};
+ghost use Rattle.rm_pool.specs.Room.{IsStocked};
 ghost use Rattle.rm_pool.specs.Slots.{AreApart, kept, part_in, spare, is_spare};
 
 use crate::part::Part;
@@ -16,7 +17,7 @@ impl<P: Part> Pool<P> {
         ensures parts { (row : ℕ) → part_in self.new row ≡ part_in self.old row }
         ensures more { length self.old ≤ length self.new }
         ensures no_more { length self.new ≤ max 1 (length self.old) }
-        ensures ok { OnOk result (1 ≤ length self.new) }
+        ensures ok { OnOk result (IsStocked self.new) }
     {
         self.grow(alloc, 1)
     }

@@ -1,6 +1,5 @@
 -- Rows that are the same but for their other data.
-use Rattle.std.proofs.Common.{◌≡◌, ℕ, ◌<◌, ◌+◌, zero, suc, List, [], ◌∷◌, ◌++◌, length, map, Option, Some, None, refl, sym, ap, subst, ◌∙◌, arith, get_or, take, add-one}
-use Rattle.std.specs.Option.{option_map, option_and_then}
+use Rattle.std.proofs.Common.{◌≡◌, ℕ, ◌<◌, ◌+◌, zero, suc, List, [], ◌∷◌, ◌++◌, length, map, Option, refl, sym, ap, subst, ◌∙◌, arith, get_or, take, add-one}
 use Rattle.std.proofs.lemmas.List.{map-append}
 use Rattle.rm_val.specs.Val.{Val}
 use Rattle.std.specs.Prelude.{unwrap_or}
@@ -11,9 +10,10 @@ use Rattle.rm_model.specs.ControlRows.{set_ask, next_state}
 use Rattle.rm_model.specs.Judgement.{Bindings}
 use Rattle.rm_status.specs.Commit.{put_all, if_there, row_after}
 use Rattle.rm_status.specs.declared.row.Row.{Row}
-use Rattle.rm_status.specs.Rows.{number_in, row_in, state_seen, columns_seen, rows_before, AreControlRows}
+use Rattle.rm_status.specs.Rows.{state_seen, columns_seen, rows_before, AreControlRows}
 use Rattle.rm_status.specs.Bare.{bare_row, bare_rows}
 use Rattle.rm_status.proofs.RowEdits.{rows-map, row_in-map}
+use Rattle.rm_status.proofs.RowsBefore.{changed_before}
 
 module _ {C : Type 0} (set_to : C → ℕ → Option Val) where
   taken_more : {X Y : Type 0} (f : X → Y) (xs : List X) (k : ℕ) (d : X) → k < length xs → map f (take (suc k) xs) ≡ map f (take k xs) ++ f (get_or xs k d) ∷ []
@@ -27,19 +27,8 @@ module _ {C : Type 0} (set_to : C → ℕ → Option Val) where
       ap (bare_rows set_to) is ∙ map-append (bare_row set_to) bare (x ∷ []) ∙ ap (λ l. l ++ bare_row set_to x ∷ []) before
       ∙ ap (λ r. bare_rows set_to (take k rows) ++ r ∷ []) same ∙ sym (taken_more (bare_row set_to) rows k d lt) ∙ ap (λ n. bare_rows set_to (take n rows)) (sym (add-one k))
 
-  state_of_bare : (o : Option (Row C)) → state_seen (option_map (bare_row set_to) o) ≡ state_seen o
-  state_of_bare None = refl
-  state_of_bare (Some r) = refl
-
-  set_of_bare : (o : Option (Row C)) (n : ℕ) → option_and_then (λ c. c n) (columns_seen (option_map (bare_row set_to) o)) ≡ option_and_then (λ c. set_to c n) (columns_seen o)
-  set_of_bare None n = refl
-  set_of_bare (Some r) n = refl
-
   before_bare : (table : ControlTable) (rows : List (Row C)) → rows_before table (λ c. c) (bare_rows set_to rows) ≡ rows_before table set_to rows
-  before_bare table rows = λ d. record {
-    state = λ index. (ap state_seen (row_in-map (bare_row set_to) (λ r. refl) rows (number_in table index)) ∙ state_of_bare (row_in rows (number_in table index))) d;
-    set = λ index n. (ap (λ o. option_and_then (λ c. c n) (columns_seen o)) (row_in-map (bare_row set_to) (λ r. refl) rows (number_in table index)) ∙ set_of_bare (row_in rows (number_in table index)) n) d;
-  }
+  before_bare table rows = changed_before {D = ℕ → Option Val} table set_to (λ c. c) (bare_row set_to) (λ r. refl) (λ r n. refl) rows (bare_rows set_to rows) (row_in-map (bare_row set_to) (λ r. refl) rows)
 
   -- a Set finds the same rows
   pub same_before : (table : ControlTable) (rows bare : List (Row C)) → bare_rows set_to bare ≡ bare_rows set_to rows → rows_before table set_to bare ≡ rows_before table set_to rows

@@ -1,7 +1,7 @@
 -- The rows of a control table after each act.
 use Rattle.std.proofs.Common.{◌≡◌, ℕ, List, [], ◌∷◌, Bool, true, false, cond, not, ◌&&◌, Option, Some, None, refl, sym, ap, subst, ◌∙◌, nat_eq, find, option_map}
 use Rattle.std.specs.Prelude.{ℤ, is_some, unwrap_or}
-use Rattle.std.specs.Option.{option_or, option_and_then}
+use Rattle.std.specs.Option.{option_or}
 use Rattle.std.specs.Str.{bytes_eq}
 use Rattle.std.proofs.lemmas.Option.{none-some, same_Some}
 use Rattle.std.proofs.lemmas.Slice.Eq.{bytes_eq-Decides}
@@ -14,17 +14,17 @@ use Rattle.rm_model.specs.declared.place.Place.{Place}
 use Rattle.rm_model.specs.declared.place.Place.TheVariants.{Outside, Entry, Column, Cell}
 use Rattle.rm_model.specs.Journal.{Act, Frame, Assignments, passes, assigns, samples, Journal, frames_in, value_given}
 use Rattle.rm_model.specs.ControlTable.{row_index, ControlTable}
-use Rattle.rm_model.specs.ControlRows.{Beginning, cell_name, value_ask, set_ask, act_ask, next_state, is_absent, is_valid, state_of, set_value, stays_valid, since}
+use Rattle.rm_model.specs.ControlRows.{Beginning, cell_name, value_ask, set_ask, act_ask, next_state, is_absent, is_valid, state_of, stays_valid, since}
 use Rattle.rm_model.specs.Judgement.{Bindings, place_in, place_of, place_behind, value_fault, writable_kind, alone_fault, column_kind, is_sound}
 use Rattle.rm_model.specs.Alike.{HasSameColumns}
 use Rattle.rm_model.proofs.Tables.{behind_front}
 use Rattle.rm_status.specs.declared.row.Row.{Row}
-use Rattle.rm_status.specs.Rows.{row_in, number_in, rows_before, state_seen, columns_seen, state_in, columns_in, AreControlRows}
+use Rattle.rm_status.specs.Rows.{row_in, rows_before, state_seen, columns_seen, AreControlRows}
 use Rattle.rm_status.specs.Change.{changed_row}
 use Rattle.rm_status.specs.Commit.{put_at, put_all, row_after}
 use Rattle.rm_status.specs.Indexes.{has_number, is_index_in}
 use Rattle.rm_status.specs.RowsAfter.{is_numbered, AreRowsAfter}
-use Rattle.rm_status.proofs.RowsBefore.{state_before}
+use Rattle.rm_status.proofs.RowsBefore.{state_before, after_alike, changed_before}
 use Rattle.rm_status.proofs.After.{alike_after}
 use Rattle.rm_status.proofs.Held.{held_is}
 use Rattle.rm_status.proofs.Puts.{AllFine}
@@ -65,15 +65,10 @@ module _ (t : ControlTable) (beginning : Beginning) (unsampled : t.is_sampled �
   pub state_sampled : state_of t beginning (samples moment alarm reading ∷ journal) index ≡ state_of t beginning journal index
   state_sampled = ap (λ ask. next_state ask (state_of t beginning journal index)) (asks_nothing reading)
 
--- a change of the rows' other data
-pub state_kept : {C : Type 0} (change : ℕ → State → C → C) (o : Option (Row C)) → state_seen (option_map (changed_row change) o) ≡ state_seen o
-state_kept change None = refl
-state_kept change (Some row) = refl
-
-pub set_kept : {C : Type 0} (set_to : C → ℕ → Option Val) (change : ℕ → State → C → C) → ((index : ℕ) (state : State) (columns : C) (n : ℕ) → set_to (change index state columns) n ≡ set_to columns n)
-    → (o : Option (Row C)) (n : ℕ) → option_and_then (λ c. set_to c n) (columns_seen (option_map (changed_row change) o)) ≡ option_and_then (λ c. set_to c n) (columns_seen o)
-set_kept set_to change keeps None n = refl
-set_kept set_to change keeps (Some row) n = keeps row.index row.state row.columns n
+-- a row that is there after a change was there before it
+pub was_there : {C : Type 0} (f : Row C → Row C) (o : Option (Row C)) (row : Row C) → option_map f o ≡ Some row → (old : Row C) × (o ≡ Some old) × (f old ≡ row)
+was_there f None row e = absurd (none-some row e)
+was_there f (Some old) row e = (old, refl, same_Some (f old) row e)
 
 module _ {C : Type 0} (t : ControlTable) (beginning : Beginning) (set_to : C → ℕ → Option Val) where
   -- a frame changes no row
@@ -90,20 +85,10 @@ module _ {C : Type 0} (t : ControlTable) (beginning : Beginning) (set_to : C →
   -- a change of the rows' other data leaves what their columns were set to
   module _ (change : ℕ → State → C → C) (keeps : (index : ℕ) (state : State) (columns : C) (n : ℕ) → set_to (change index state columns) n ≡ set_to columns n) (rows new : List (Row C)) (changed : (i : ℕ) → row_in new i ≡ option_map (changed_row change) (row_in rows i)) where
     pub same_before : rows_before t set_to new ≡ rows_before t set_to rows
-    same_before = λ d. record {
-      state = λ index. (ap state_seen (changed (number_in t index)) ∙ state_kept change (row_in rows (number_in t index))) d;
-      set = λ index column. (ap (λ o. option_and_then (λ c. set_to c column) (columns_seen o)) (changed (number_in t index)) ∙ set_kept set_to change keeps (row_in rows (number_in t index)) column) d;
-    }
+    same_before = changed_before t set_to set_to (changed_row change) (λ row. refl) (λ row. keeps row.index row.state row.columns) rows new changed
 
     pub rows_changed : (journal : Journal) → AreRowsAfter t beginning set_to rows journal → AreRowsAfter t beginning set_to new journal
-    rows_changed journal is = record {
-      alike = record {
-        states = λ i. ap (λ before. before.state (row_index t i)) same_before ∙ is.alike.states i;
-        columns = λ i there. subst (λ (before : Beginning). HasSameColumns t (before.set (row_index t i)) (set_value t beginning journal (row_index t i))) (sym same_before)
-            (is.alike.columns i (ap (λ before. is_absent (before.state (row_index t i))) (sym same_before) ∙ there));
-      };
-      others = is.others;
-    }
+    rows_changed journal is = after_alike t beginning set_to set_to rows new journal same_before is
 
   -- the indexes of the rows are those of the rows after the journal
   pub is_row_after : (rows : List (Row C)) (journal : Journal) → AreControlRows t rows → AreRowsAfter t beginning set_to rows journal → (index : List ℕ) → not (is_absent (state_of t beginning journal index)) ≡ is_index_in t rows index
@@ -148,6 +133,11 @@ since_idle t beginning (act ∷ earlier) index idle =
 -- a row counts nothing from the act on by which it became valid, and where it isn't valid
 pub since_starts : (t : ControlTable) (beginning : Beginning) (act : Act) (journal : Journal) (index : List ℕ) → stays_valid t beginning act journal index ≡ false → since t beginning (act ∷ journal) index ≡ []
 since_starts t beginning act journal index starts = ap (λ b. cond b (act ∷ since t beginning journal index) []) starts
+
+-- of two of which not both hold, the first doesn't where the second does: a row that an act makes valid wasn't valid before it
+pub not_first : (a b : Bool) → b ≡ true → (a && b) ≡ false → a ≡ false
+not_first true b is starts = absurd (cc)
+not_first false b is starts = refl
 
 -- a Set is no frame
 pub frames_kept : (t : ControlTable) (beginning : Beginning) (moment : ℕ) (values : Assignments) (journal : Journal) (index : List ℕ) → stays_valid t beginning (assigns moment values) journal index ≡ true → frames_in (since t beginning (assigns moment values ∷ journal) index) ≡ frames_in (since t beginning journal index)

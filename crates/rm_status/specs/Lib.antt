@@ -4,6 +4,7 @@ pub mod Lending
 pub mod Change
 pub mod Indexes
 pub mod RowsAfter
+pub mod Fine
 pub mod OfRows
 pub mod Bare
 pub mod KeptCells

@@ -1,12 +1,13 @@
 // What a Set makes of the rows of a control table.
-ghost use Rattle.std.specs.Prelude.{◌≡◌, ℕ, ◌<◌, ◌+◌, [], ◌∷◌, length, map, true, None, if◌then◌else◌};
+ghost use Rattle.std.specs.Prelude.{◌≡◌, ℕ, ◌<◌, ◌+◌, length, map, true, None, if◌then◌else◌};
 ghost use Rattle.std.specs.List.{filter_map};
 ghost use Rattle.std.specs.Option.{option_or};
 ghost use Rattle.rm_model.specs.ControlTable.{row_index};
 ghost use Rattle.rm_model.specs.ControlRows.{set_ask};
-ghost use Rattle.rm_model.specs.Judgement.{IsFirstFault, first_pass, second_pass, name_at, place_of, is_made};
-ghost use Rattle.rm_status.specs.Rows.{row_in, rows_before, with_state_at};
+ghost use Rattle.rm_model.specs.Judgement.{IsFirstFault, first_pass, name_at, place_of, is_made};
+ghost use Rattle.rm_status.specs.Rows.{row_in, with_state_at};
 ghost use Rattle.rm_status.specs.Commit.{is_cell, row_after, made_row, made_now, write_row, settle_row};
+ghost use Rattle.rm_status.specs.Fine.{AreFine};
 
 use crate::controls::{Controls, MAX_ROWS};
 use crate::given::{put_all, set_ask};
@@ -22,8 +23,7 @@ use rm_val::Oid;
 impl<C: ControlRow> Controls<C> {
     /// Acts on the bindings of a Set with which both passes found nothing wrong.
     pub fn commit<A: Assigns>(&mut self, set: &A)
-        requires fine { IsFirstFault (length (A.bindings set.now)) (first_pass C.form.table (A.bindings set.now)) Verdict.Fine }
-        requires together { let bindings = A.bindings set.now in IsFirstFault (length bindings) (second_pass C.form.table (rows_before C.form.table C.form.set_to self.old) bindings) Verdict.Fine }
+        requires { AreFine C.form self.old (A.bindings set.now) }
         ensures { let bindings = A.bindings set.now in (i : ℕ) → row_in self.new i ≡ row_after C.form.table C.form.with_column C.form.blank bindings i (row_in self.old i) }
     {
         let _ = &self.rows;

@@ -18,9 +18,9 @@ make_at-requires g c =
         (
           within,
           (
-            c.requires.fine k within,
+            c.requires.alone k within,
             λ i is asks gone.
-                room_at C.table C.with_column C.blank bs c.args.self.now C.set_to ordered c.requires.fine c.loop-place.self k i within c.loop-place.invariant.rows c.loop-place.invariant.few (c.requires.together k within) is asks gone,
+                room_at C.table C.with_column C.blank bs c.args.self.now C.set_to ordered c.requires.alone c.loop-place.self k i within c.loop-place.invariant.rows c.loop-place.invariant.few (c.requires.together k within) is asks gone,
           ),
         ),
       ),

@@ -1,4 +1,4 @@
-use Rattle.std.proofs.Common.{◌≡◌, ap, ◌∙◌, rules, sym, subst, length, ◌∷◌, []}
+use Rattle.std.proofs.Common.{◌≡◌, ap, ◌∙◌, rules, sym, subst, length}
 use Rattle.rm_model.specs.ControlTable.{row_index}
 use Rattle.rm_model.specs.declared.verdict.Verdict.TheVariants.{Fine}
 use Rattle.rm_model.specs.ControlRows.{Beginning, set_ask, next_state}
@@ -12,8 +12,10 @@ pub commit-requires : goal.commit-requires
 commit-requires g c =
     let C = g.C.ControlRow.form in
     let bs = g.A.Assigns.bindings c.args.set.now in
-    let same : rows_before C.table C.set_to c.bare-rows.result ≡ rows_before C.table C.set_to c.args.self.now = same_before C.set_to C.table c.args.self.now c.bare-rows.result c.bare-rows.ensures in
-    (search rules, (c.requires.fine, subst (λ (b : Beginning). IsFirstFault (length bs) (second_pass C.table b bs) Fine) (sym same) c.requires.together))
+    let same : rows_before C.table C.set_to c.bare-rows.result ≡ rows_before C.table C.set_to c.args.self.now = same_before C.set_to C.table c.args.self.now c.bare-rows.result c.bare-rows.ensures in (
+      search rules,
+      record { alone = c.requires.alone; together = subst (λ (b : Beginning). IsFirstFault (length bs) (second_pass C.table b bs) Fine) (sym same) c.requires.together },
+    )
 
 pub returns : goal.returns
 returns g c = λ i.
