@@ -1,29 +1,30 @@
 -- The alarms after a Set with which nothing is wrong.
-use Rattle.std.proofs.Common.{◌≡◌, ℕ, ◌+◌, ◌*◌, ◌<◌, List, [], ◌∷◌, length, true, false, cond, ◌&&◌, Option, Some, None, refl, sym, ap, subst, ◌∙◌, nat_eq, option_map, arith}
+use Rattle.std.proofs.Common.{◌≡◌, ℕ, ◌+◌, ◌*◌, List, [], ◌∷◌, length, true, false, cond, ◌&&◌, Option, Some, None, refl, sym, ap, subst, ◌∙◌, nat_eq, option_map, arith}
 use Rattle.std.specs.Prelude.{pos, unwrap_or}
 use Rattle.std.specs.Option.{option_or}
 use Rattle.rm_val.specs.Val.{Val, name, counter}
 use Rattle.rm_model.specs.Counting.{Counting}
 use Rattle.rm_model.specs.Journal.{Act, Assignments, Journal, assigns, value_given}
-use Rattle.rm_model.specs.ControlTable.{default_of}
-use Rattle.rm_model.specs.ControlRows.{no_rows, cell_name, set_ask, next_state, is_absent, is_valid, set_value, stays_valid, activated}
-use Rattle.rm_model.specs.Judgement.{Bindings, first_pass, second_pass, is_always}
+use Rattle.rm_model.specs.ControlRows.{no_rows, cell_name, set_ask, next_state, is_absent, is_valid, stays_valid, activated}
+use Rattle.rm_model.specs.Judgement.{Bindings, is_always}
 use Rattle.rm_acts.specs.Alarms.{number_of, name_of, alarm_entry, alarm_table, alarm_state, alarm_column, interval_of, variable_of, is_delta, bounds_of, readings_in, readings_of, base_of, newest_or, values_of_readings, is_counted, base_number, sample_values, due_of}
 use Rattle.rm_model.specs.declared.row.State.{State}
 use Rattle.rm_model.specs.declared.row.State.TheVariants.{Absent, UnderCreation, Valid}
 use Rattle.rm_status.specs.declared.row.Row.{Row}
-use Rattle.rm_status.specs.Rows.{row_in, rows_before, state_seen, columns_seen, state_in, AreControlRows}
+use Rattle.rm_status.specs.Rows.{row_in, state_seen, columns_seen, state_in}
 use Rattle.rm_status.specs.Change.{changed_row}
-use Rattle.rm_status.specs.Commit.{put_all, if_there, row_after}
+use Rattle.rm_status.specs.Commit.{put_all, if_there}
 use Rattle.rm_status.specs.RowsAfter.{AreRowsAfter}
 use Rattle.rm_status.proofs.Puts.{all_fine, set_in_all}
-use Rattle.rm_status.proofs.RowsAfterLemmas.{rows_changed, rows_assigns, since_starts, all_leave}
-use Rattle.rm_status.proofs.Bound.{fixed_column, not_made_valid}
+use Rattle.rm_status.proofs.Committed.{IsCommitted, rows_committed, changed_committed, state_committed, other_left}
+use Rattle.rm_status.proofs.RowsAfterLemmas.{since_starts, was_there}
+use Rattle.rm_status.proofs.RowsThen.{column_stays}
+use Rattle.rm_status.proofs.Bound.{not_made_valid}
 use Rattle.rm_alarm.specs.declared.course.Course.{Course}
 use Rattle.rm_alarm.specs.declared.row.AlarmRow.{AlarmRow}
 use Rattle.rm_alarm.specs.Kept.{Keeps, bounds_in, starting, nothing_crossed}
 use Rattle.rm_alarm.specs.Rows.{set_to, with_column, blank_row, new_row, settled, course_or_start, interval_kept, variable_with}
-use Rattle.rm_alarm.specs.RowLaws.{blank_alike, set_with}
+use Rattle.rm_alarm.specs.RowForm.{alarm_rows}
 use Rattle.rm_alarm.specs.Standing.{IsRunning, IsKept, AreKept, IsBased}
 use Rattle.rm_status.proofs.RowFacts.{row_there}
 use Rattle.rm_alarm.proofs.RowFacts.{state_is, interval_is, variable_is, bounds_is}
@@ -36,10 +37,6 @@ in_some x y e = cc
 
 none_some : {A : Type 0} (x : A) → ◌≡◌ {A = Option A} None (Some x) → ⊥
 none_some x e = cc
-
-pub was_there : (f : Row AlarmRow → Row AlarmRow) (o : Option (Row AlarmRow)) (row : Row AlarmRow) → option_map f o ≡ Some row → (old : Row AlarmRow) × (o ≡ Some old) × (f old ≡ row)
-was_there f None row e = absurd (cc)
-was_there f (Some old) row e = (old, refl, in_some (f old) row e)
 
 pub there_is : (r m : Row AlarmRow) → if_there alarm_table with_column new_row r ≡ Some m → r ≡ m
 there_is r m e =
@@ -71,19 +68,17 @@ with_given None (Some n) (Some m) e = let same : n ≡ m = cc in same
 with_given (Some v) None x e = absurd (cc)
 with_given (Some v) (Some n) x e = ap name_of (in_some (name n) v e)
 
-module _ (settings : Counting) (journal : Journal) (now : ℕ) (bs : Bindings) (values : Assignments)
-    (gives : (name : List ℕ) → value_given values name ≡ value_given bs name)
-    (alone : (k : ℕ) → k < length bs → first_pass alarm_table bs k ≡ None)
-    (rows middle new : List (Row AlarmRow)) (held : AreControlRows alarm_table rows)
-    (together : (k : ℕ) → k < length bs → second_pass alarm_table (rows_before alarm_table set_to rows) bs k ≡ None)
-    (after : (i : ℕ) → row_in middle i ≡ row_after alarm_table with_column new_row bs i (row_in rows i))
-    (settles : (i : ℕ) → row_in new i ≡ option_map (changed_row (λ index state row. settled now state row)) (row_in middle i))
-    (is : AreRowsAfter alarm_table no_rows set_to rows journal) (kept : AreKept rows settings journal) where
+module _ (settings : Counting) (journal : Journal) (now : ℕ) (bs : Bindings) (values : Assignments) (rows middle new : List (Row AlarmRow))
+    (committed : IsCommitted alarm_rows no_rows journal values bs rows middle)
+    (settles : (i : ℕ) → row_in new i ≡ option_map (changed_row (λ index state row. settled now state row)) (row_in middle i)) (kept : AreKept rows settings journal) where
   abbrev set : Act
   set = assigns now values
 
+  is : AreRowsAfter alarm_table no_rows set_to rows journal
+  is = committed.stood
+
   middle_rows : AreRowsAfter alarm_table no_rows set_to middle (set ∷ journal)
-  middle_rows = rows_assigns alarm_table no_rows set_to with_column new_row set_with blank_alike refl journal now bs values gives (all_fine alarm_table bs alone) rows middle held is after
+  middle_rows = rows_committed alarm_rows committed now
 
   settled_keeps : (index : ℕ) (state : State) (row : AlarmRow) (n : ℕ) → set_to (settled now state row) n ≡ set_to row n
   settled_keeps index Valid row n = refl
@@ -91,7 +86,7 @@ module _ (settings : Counting) (journal : Journal) (now : ℕ) (bs : Bindings) (
   settled_keeps index Absent row n = refl
 
   pub rows_set : AreRowsAfter alarm_table no_rows set_to new (set ∷ journal)
-  rows_set = rows_changed alarm_table no_rows set_to (λ index state row. settled now state row) settled_keeps middle new settles (set ∷ journal) middle_rows
+  rows_set = changed_committed alarm_rows committed now (λ index state row. settled now state row) settled_keeps new settles
 
   module _ (i : ℕ) where
     abbrev old : AlarmRow
@@ -99,17 +94,17 @@ module _ (settings : Counting) (journal : Journal) (now : ℕ) (bs : Bindings) (
 
     module _ (m : Row AlarmRow) (here : row_in middle i ≡ Some m) where
       made : record { index = i; state = next_state (set_ask alarm_table bs (i ∷ [])) (state_in rows i); columns = put_all alarm_table with_column new_row bs i old } ≡ m
-      made = there_is _ m (sym (after i) ∙ here)
+      made = there_is _ m (sym (committed.after i) ∙ here)
 
       its_course : m.columns.course ≡ old.course
-      its_course = sym (ap (λ (r : Row AlarmRow). r.columns.course) made) ∙ all_leave alarm_table with_column new_row (λ c. c.course) (λ c n v. refl) bs i old
+      its_course = other_left alarm_rows committed i m here (λ c. c.course) (λ c n v. refl)
 
       its_base : m.columns.base ≡ old.base
-      its_base = sym (ap (λ (r : Row AlarmRow). r.columns.base) made) ∙ all_leave alarm_table with_column new_row (λ c. c.base) (λ c n v. refl) bs i old
+      its_base = other_left alarm_rows committed i m here (λ c. c.base) (λ c n v. refl)
 
       module _ (valid : m.state ≡ Valid) where
         state_now : alarm_state (set ∷ journal) i ≡ Valid
-        state_now = sym (state_is middle (set ∷ journal) middle_rows i m here) ∙ valid
+        state_now = sym (state_committed alarm_rows committed now i m here) ∙ valid
 
         there : is_absent m.state ≡ false
         there = ap is_absent valid
@@ -122,19 +117,13 @@ module _ (settings : Counting) (journal : Journal) (now : ℕ) (bs : Bindings) (
           stays : stays_valid alarm_table no_rows set journal (i ∷ []) ≡ true
           stays = ap (λ s. is_valid (alarm_state journal i) && is_valid s) state_now ∙ ap (λ s. is_valid s && true) state_before
 
-          seen : (rows_before alarm_table set_to rows).state (i ∷ []) ≡ Valid
-          seen = ap state_seen was ∙ state
-
           goes : is_valid (next_state (set_ask alarm_table bs (i ∷ [])) Valid) ≡ true
           goes =
-              ap (λ s. is_valid (next_state (set_ask alarm_table bs (i ∷ [])) s)) (sym seen)
+              ap (λ s. is_valid (next_state (set_ask alarm_table bs (i ∷ [])) s)) (sym (ap state_seen was ∙ state))
               ∙ ap (λ (x : Row AlarmRow). is_valid x.state) made ∙ ap is_valid valid
 
           fixed : (n : ℕ) → nat_eq n 12 ≡ false → is_always alarm_table n ≡ false → alarm_column (set ∷ journal) i n ≡ alarm_column journal i n
-          fixed n other always =
-              ap (λ g. unwrap_or (option_or g (cond (is_absent (alarm_state journal i)) None (set_value alarm_table no_rows journal (i ∷ []) n))) (default_of alarm_table n))
-              (gives (cell_name alarm_entry n (i ∷ [])) ∙ fixed_column alarm_table (rows_before alarm_table set_to rows) bs together i n other always seen goes)
-              ∙ ap (λ s. unwrap_or (cond (is_absent s) None (set_value alarm_table no_rows journal (i ∷ []) n)) (default_of alarm_table n)) state_before
+          fixed n other always = column_stays alarm_table no_rows set_to journal now bs values committed.gives rows committed.fine.together is i n other always (ap is_valid state_before) goes
 
           same_interval : interval_of (set ∷ journal) i ≡ interval_of journal i
           same_interval = ap (λ v. Rattle.std.specs.Prelude.nat_abs (number_of v)) (fixed 2 refl refl)
@@ -234,13 +223,13 @@ module _ (settings : Counting) (journal : Journal) (now : ℕ) (bs : Bindings) (
           absurd (not_made_valid (value_given bs (cell_name alarm_entry 12 (i ∷ [])))
           (sym (ap (λ o. is_valid (next_state (set_ask alarm_table bs (i ∷ [])) (state_seen o))) was) ∙ ap (λ (x : Row AlarmRow). is_valid x.state) (made m here) ∙ ap is_valid valid))
       remembered m here valid idle (Some r) was =
-          read i r was (under_creation r.state (row_there alarm_table rows i r held was) (ap is_valid (state_is rows journal is i r was) ∙ idle))
+          read i r was (under_creation r.state (row_there alarm_table rows i r committed.held was) (ap is_valid (state_is rows journal is i r was) ∙ idle))
 
       given_variable : (m : Row AlarmRow) → row_in middle i ≡ Some m → m.state ≡ Valid → variable_with bs i old ≡ variable_of (set ∷ journal) i
       given_variable m here valid =
           sym (with_given (value_given bs (cell_name alarm_entry 3 (i ∷ []))) m.columns.variable old.variable
           (ap (λ (x : Row AlarmRow). option_map Rattle.rm_val.specs.Val.name x.columns.variable) (sym (made m here))
-          ∙ set_in_all alarm_table with_column new_row set_to set_with bs i 3 old refl (all_fine alarm_table bs alone)))
+          ∙ set_in_all alarm_table with_column new_row set_to alarm_rows.set_with bs i 3 old refl (all_fine alarm_table bs committed.fine.alone)))
           ∙ variable_is middle (set ∷ journal) middle_rows i m here (ap is_absent valid)
 
       base_read : (m : Row AlarmRow) → row_in middle i ≡ Some m → m.state ≡ Valid → is_valid (alarm_state journal i) ≡ false → m.columns.base ≡ settings.readings journal now (variable_of (set ∷ journal) i)

@@ -16,6 +16,7 @@ use Rattle.rm_status.specs.Rows.{row_in, columns_seen}
 use Rattle.rm_status.specs.Change.{changed_row}
 use Rattle.rm_status.specs.Commit.{put_all, row_after}
 use Rattle.rm_status.proofs.Puts.{all_fine, set_in_all}
+use Rattle.rm_status.proofs.RowsAfterLemmas.{was_there}
 use Rattle.rm_status.proofs.Bound.{bound_at}
 use Rattle.rm_alarm.specs.declared.course.Course.{Course}
 use Rattle.rm_alarm.specs.declared.thresholds.Thresholds.{Thresholds}
@@ -23,10 +24,10 @@ use Rattle.rm_alarm.specs.declared.row.AlarmRow.{AlarmRow}
 use Rattle.rm_alarm.specs.Kept.{Keeps}
 use Rattle.rm_alarm.specs.Group.{AreSpelledValues}
 use Rattle.rm_alarm.specs.Rows.{set_to, with_column, blank_row, new_row, settled, variable_kept}
-use Rattle.rm_alarm.specs.RowLaws.{set_with}
+use Rattle.rm_alarm.specs.RowForm.{alarm_rows}
 use Rattle.rm_alarm.specs.Spelled.{AreSpelled}
 use Rattle.rm_alarm.specs.Standing.{IsKept, AreKept}
-use Rattle.rm_alarm.proofs.AfterSets.{was_there, there_is}
+use Rattle.rm_alarm.proofs.AfterSets.{there_is}
 use Rattle.rm_alarm.proofs.Samples.{Based}
 
 in_some : {A : Type 0} (x y : A) → Some x ≡ Some y → x ≡ y
@@ -94,6 +95,6 @@ module _ (now : ℕ) (bs : Bindings) (alone : (k : ℕ) → k < length bs → fi
       ap (λ (r : Row AlarmRow). r.columns.variable) made ∙ sym (settled_variable got.0.state got.0.columns) ∙ ap (λ (r : Row AlarmRow). r.columns.variable) got.2 in
       subst (λ (v : Option (List ℕ)). IsSpellable (unwrap_or v (0 ∷ 0 ∷ []))) variable
       (spelled_by (value_given bs (cell_name alarm_entry 3 (i ∷ []))) put.variable old.variable
-      (set_in_all alarm_table with_column new_row set_to set_with bs i 3 old refl (all_fine alarm_table bs alone))
+      (set_in_all alarm_table with_column new_row set_to alarm_rows.set_with bs i 3 old refl (all_fine alarm_table bs alone))
       (λ v e. given_spelled bs (cell_name alarm_entry 3 (i ∷ [])) v values e)
       (old_spelled spelled i (row_in rows i) refl))

@@ -1,7 +1,6 @@
 -- The search for the sample that is due next.
-use Rattle.std.proofs.Common.{◌≡◌, ℕ, ◌<◌, ◌≤◌, List, Option, Some, None, refl, sym, ap, subst, ◌∙◌, option_map, arith}
+use Rattle.std.proofs.Common.{◌≡◌, ℕ, List, Option, Some, None, refl, sym, ap, subst, ◌∙◌, option_map, arith}
 use Rattle.std.specs.Option.{option_and_then}
-use Rattle.rm_model.specs.Indexing.{one_within}
 use Rattle.rm_model.specs.Counting.{Counting}
 use Rattle.rm_model.specs.Journal.{Journal}
 use Rattle.rm_model.specs.ControlRows.{no_rows, is_valid}
@@ -19,7 +18,7 @@ use Rattle.rm_alarm.specs.declared.row.AlarmRow.{AlarmRow}
 use Rattle.rm_alarm.specs.Due.{due_at}
 use Rattle.rm_alarm.specs.Rows.{set_to}
 use Rattle.rm_alarm.specs.Standing.{IsKept, AreKept}
-use Rattle.rm_status.proofs.RowFacts.{no_row_0, found_there}
+use Rattle.rm_status.proofs.RowFacts.{no_row_0}
 use Rattle.rm_alarm.proofs.RowFacts.{state_is}
 
 due_none : (rows : List (Row AlarmRow)) (i : ℕ) → row_in rows i ≡ None → due_at rows i ≡ None
@@ -62,8 +61,3 @@ goes_on rows last index next o after here is = next_more (due_at rows) last inde
 
 pub ends : (rows : List (Row AlarmRow)) (last : ℕ) (next : Option (ℕ × ℕ)) → IsIndexAfter rows last None → IsNextTo (due_at rows) last next → IsNextDue (due_at rows) next
 ends rows last next after is = next_all (due_at rows) last next (λ i low. due_none rows i (after i low)) is
-
-pub above_fits : (rows : List (Row AlarmRow)) (last index : ℕ) → AllThere alarm_table rows → IsIndexAfter rows last (Some index) → (last < index) × (index ≤ 65535)
-above_fits rows last index there after =
-    let fits = one_within index (found_there alarm_table rows index after.1.0 there after.1.1).0 in
-    (after.0, omega (arith, fits))

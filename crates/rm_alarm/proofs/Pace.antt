@@ -19,15 +19,16 @@ use Rattle.rm_status.specs.Rows.{row_in, rows_before, state_seen, columns_seen, 
 use Rattle.rm_status.specs.Change.{changed_row}
 use Rattle.rm_status.specs.Commit.{put_all, row_after}
 use Rattle.rm_status.proofs.Puts.{all_fine, set_in_all}
+use Rattle.rm_status.proofs.RowsAfterLemmas.{was_there}
 use Rattle.rm_alarm.specs.declared.course.Course.{Course}
 use Rattle.rm_alarm.specs.declared.row.AlarmRow.{AlarmRow}
 use Rattle.rm_alarm.specs.Due.{due_at}
 use Rattle.rm_alarm.specs.Left.{sum_below, span_to}
 use Rattle.rm_alarm.specs.Paced.{is_paced, ArePaced}
 use Rattle.rm_alarm.specs.Rows.{set_to, with_column, blank_row, new_row, settled, interval_kept}
-use Rattle.rm_alarm.specs.RowLaws.{set_with}
+use Rattle.rm_alarm.specs.RowForm.{alarm_rows}
 use Rattle.rm_alarm.specs.Taking.{with_course, HasTaken}
-use Rattle.rm_alarm.proofs.AfterSets.{was_there, there_is}
+use Rattle.rm_alarm.proofs.AfterSets.{there_is}
 use Rattle.rm_alarm.proofs.Intervals.{given_seconds}
 use Rattle.rm_alarm.proofs.Sums.{sum_less}
 use Rattle.rm_status.proofs.Bound.{ready_made, not_made_valid}
@@ -155,7 +156,7 @@ module _ (now : ℕ) (bs : Bindings) (alone : (k : ℕ) → k < length bs → fi
     put = put_all alarm_table with_column new_row bs i old
 
     set : option_map int put.interval ≡ option_or (given 2) (option_map int old.interval)
-    set = set_in_all alarm_table with_column new_row set_to set_with bs i 2 old refl (all_fine alarm_table bs alone)
+    set = set_in_all alarm_table with_column new_row set_to alarm_rows.set_with bs i 2 old refl (all_fine alarm_table bs alone)
 
     put_in_range : (z : ℤ) → put.interval ≡ Some z → nat_le 1 (nat_abs z) ≡ true
     put_in_range = interval_by (given 2) put.interval old.interval set (given_seconds bs alone i) (was_in_range (row_in rows i) refl)

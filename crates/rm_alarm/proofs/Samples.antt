@@ -3,17 +3,15 @@ use Rattle.std.proofs.Common.{◌≡◌, ℕ, List, [], ◌∷◌, true, false, 
 use Rattle.std.specs.Prelude.{ℤ}
 use Rattle.std.specs.Option.{option_and_then}
 use borrow.Author.Tests.{eqb-true}
-use Rattle.rm_val.specs.Val.{Val}
 use Rattle.rm_model.specs.Counting.{Counting}
 use Rattle.rm_model.specs.Journal.{Act, Frame, Journal, passes, samples}
-use Rattle.rm_model.specs.ControlRows.{no_rows, is_absent, is_valid, set_value, stays_valid}
-use Rattle.rm_model.specs.Alike.{HasSameColumns}
+use Rattle.rm_model.specs.ControlRows.{no_rows, is_absent, is_valid, stays_valid}
 use Rattle.rm_acts.specs.Alarms.{alarm_table, alarm_state, interval_of, is_delta, readings_in, sampled}
 use Rattle.rm_model.specs.declared.row.State.{State}
 use Rattle.rm_model.specs.declared.row.State.TheVariants.{Absent, UnderCreation, Valid}
 use Rattle.rm_acts.specs.declared.sampled.Sampled.{Sampled}
 use Rattle.rm_status.specs.declared.row.Row.{Row}
-use Rattle.rm_status.specs.Rows.{row_in, state_seen, columns_seen, state_in, columns_in, AreControlRows}
+use Rattle.rm_status.specs.Rows.{row_in, number_in, state_seen, columns_seen, state_in, columns_in, AreControlRows}
 use Rattle.rm_status.specs.RowsAfter.{AreRowsAfter}
 use Rattle.rm_alarm.specs.declared.course.Course.{Course}
 use Rattle.rm_alarm.specs.declared.row.AlarmRow.{AlarmRow}
@@ -22,6 +20,7 @@ use Rattle.rm_alarm.specs.Rows.{set_to}
 use Rattle.rm_alarm.specs.Taking.{Took, with_course, HasTaken}
 use Rattle.rm_alarm.specs.Standing.{IsRunning, IsKept, AreKept, IsBased}
 use Rattle.rm_status.proofs.RowFacts.{row_there}
+use Rattle.rm_status.proofs.RowsBefore.{after_alike}
 use Rattle.rm_alarm.proofs.RowFacts.{state_is, interval_is, delta_is, bounds_is}
 use Rattle.rm_acts.proofs.DueLaws.{same_due}
 use Rattle.rm_alarm.proofs.Steps.{same_values, still_based, runs_on, based_on, comes_to}
@@ -29,15 +28,9 @@ use Rattle.rm_alarm.proofs.Steps.{same_values, still_based, runs_on, based_on, c
 -- rows that were set to the same are those after the same journals
 pub rows_same : (rows new : List (Row AlarmRow)) (journal : Journal) → ((i : ℕ) → state_in new i ≡ state_in rows i) → ((i n : ℕ) → option_and_then (λ c. set_to c n) (columns_in new i) ≡ option_and_then (λ c. set_to c n) (columns_in rows i))
     → AreRowsAfter alarm_table no_rows set_to rows journal → AreRowsAfter alarm_table no_rows set_to new journal
-rows_same rows new journal states columns is = record {
-  alike = record {
-    states = λ i. states i ∙ is.alike.states i;
-    columns = λ i there.
-        let was : is_absent (state_in rows i) ≡ false = ap is_absent (sym (states i)) ∙ there in
-        subst (λ (f : ℕ → Option Val). HasSameColumns alarm_table f (set_value alarm_table no_rows journal (i ∷ []))) (sym (λ d n. columns i n d)) (is.alike.columns i was);
-  };
-  others = is.others;
-}
+rows_same rows new journal states columns is =
+    after_alike alarm_table no_rows set_to set_to rows new journal
+    (λ d. record { state = λ index. states (number_in alarm_table index) d; set = λ index n. columns (number_in alarm_table index) n d }) is
 
 in_some : {A : Type 0} (x y : A) → Some x ≡ Some y → x ≡ y
 in_some x y e = cc

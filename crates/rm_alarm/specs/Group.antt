@@ -15,21 +15,20 @@ use Rattle.rm_model.specs.Indexes.{indexes_of}
 use Rattle.rm_model.proofs.Rows.{row_listed}
 use Rattle.rm_model.specs.ControlTable.{default_of}
 use Rattle.rm_model.specs.ControlRows.{Beginning, cell_name, no_rows}
-use Rattle.rm_model.specs.Judgement.{Bindings, name_at, value_at, place_of, alone_fault, second_pass, IsFirstFault}
+use Rattle.rm_model.specs.Judgement.{Bindings, name_at, value_at, place_of, alone_fault, second_pass}
 use Rattle.rm_acts.specs.Alarms.{alarm_entry, alarm_table, name_of}
 use Rattle.rm_model.specs.Readings.{Readings}
 use Rattle.rm_model.specs.declared.place.Place.{Place}
 use Rattle.rm_model.specs.declared.place.Place.TheVariants.{Cell}
 use Rattle.rm_model.specs.declared.row.State.{State}
 use Rattle.rm_model.specs.declared.row.State.TheVariants.{UnderCreation, Valid, Absent}
-use Rattle.rm_model.specs.declared.verdict.Verdict.TheVariants.{Fine}
 use Rattle.rm_status.specs.declared.row.Row.{Row}
-use Rattle.rm_status.specs.Rows.{row_in, rows_before}
-use Rattle.rm_group.specs.Alone.{AreFineAlone}
+use Rattle.rm_status.specs.Fine as rows
+use Rattle.rm_status.specs.Rows.{row_in}
 use Rattle.rm_group.specs.Listed.{ListedTable}
 use Rattle.rm_alarm.specs.declared.alarms.Alarms.{Alarms}
 use Rattle.rm_alarm.specs.declared.row.AlarmRow.{AlarmRow}
-use Rattle.rm_alarm.specs.Rows.{set_to}
+use Rattle.rm_alarm.specs.RowForm.{alarm_rows}
 use Rattle.rm_alarm.specs.Due.{due_at}
 use Rattle.rm_alarm.specs.AlarmTable.{alarm_columns, alarms_table}
 
@@ -78,10 +77,9 @@ alarm_together readings before bindings place =
 abbrev pub AreSpelledValues : Bindings → Type 0
 AreSpelledValues bindings = (place : ℕ) → place < length bindings → HasSpelling (value_at bindings place)
 
--- nothing is wrong with a Set, by the rows that there are
+-- both passes find nothing wrong with a Set, by the rows that there are, and its values have spellings
 pub record AreFine (alarms : Alarms) (bindings : Bindings) : Type 0 where
-  pub alone : AreFineAlone alarm_alone bindings
-  pub together : IsFirstFault (length bindings) (second_pass alarm_table (rows_before alarm_table set_to alarms.rows) bindings) Fine
+  pub fine : rows.AreFine alarm_rows alarms.rows bindings
   pub values : AreSpelledValues bindings
 
 -- when the next sample of an alarm is due, if it is valid

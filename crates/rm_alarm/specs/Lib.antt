@@ -2,7 +2,7 @@ pub mod SampleType
 pub mod StartupAlarm
 pub mod Kept
 pub mod Rows
-pub mod RowLaws
+pub mod RowForm
 pub mod Spelled
 pub mod Paced
 pub mod Taking

@@ -9,7 +9,7 @@ use Rattle.rm_status.specs.RowsShown.{rows_shown}
 use Rattle.rm_status.specs.Rows.{row_in, row_number}
 use Rattle.rm_alarm.specs.declared.course.Course.{Course}
 use Rattle.rm_alarm.specs.declared.row.AlarmRow.{AlarmRow}
-use Rattle.rm_alarm.specs.RowLaws.{alarm_rows}
+use Rattle.rm_alarm.specs.RowForm.{alarm_rows}
 
 -- the value of the last sample, 0 where there is none
 abbrev pub last_value : Option Course → ℤ

@@ -61,7 +61,7 @@ impl ControlRow for AlarmRow {
 
     ghost use Rattle.rm_val.specs.Spellable.{IsSpellable};
     ghost use Rattle.rm_alarm.specs.Rows.{variable_kept};
-    ghost use Rattle.rm_alarm.specs.RowLaws.{alarm_rows};
+    ghost use Rattle.rm_alarm.specs.RowForm.{alarm_rows};
 
     ghost form = { alarm_rows };
 

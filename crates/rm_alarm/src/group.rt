@@ -38,7 +38,7 @@ impl Group for Alarms {
     ghost together = { λ settings journal now readings bindings place.
         alarm_together readings (rows_after alarm_table no_rows journal) bindings place };
 
-    ghost accepts = { λ s now bindings. AreFine s bindings };
+    ghost accepts = { λ s now. AreFine s };
 
     ghost finite = { λ settings journal now. alarms_finite settings journal };
 
@@ -70,7 +70,7 @@ impl Stores for Alarms {
 
     ghost reserves = { λ settings journal bindings index. ⊥ };
 
-    ghost prepared = { λ s now bindings. AreFine s bindings };
+    ghost prepared = { λ s now. AreFine s };
 
     ghost released = { HasForgotten };
 

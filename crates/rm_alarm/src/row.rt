@@ -3,11 +3,9 @@ use crate::course::Course;
 use crate::sample_type::SampleType;
 use crate::thresholds::Thresholds;
 use arrayvec::ArrayVec;
+use rm_columns::MOST_OWNER;
 use rm_model::Reading;
 use rm_val::Oid;
-
-/// How many octets an owner has at most.
-pub(crate) const MOST_OWNER: usize = 127;
 
 /// The columns of a row of alarmTable (RFC 1757, section 5), with what it keeps of its samples while it is valid.
 #[derive(Drop)]

@@ -17,7 +17,7 @@ module _ (rows : List (Row BufferRow)) (buffers : List (Slot Buffer)) (now colum
 
   -- the packet of a buffer, by the two numbers of an index
   pub shown_at : (index : List ℕ) (row number : ℕ) (buffer : Buffer) → two_numbers index ≡ Some (row, number) → part_in buffers row ≡ Some buffer → shows buffer now number ≡ true
-      → Some (packet_value rows row buffer number column) ≡ cond (is_nested (is_kept_of shows buffers now) index) (Some (value_at (packet_value rows) buffers index column)) None
+      → Some (packet_value rows row buffer number column) ≡ cond (is_nested (is_kept_of shows buffers now) index) (Some (value_at (packet_value rows) buffers column index)) None
   shown_at [] row number buffer e here is = absurd (cc)
   shown_at (a ∷ []) row number buffer e here is = absurd (cc)
   shown_at (a ∷ b ∷ []) row number buffer e here is =

@@ -62,4 +62,4 @@ packet_value rows row buffer number column = option_map_or (stored_shown (column
 
 -- captureBufferTable with these rows and buffers, at the moment 0 as at any other
 abbrev pub packets_shown : List (Row BufferRow) → List (Slot Buffer) → Table
-packets_shown rows buffers = inner_table packet_entry packet_columns (is_kept_of shows buffers 0) (λ column index. value_at (packet_value rows) buffers index column)
+packets_shown rows buffers = inner_table packet_entry packet_columns (is_kept_of shows buffers 0) (value_at (packet_value rows) buffers)

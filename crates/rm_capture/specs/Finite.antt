@@ -1,5 +1,5 @@
 -- That the cells of bufferControlTable and captureBufferTable are finitely many.
-use Rattle.std.proofs.Common.{◌≡◌, ℕ, ◌+◌, ◌≤◌, List, [], ◌∷◌, Contains, Bool, true, false, cond, Some, find, nat_eq, refl, arith}
+use Rattle.std.proofs.Common.{◌≡◌, ℕ, ◌+◌, ◌≤◌, List, [], ◌∷◌, Bool, true, false, cond, Some, find, nat_eq, refl, arith}
 use Rattle.std.specs.Prelude.{is_some}
 use Rattle.std.proofs.lemmas.Bool.Decides.{nat_tests}
 use Rattle.rm_model.specs.Counting.{Counting}
@@ -10,7 +10,7 @@ use Rattle.rm_model.proofs.Finite.{both_finite, table_finite}
 use Rattle.rm_nested.proofs.Finite.{rows_of, in_rows, numbered_of, in_numbered}
 use Rattle.rm_acts.specs.Buffers.{Packet, buffer_table}
 use Rattle.rm_acts.specs.Shown.{buffers_shown}
-use Rattle.rm_capture.specs.PacketTable.{has_number, packets_kept, packet_of, is_packet, packet_table, buffer_cells}
+use Rattle.rm_capture.specs.PacketTable.{has_number, packets_kept, packet_of, packet_table, buffer_cells}
 
 -- no packet has a number above the sum of all
 abbrev sum_of : List Packet → ℕ
@@ -40,15 +40,9 @@ module _ (settings : Counting) (journal : Journal) where
   abbrev packets_of : List (List ℕ)
   packets_of = numbered_of buffer_table journal shows last low
 
-  in_packets : (index : List ℕ) → is_packet settings journal index ≡ true → Contains packets_of index
-  in_packets [] is = absurd (cc)
-  in_packets (row ∷ []) is = absurd (cc)
-  in_packets (row ∷ number ∷ []) is = in_numbered buffer_table journal shows last low (row ∷ number ∷ []) is
-  in_packets (row ∷ number ∷ next ∷ more) is = absurd (cc)
-
   -- the cells of both tables
   pub buffers_finite : AreFinite (buffer_cells settings journal)
   buffers_finite =
       both_finite (cells_of (buffers_shown settings journal)) (cells_of (packet_table settings journal))
       (table_finite (buffers_shown settings journal) (rows_of buffer_table journal) (in_rows buffer_table journal))
-      (table_finite (packet_table settings journal) packets_of in_packets)
+      (table_finite (packet_table settings journal) packets_of (in_numbered buffer_table journal shows last low))

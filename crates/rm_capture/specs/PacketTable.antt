@@ -1,5 +1,5 @@
 -- captureBufferTable (RFC 1757, section 5): the packets that each valid row of bufferControlTable keeps.
-use Rattle.std.specs.Prelude.{ℕ, ◌-◌, pos, min, List, [], ◌∷◌, Bool, false, ◌&&◌, nat_eq, if◌then◌else◌, find, is_some, reverse, Option}
+use Rattle.std.specs.Prelude.{ℕ, ◌-◌, pos, min, List, [], ◌∷◌, Bool, ◌&&◌, nat_eq, if◌then◌else◌, find, is_some, reverse, Option}
 use Rattle.std.specs.Option.{option_map_or, option_or}
 use Rattle.rm_val.specs.Val.{Val, int, octets, null}
 use Rattle.rm_model.specs.Counting.{Counting}
@@ -8,6 +8,7 @@ use Rattle.rm_model.specs.FrameFacts.{frame_facts}
 use Rattle.rm_model.specs.Cells.{Cells, Table, cells_of}
 use Rattle.rm_model.specs.ControlRows.{no_rows, activated}
 use Rattle.rm_group.specs.Listed.{ListedTable}
+use Rattle.rm_nested.specs.InnerTable.{numbered_table}
 use Rattle.rm_acts.specs.Rows.{has_valid}
 use Rattle.rm_acts.specs.Buffers.{Packet, buffer_table, kept_by, shown_octets}
 use Rattle.rm_acts.specs.Shown.{buffers_shown}
@@ -41,9 +42,8 @@ abbrev pub packet_of : Counting → Journal → (buffer number : ℕ) → Option
 packet_of settings journal buffer number = find (has_number number) (packets_kept settings journal buffer)
 
 -- whether these numbers are those of a valid row of bufferControlTable and of a packet that it keeps
-abbrev pub is_packet : Counting → Journal → List ℕ → Bool
-is_packet settings journal (buffer ∷ number ∷ []) = has_valid buffer_table journal buffer && is_some (packet_of settings journal buffer number)
-is_packet settings journal index = false
+abbrev pub is_packet : Counting → Journal → (buffer number : ℕ) → Bool
+is_packet settings journal buffer number = has_valid buffer_table journal buffer && is_some (packet_of settings journal buffer number)
 
 -- What a column of a packet shows. Its time is that from the moment at which the buffer became valid to its own.
 abbrev pub packet_shown : Counting → Journal → (buffer column : ℕ) → Packet → Val
@@ -56,20 +56,14 @@ packet_shown settings journal buffer column packet =
     else if nat_eq column 6 then integer (packet.frame.moment - activated buffer_table no_rows journal (buffer ∷ []))
     else int (pos (frame_facts settings packet.frame).status)
 
--- the same by the numbers of an index
-abbrev pub packet_at : Counting → Journal → (column : ℕ) → List ℕ → Val
-packet_at settings journal column (buffer ∷ number ∷ []) =
+-- the same by the number of the packet
+abbrev pub packet_at : Counting → Journal → (buffer number column : ℕ) → Val
+packet_at settings journal buffer number column =
     option_map_or (packet_shown settings journal buffer column) (packet_of settings journal buffer number) null
-packet_at settings journal column index = null
 
 -- the table after a journal
 abbrev pub packet_table : Counting → Journal → Table
-packet_table settings journal = record {
-  entry = packet_entry;
-  columns = packet_columns;
-  is_row = is_packet settings journal;
-  value = packet_at settings journal;
-}
+packet_table settings journal = numbered_table packet_entry packet_columns (is_packet settings journal) (packet_at settings journal)
 
 -- the cells of bufferControlTable and captureBufferTable
 abbrev pub buffer_cells : Counting → Journal → Cells

@@ -8,10 +8,9 @@ use Rattle.rm_model.specs.Counting.{Counting}
 use Rattle.rm_model.specs.Journal.{Journal}
 use Rattle.rm_model.specs.Alike.{HasSameColumns}
 use Rattle.rm_model.specs.FrameFacts.{frame_facts}
-use Rattle.rm_model.specs.Cells.{Table, behind, cells_of, cell_at, instance_of, instance_left, is_one_of}
+use Rattle.rm_model.specs.Cells.{Table, behind, cells_of, cell_at, instance_left, is_one_of}
 use Rattle.rm_model.specs.ControlCells.{control_cells}
 use Rattle.rm_model.specs.ControlRows.{no_rows, is_absent, is_valid, state_of, set_value, index_value, activated}
-use Rattle.rm_model.specs.declared.instance.Instance.{Instance}
 use Rattle.rm_model.specs.declared.row.State.TheVariants.{Absent, Valid}
 use Rattle.rm_status.specs.declared.row.Row.{Row}
 use Rattle.rm_status.specs.Rows.{row_in, state_seen, columns_seen, columns_in, AreControlRows}
@@ -21,8 +20,9 @@ use Rattle.rm_status.proofs.KeptCellsLaws.{same_control_cells}
 use Rattle.rm_status.proofs.RowFacts.{row_there}
 use Rattle.rm_pool.specs.declared.slot.Slot.{Slot}
 use Rattle.rm_pool.specs.Slots.{part_in}
-use Rattle.rm_nested.specs.NumberedRows.{is_kept_of, shown_by, value_by}
-use Rattle.rm_acts.specs.Rows.{has_valid, number_in}
+use Rattle.rm_nested.specs.NumberedRows.{shown_by, value_by, value_in}
+use Rattle.rm_nested.proofs.NumberedTables.{same_numbered}
+use Rattle.rm_acts.specs.Rows.{number_in}
 use Rattle.rm_acts.specs.Seen.{Seen}
 use Rattle.rm_acts.specs.Buffers.{Packet, buffer_entry, buffer_table, captures, does_wrap, slice_of, cost_of, granted_of, numbered, kept_of, kept_by, full_status}
 use Rattle.rm_acts.specs.Shown.{natural, row_of, while_valid, buffer_shown, buffers_shown}
@@ -40,7 +40,7 @@ use Rattle.rm_capture.specs.Downloads.{downloaded}
 use Rattle.rm_capture.specs.Kept.{oldest, oldest_in, packet_with}
 use Rattle.rm_capture.specs.Numbers.{Rise, numbered_long, kept_rise, found_is}
 use Rattle.rm_capture.specs.Taking.{frames_accepted, IsBuffer}
-use Rattle.rm_capture.specs.PacketTable.{packet_entry, packet_columns, integer, packets_kept, packet_of, packet_shown, packet_table, buffer_cells}
+use Rattle.rm_capture.specs.PacketTable.{packet_entry, packet_columns, integer, packets_kept, packet_of, is_packet, packet_shown, packet_at, packet_table, buffer_cells}
 use Rattle.rm_capture.specs.BufferShown.{status_number, other_of, kept_other, shows, data_shown, stored_shown, packet_value, packets_shown}
 use Rattle.rm_capture.specs.ShownLaws.{shown_is}
 
@@ -206,37 +206,25 @@ module _ (settings : Counting) (journal : Journal) (rows : List (Row BufferRow))
 
     -- the packet that there may be with a number
     packet_same : (number : ℕ) → cond (shows buffer 0 number) (Some (packet_value rows row buffer number column)) None
-        ≡ cond (has_valid buffer_table journal row && is_some (packet_of settings journal row number)) (Some (option_map_or (packet_shown settings journal row column) (packet_of settings journal row number) null)) None
+        ≡ cond (is_packet settings journal row number) (Some (packet_at settings journal row number column)) None
     packet_same number =
         ap (λ t. cond t (Some (packet_value rows row buffer number column)) None) (sym (shown_is buffer 0 number))
         ∙ ap if_stored (packet_is settings journal row buffer valid kept number)
         ∙ if_kept (packet_of settings journal row number)
-        ∙ sym (ap (λ s. cond (is_valid s && is_some (packet_of settings journal row number)) (Some (option_map_or (packet_shown settings journal row column) (packet_of settings journal row number) null)) None) valid)
+        ∙ sym (ap (λ s. cond (is_valid s && is_some (packet_of settings journal row number)) (Some (packet_at settings journal row number column)) None) valid)
 
   module _ (buffers : List (Slot Buffer)) (are : (row : ℕ) → IsKept buffer_table IsBuffer settings journal row (part_in buffers row)) where
     of_buffer : (row number column : ℕ) (o : Option Buffer) → IsKept buffer_table IsBuffer settings journal row o
         → cond (shown_by shows o 0 number) (Some (value_by (packet_value rows) row o number column)) None
-        ≡ cond (has_valid buffer_table journal row && is_some (packet_of settings journal row number)) (Some (option_map_or (packet_shown settings journal row column) (packet_of settings journal row number) null)) None
+        ≡ cond (is_packet settings journal row number) (Some (packet_at settings journal row number column)) None
     of_buffer row number column None idle =
-        sym (ap (λ b. cond (b && is_some (packet_of settings journal row number)) (Some (option_map_or (packet_shown settings journal row column) (packet_of settings journal row number) null)) None) idle)
+        sym (ap (λ b. cond (b && is_some (packet_of settings journal row number)) (Some (packet_at settings journal row number column)) None) idle)
     of_buffer row number column (Some buffer) kept = packet_same row buffer kept.0 kept.1 column number
 
-    of_pair : (row number column : ℕ) → cond (is_kept_of shows buffers 0 row (number ∷ [])) (Some (value_by (packet_value rows) row (part_in buffers row) number column)) None
-        ≡ cond (has_valid buffer_table journal row && is_some (packet_of settings journal row number)) (Some (option_map_or (packet_shown settings journal row column) (packet_of settings journal row number) null)) None
-    of_pair row number column = of_buffer row number column (part_in buffers row) (are row)
-
-    packet_cell_at : (at : Option Instance) → cell_at (packets_shown rows buffers) at ≡ cell_at (packet_table settings journal) at
-    packet_cell_at None = refl
-    packet_cell_at (Some at) = by_index at.index
-      where
-        by_index : (index : List ℕ) → cell_at (packets_shown rows buffers) (Some (record { column = at.column; index = index })) ≡ cell_at (packet_table settings journal) (Some (record { column = at.column; index = index }))
-        by_index [] = refl
-        by_index (row ∷ []) = refl
-        by_index (row ∷ number ∷ []) = of_pair row number at.column
-        by_index (row ∷ number ∷ next ∷ more) = refl
-
     pub same_packets : (name : List ℕ) → cells_of (packets_shown rows buffers) name ≡ cells_of (packet_table settings journal) name
-    same_packets name = packet_cell_at (instance_of packet_entry packet_columns name)
+    same_packets =
+        same_numbered packet_entry packet_columns (λ row number. shown_by shows (part_in buffers row) 0 number) (value_in (packet_value rows) buffers) (is_packet settings journal) (packet_at settings journal)
+        (λ row number column. of_buffer row number column (part_in buffers row) (are row))
 
 -- both
 pub same_cells : (settings : Counting) (journal : Journal) (rows : List (Row BufferRow)) (buffers : List (Slot Buffer)) → AreControlRows buffer_table rows → AreRowsAfter buffer_table no_rows set_to rows journal

@@ -8,14 +8,14 @@ ghost use Rattle.rm_capture.specs.InRange.{channel_kept};
 
 use crate::full_action::FullAction;
 use arrayvec::ArrayVec;
-use rm_columns::{ControlRow, ControlSheet, Numbered, OneNumber, number_in, put_text, same_text};
+use rm_columns::{
+    ControlRow, ControlSheet, MOST_OWNER, Numbered, OneNumber, natural, number_in, put_text,
+    same_text,
+};
 use rm_group::TableObjects;
 use rm_model::Setting::{Empty, Number};
 use rm_model::{ColumnKind, StatusKind, column, numbers};
 use rm_val::{Oid, Value};
-
-/// How many octets an owner has at most.
-const MOST_OWNER: usize = 127;
 
 /// How many octets a packet has at most.
 pub const MOST_SLICE: u32 = 262_144;
@@ -115,13 +115,6 @@ impl BufferRow {
             size => &behind[..size.min(behind.len())],
         }
     }
-}
-
-// A number that a column shows, 0 where it is negative.
-fn natural(number: i32) -> u32
-    ensures { result ≡ natural_in (int number) }
-{
-    u32::try_from(number).unwrap_or(0)
 }
 
 impl ControlRow for BufferRow {

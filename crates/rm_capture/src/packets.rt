@@ -4,7 +4,6 @@ ghost use Rattle.std.specs.Option.{option_copied};
 ghost use Rattle.rm_val.specs.Val.{val_of};
 ghost use Rattle.rm_val.specs.Spellable.{HasSpelling};
 ghost use Rattle.rm_ring.specs.Kept.{stored};
-ghost use Rattle.rm_nested.specs.NumberedRows.{two_numbers};
 ghost use Rattle.rm_capture.specs.PacketTable.{integer};
 ghost use Rattle.rm_capture.specs.BufferShown.{data_shown, stored_shown, other_of, packet_value};
 
@@ -14,10 +13,10 @@ use crate::captured::PacketInfo;
 use rm_collect::RowColumns;
 use rm_group::TableObjects;
 use rm_model::Instance;
-use rm_nested::{InnerCells, NumberedPart, NumberedRows};
+use rm_nested::{InnerCells, NumberedPart, NumberedRows, two_numbers};
 use rm_pool::Pool;
 use rm_ring::Packet;
-use rm_val::{Oid, Value};
+use rm_val::Value;
 
 /// The objects of captureBufferTable (RFC 1757, section 5): captureBufferControlIndex, captureBufferIndex, captureBufferPacketID,
 /// captureBufferPacketData, captureBufferPacketLength, captureBufferPacketTime and captureBufferPacketStatus.
@@ -100,7 +99,7 @@ impl<'a, R: RowColumns<BufferRow>> InnerCells<'a> for Packets<'a, R> {
     ghost use Rattle.rm_pool.specs.Pools.{AreNumbered};
     ghost use Rattle.rm_nested.specs.NumberedRows.{value_at};
 
-    ghost shown = { λ s column index. value_at (packet_value (R.rows s.rows.now)) s.buffers.now index column };
+    ghost shown = { λ s. value_at (packet_value (R.rows s.rows.now)) s.buffers.now };
 
     ghost can_show = { λ s. AreNumbered s.buffers.now };
 
@@ -130,17 +129,6 @@ fn show_packet<'a, R: RowColumns<BufferRow>>(
     match buffer.captured.numbered(number) {
         Some(packet) => show(rows.columns(row), row, buffer.started, column, packet),
         None => Value::Null,
-    }
-}
-
-// The numbers of an index that has two.
-fn two_numbers(index: &Oid) -> Option<(u32, u32)>
-    ensures { result ≡ two_numbers index.now }
-{
-    if index.len() == 2 {
-        Some((index.at(0), index.at(1)))
-    } else {
-        None
     }
 }
 

@@ -76,7 +76,7 @@ module _ {C : Type 0} (form : RowForm C) (journal : Journal) (now : ℕ) (bs : B
   with_set = assigns now values ∷ journal
 
   pub rows_with_set : AreRowsAfter form.table no_rows form.set_to new with_set
-  rows_with_set = rows_committed form no_rows journal now values bs rows new set
+  rows_with_set = rows_committed form set now
 
   module _ (i : ℕ) where
     abbrev index : List ℕ
@@ -91,7 +91,7 @@ module _ {C : Type 0} (form : RowForm C) (journal : Journal) (now : ℕ) (bs : B
       valid_now = valid_is (state_of form.table no_rows with_set index) (ap is_valid (sym new_state) ∙ valid)
 
       pub goes_on : GoesOn form.table i journal with_set
-      goes_on = goes_on_by form journal now later bs values set.gives rows set.together set.stood i old (ap is_valid valid_now)
+      goes_on = goes_on_by form journal now later bs values set.gives rows set.fine.together set.stood i old (ap is_valid valid_now)
 
     -- a row that becomes valid
     module _ (idle : is_valid (state_of form.table no_rows journal index) ≡ false) (row : Row C) (here : row_in new i ≡ Some row) (valid : is_valid row.state ≡ true) where

@@ -50,15 +50,15 @@ module _ {C P S J : Type 0} (form : RowForm C) (collection : Collection C P S J)
     kept_taken (Some part) None b fit is = absurd b
     kept_taken (Some part) (Some new) b fit is = (is.0, laws.is_of_taken settings journal row frame judged part new is.0 judges fit is.1 b)
 
--- What is held after one more frame.
-module _ {C P S J : Type 0} (form : RowForm C) (collection : Collection C P S J) (laws : IsLawful form collection) (held : Held C P S) (well : IsWellHeld collection held) (judged : List J)
-    (facts : Facts) (octets : List ℕ) (number moment : ℕ) (later : held.last ≤ moment)
+-- What is held after one more frame, where this is what a caller sees before it.
+module _ {C P S J : Type 0} (form : RowForm C) (collection : Collection C P S J) (laws : IsLawful form collection) {held seen : Held C P S} (is_seen : held ≡ seen) (well : IsWellHeld collection held) (judged : List J)
+    (facts : Facts) (octets : List ℕ) (number moment : ℕ) (later : seen.last ≤ moment)
     (parts : List (Slot P)) (became : (row : ℕ) → Became (collection.takes judged (passed facts octets number moment) held.frames) (part_in held.parts row) (part_in parts row)) where
   abbrev with_frame : Held C P S
   with_frame = record { rows = held.rows; parts = parts; shared = held.shared; frames = held.frames + 1; last = moment }
 
   fit_then : (row : ℕ) → Allowed (collection.fits moment held.frames) (part_in held.parts row)
-  fit_then row = fit_later form collection laws held.last moment held.frames later (part_in held.parts row) (well.fits row)
+  fit_then row = fit_later form collection laws held.last moment held.frames (rw is_seen later) (part_in held.parts row) (well.fits row)
 
   pub well_with_frame : IsWellHeld collection with_frame
   well_with_frame = record {
@@ -67,18 +67,20 @@ module _ {C P S J : Type 0} (form : RowForm C) (collection : Collection C P S J)
     of_valid = λ row. still_has (collection.takes judged (passed facts octets number moment) held.frames) (part_in held.parts row) (part_in parts row) (became row) ∙ well.of_valid row;
   }
 
-  pub stands_with_frame : (settings : Counting) (journal : Journal) (frame : Frame) → Stands form collection held settings journal → IsOf settings frame facts octets number moment
+  pub stands_with_frame : (settings : Counting) (journal : Journal) (frame : Frame) → Stands form collection seen settings journal → IsOf settings frame facts octets number moment
       → collection.judges settings journal frame judged → Stands form collection with_frame settings (passes frame ∷ journal)
-  stands_with_frame settings journal frame stands of judges = record {
-    suits = laws.suits_taken settings journal frame held.shared stands.suits;
-    given = more held.frames (length (frames_in journal)) stands.given;
-    rows = rows_passes form.table no_rows form.set_to held.rows journal frame stands.rows;
-    parts = λ row.
-        let by_frame = subst (λ (seen : Passed). Became (collection.takes judged seen held.frames) (part_in held.parts row) (part_in parts row)) of_frame (became row) in
-        let took = subst (λ n. Became (collection.takes judged (frame_passed settings frame) n) (part_in held.parts row) (part_in parts row)) stands.given by_frame in
-        let fit = subst (λ n. Allowed (collection.fits n held.frames) (part_in held.parts row)) of.at (fit_then row) in
-        kept_taken form collection laws settings journal frame judged judges row (part_in held.parts row) (part_in parts row) took (subst (λ n. Allowed (collection.fits frame.moment n) (part_in held.parts row)) stands.given fit) (stands.parts row);
-  }
+  stands_with_frame settings journal frame stands of judges =
+      let stood : Stands form collection held settings journal = rw is_seen stands in
+      record {
+        suits = laws.suits_taken settings journal frame held.shared stood.suits;
+        given = more held.frames (length (frames_in journal)) stood.given;
+        rows = rows_passes form.table no_rows form.set_to held.rows journal frame stood.rows;
+        parts = λ row.
+            let by_frame = subst (λ (by : Passed). Became (collection.takes judged by held.frames) (part_in held.parts row) (part_in parts row)) of_frame (became row) in
+            let took = subst (λ n. Became (collection.takes judged (frame_passed settings frame) n) (part_in held.parts row) (part_in parts row)) stood.given by_frame in
+            let fit = subst (λ n. Allowed (collection.fits n held.frames) (part_in held.parts row)) of.at (fit_then row) in
+            kept_taken form collection laws settings journal frame judged judges row (part_in held.parts row) (part_in parts row) took (subst (λ n. Allowed (collection.fits frame.moment n) (part_in held.parts row)) stood.given fit) (stood.parts row);
+      }
     where
       more : (n k : ℕ) → n ≡ k → n + 1 ≡ suc k
       more n k same = omega arith

@@ -1,5 +1,5 @@
 -- A Set that was begun is whole where nothing is to be turned by it, and once what is has been turned.
-use Rattle.std.proofs.Common.{ℕ, List, [], ◌∷◌, Option, Some, None, sym, ◌∙◌}
+use Rattle.std.proofs.Common.{◌≡◌, ℕ, List, [], ◌∷◌, Option, Some, None, sym, ◌∙◌}
 use Rattle.rm_model.specs.Counting.{Counting}
 use Rattle.rm_model.specs.Journal.{Act, Assignments, Journal, passes, assigns, samples}
 use Rattle.rm_columns.specs.RowForm.{RowForm}
@@ -32,8 +32,8 @@ module _ {C P S J : Type 0} (form : RowForm C) (collection : Collection C P S J)
       parts = λ row. kept_whole row (part_in held.parts row) (begun.parts row);
     }
 
--- What a Set turns has been turned for each row, by what rows share after it.
-module _ {C P S J : Type 0} (form : RowForm C) (collection : Collection C P S J) (held : Held C P S) (shared : S) (parts : List (Slot P))
+-- What a Set turns has been turned for each row, by what rows share after it, where this is what a caller sees before.
+module _ {C P S J : Type 0} (form : RowForm C) (collection : Collection C P S J) {held seen : Held C P S} (is_seen : held ≡ seen) (shared : S) (parts : List (Slot P))
     (became : (row : ℕ) → Became (IsTurned collection shared held.frames) (part_in held.parts row) (part_in parts row)) where
   abbrev with_turned : Held C P S
   with_turned = record { rows = held.rows; parts = parts; shared = shared; frames = held.frames; last = held.last }
@@ -70,8 +70,9 @@ module _ {C P S J : Type 0} (form : RowForm C) (collection : Collection C P S J)
     }
 
   pub stands_turned : (settings : Counting) (journal : Journal) → ((earlier : Journal) → collection.suits held.shared settings earlier → collection.suits shared settings journal)
-      → HasBegun form collection held settings journal → Stands form collection with_turned settings journal
+      → HasBegun form collection seen settings journal → Stands form collection with_turned settings journal
   stands_turned settings [] suits begun = absurd begun
   stands_turned settings (passes frame ∷ earlier) suits begun = absurd begun
   stands_turned settings (samples moment alarm reading ∷ earlier) suits begun = absurd begun
-  stands_turned settings (assigns moment values ∷ earlier) suits begun = set_turned settings moment values earlier (suits earlier begun.suits) begun
+  stands_turned settings (assigns moment values ∷ earlier) suits begun =
+      let had : HasBegunSet form collection held settings (assigns moment values) earlier = rw is_seen begun in set_turned settings moment values earlier (suits earlier had.suits) had

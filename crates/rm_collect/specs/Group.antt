@@ -1,15 +1,14 @@
 -- A control table whose valid rows collect, as a caller sees it.
-use Rattle.std.specs.Prelude.{◌≡◌, ℕ, ◌≤◌, max, [], ◌∷◌, length}
+use Rattle.std.specs.Prelude.{◌≡◌, ℕ, [], ◌∷◌, length}
 use Rattle.rm_model.specs.Counting.{Counting}
 use Rattle.rm_model.specs.Journal.{Act, Journal, passes, assigns, samples, frames_in}
 use Rattle.rm_model.specs.ControlRows.{no_rows}
-use Rattle.rm_model.specs.Judgement.{Bindings, second_pass, IsFirstFault}
-use Rattle.rm_model.specs.Reserves.{count_valid, count_valid_after}
-use Rattle.rm_model.specs.declared.verdict.Verdict.TheVariants.{Fine}
+use Rattle.rm_model.specs.Judgement.{Bindings}
 use Rattle.rm_group.specs.Alone.{AreFineAlone}
 use Rattle.rm_columns.specs.RowForm.{RowForm}
-use Rattle.rm_status.specs.Rows.{rows_before}
+use Rattle.rm_status.specs.Fine as rows
 use Rattle.rm_status.specs.RowsAfter.{AreRowsAfter}
+use Rattle.rm_pool.specs.Room as pool
 use Rattle.rm_pool.specs.Slots.{part_in}
 use Rattle.rm_collect.specs.Rows.{IsKept}
 use Rattle.rm_collect.specs.Collection.{Collection, alone, begun_by}
@@ -26,12 +25,12 @@ module _ {C P S : Type 0} where
 
   -- there is the storage of one row, whether it is spare or not
   abbrev pub IsStocked : Held C P S → Type 0
-  IsStocked held = 1 ≤ length held.parts
+  IsStocked held = pool.IsStocked held.parts
 
 module _ {C P S : Type 0} (form : RowForm C) where
   -- there is storage for the valid rows only, or for one row where none is valid
   abbrev pub IsReleased : Held C P S → Type 0
-  IsReleased held = length held.parts ≤ max 1 (count_valid form.table (rows_before form.table form.set_to held.rows))
+  IsReleased held = pool.IsReleased form held.rows held.parts
 
 module _ {C P S J : Type 0} (form : RowForm C) (collection : Collection C P S J) where
   -- It stands for a journal: what the rows share is what the probe was set to and what another group makes of the journal, it was given as
@@ -59,9 +58,9 @@ module _ {C P S J : Type 0} (form : RowForm C) (collection : Collection C P S J)
   -- both passes find nothing wrong with a Set, by the rows that are held
   pub record AreFine (held : Held C P S) (bindings : Bindings) : Type 0 where
     pub each : AreFineAlone (alone form collection) bindings
-    pub together : IsFirstFault (length bindings) (second_pass form.table (rows_before form.table form.set_to held.rows) bindings) Fine
+    pub by_rows : rows.AreFine form held.rows bindings
 
   -- nothing is wrong with a Set, and there is storage for each row that is valid after it
   pub record IsPrepared (held : Held C P S) (bindings : Bindings) : Type 0 where
     pub fine : AreFine held bindings
-    pub enough : count_valid_after form.table (rows_before form.table form.set_to held.rows) bindings ≤ length held.parts
+    pub room : pool.HasRoom form held.rows held.parts bindings

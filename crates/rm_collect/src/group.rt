@@ -30,7 +30,7 @@ impl<P: Collected> Group for Collecting<P> {
 
     ghost together = { λ settings journal now readings bindings place. second_pass P.Columns.form.table (rows_after P.Columns.form.table no_rows journal) bindings place };
 
-    ghost accepts = { λ s now bindings. AreFine P.Columns.form P.collection s bindings };
+    ghost accepts = { λ s now. AreFine P.Columns.form P.collection s };
 
     ghost finite = { P.laws.finite };
 
@@ -65,7 +65,7 @@ impl<P: Collected> Stores for Collecting<P> {
 
     ghost reserves = { λ settings journal bindings index. Reserves P.Columns.form.table (rows_after P.Columns.form.table no_rows journal) bindings index };
 
-    ghost prepared = { λ s now bindings. IsPrepared P.Columns.form P.collection s bindings };
+    ghost prepared = { λ s now. IsPrepared P.Columns.form P.collection s };
 
     ghost released = { IsReleased P.Columns.form };
 

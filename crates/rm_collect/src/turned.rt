@@ -27,7 +27,7 @@ pub trait Turned: Collected {
             → Self.Collected.collection.is_of settings (assigns moment values ∷ earlier) row self.new };
 }
 
-/// What valid rows collect beside another group, by what that one says.
+/// What valid rows collect by what another group says.
 pub trait ByOther<G: Group>: Turned {
     /// What rows share once the other group has done a Set, by what they shared before.
     fn shared_by(before: &Self::Shared, other: &G) -> Self::Shared

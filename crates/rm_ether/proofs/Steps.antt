@@ -1,5 +1,5 @@
 -- The rows and their counters after each act.
-use Rattle.std.proofs.Common.{◌≡◌, ℕ, ◌+◌, ◌%◌, ◌^◌, ◌<◌, List, [], ◌∷◌, length, refl, sym, ◌∙◌, ap, Bool, true, false, cond, ◌&&◌, Option, Some, None, nat_eq, option_map, arith}
+use Rattle.std.proofs.Common.{◌≡◌, ℕ, ◌+◌, ◌%◌, ◌^◌, List, [], ◌∷◌, refl, sym, ◌∙◌, ap, Bool, true, false, cond, ◌&&◌, Option, Some, None, nat_eq, option_map, arith}
 use Rattle.std.specs.Prelude.{filter, unwrap_or}
 use Rattle.std.specs.List.{sum_by}
 use Rattle.std.specs.Option.{option_and_then}
@@ -8,21 +8,20 @@ use Rattle.std.proofs.Math.Nat.{mod-add-mod}
 use Rattle.rm_val.specs.Val.{name}
 use Rattle.rm_proto.specs.declared.known.Facts.{Facts}
 use Rattle.rm_model.specs.Counting.{Counting}
-use Rattle.rm_model.specs.Journal.{Frame, Assignments, Journal, passes, assigns, frames_in, value_given}
+use Rattle.rm_model.specs.Journal.{Frame, Assignments, Journal, passes, assigns, frames_in}
 use Rattle.rm_model.specs.FrameFacts.{frame_facts}
 use Rattle.rm_model.specs.Interfaces.{interface_name, is_interface, frames_of}
 use Rattle.rm_model.specs.ControlTable.{default_of}
 use Rattle.rm_model.specs.ControlRows.{set_ask, next_state, is_absent, is_valid, since, stays_valid}
-use Rattle.rm_model.specs.Judgement.{Bindings, second_pass}
+use Rattle.rm_model.specs.Judgement.{Bindings}
 use Rattle.rm_model.specs.declared.row.State.{State}
 use Rattle.rm_model.specs.declared.row.State.TheVariants.{Absent, Valid}
 use Rattle.rm_status.specs.declared.row.Row.{Row}
-use Rattle.rm_status.specs.Rows.{row_in, rows_before, state_seen, columns_seen, AreControlRows}
+use Rattle.rm_status.specs.Rows.{row_in, state_seen, columns_seen}
 use Rattle.rm_status.specs.Change.{changed_row}
-use Rattle.rm_status.specs.Commit.{put_all, row_after}
 use Rattle.rm_status.specs.RowsAfter.{AreRowsAfter}
-use Rattle.rm_status.proofs.Puts.{AllFine}
-use Rattle.rm_status.proofs.RowsAfterLemmas.{rows_passes, rows_changed, rows_assigns, since_idle, since_starts, frames_kept, all_leave, is_after}
+use Rattle.rm_status.proofs.Committed.{IsCommitted, changed_committed, state_committed, row_committed, other_left}
+use Rattle.rm_status.proofs.RowsAfterLemmas.{rows_passes, rows_changed, since_idle, since_starts, frames_kept, not_first, was_there}
 use Rattle.rm_status.proofs.RowFacts.{valid_is, valid_there}
 use Rattle.rm_status.proofs.RowsThen.{column_stays}
 use Rattle.rm_ether.specs.declared.counter.Counter.{Counter}
@@ -32,7 +31,7 @@ use Rattle.rm_ether.specs.declared.row.StatisticsRow.{StatisticsRow}
 use Rattle.rm_ether.specs.Counted.{counted}
 use Rattle.rm_ether.specs.EtherStats.{ether_stats, ether_beginning, ether_state, ether_column, counted_frames, counter_sum}
 use Rattle.rm_ether.specs.Standing.{counter_of, no_sums, with_frame}
-use Rattle.rm_ether.specs.StatisticsRows.{set_to, with_column, blank_row, new_row, statistics_rows, counting, resting}
+use Rattle.rm_ether.specs.StatisticsRows.{set_to, blank_row, statistics_rows, counting, resting}
 use Rattle.rm_ether.specs.Group.{AreCounted}
 use Rattle.rm_ether.proofs.Sources.{sum_more, is_source}
 
@@ -43,11 +42,6 @@ no_sum each = refl
 pub one_more_sum : (facts : Facts) (statistics : Statistics) (each : Counter) → counter_of (with_frame facts statistics) each ≡ (counter_of statistics each + counted each facts) % 2 ^ 64
 one_more_sum facts statistics DropEvents = refl
 one_more_sum facts statistics each = refl
-
--- a row that is changed was there
-was_there : (f : Row StatisticsRow → Row StatisticsRow) (o : Option (Row StatisticsRow)) (row : Row StatisticsRow) → option_map f o ≡ Some row → (old : Row StatisticsRow) × (o ≡ Some old) × (f old ≡ row)
-was_there f None row e = absurd (cc)
-was_there f (Some old) row e = (old, refl, cc)
 
 abbrev of_frames : Counting → Counter → List Frame → ℕ
 of_frames settings each frames = sum_by (λ frame. counted each (frame_facts settings frame)) frames
@@ -138,29 +132,17 @@ module _ (settings : Counting) (journal : Journal) (frame : Frame) (facts : Fact
 
 -- A Set with which nothing is wrong.
 
-not_first : (a b : Bool) → b ≡ true → (a && b) ≡ false → a ≡ false
-not_first true b is h = absurd (cc)
-not_first false b is h = refl
-
-module _ (settings : Counting) (journal : Journal) (moment : ℕ) (bs : Bindings) (values : Assignments)
-    (gives : (name : List ℕ) → value_given values name ≡ value_given bs name)
-    (fine : AllFine ether_stats bs)
-    (rows middle new : List (Row StatisticsRow)) (held : AreControlRows ether_stats rows)
-    (together : (k : ℕ) → k < length bs → second_pass ether_stats (rows_before ether_stats set_to rows) bs k ≡ None)
-    (after : (i : ℕ) → row_in middle i ≡ row_after ether_stats with_column new_row bs i (row_in rows i))
-    (rested : (i : ℕ) → row_in new i ≡ option_map (changed_row (λ index state row. resting state row)) (row_in middle i))
-    (is : AreRowsAfter ether_stats (ether_beginning settings) set_to rows journal) (sums : AreCounted rows settings journal) where
+module _ (settings : Counting) (journal : Journal) (moment : ℕ) (bs : Bindings) (values : Assignments) (rows middle new : List (Row StatisticsRow))
+    (set : IsCommitted statistics_rows (ether_beginning settings) journal values bs rows middle)
+    (rested : (i : ℕ) → row_in new i ≡ option_map (changed_row (λ index state row. resting state row)) (row_in middle i)) (sums : AreCounted rows settings journal) where
   abbrev with_set : Journal
   with_set = assigns moment values ∷ journal
 
   resting_keeps : (number : ℕ) (state : State) (row : StatisticsRow) (n : ℕ) → set_to (resting state row) n ≡ set_to row n
   resting_keeps number state row n = elim (is_valid state) as (λ b. set_to (cond b row (record row { statistics = no_sums })) n ≡ set_to row n) [ true ↦ refl | false ↦ refl ]
 
-  middle_rows : AreRowsAfter ether_stats (ether_beginning settings) set_to middle with_set
-  middle_rows = rows_assigns ether_stats (ether_beginning settings) set_to with_column new_row statistics_rows.set_with statistics_rows.blank_alike refl journal moment bs values gives fine rows middle held is after
-
   pub rows_with_set : AreRowsAfter ether_stats (ether_beginning settings) set_to new with_set
-  rows_with_set = rows_changed ether_stats (ether_beginning settings) set_to (λ index state row. resting state row) resting_keeps middle new rested with_set middle_rows
+  rows_with_set = changed_committed statistics_rows set moment (λ index state row. resting state row) resting_keeps new rested
 
   module _ (i : ℕ) (mid : Row StatisticsRow) (here : row_in middle i ≡ Some mid) (each : Counter) where
     abbrev place : List ℕ
@@ -169,14 +151,11 @@ module _ (settings : Counting) (journal : Journal) (moment : ℕ) (bs : Bindings
     abbrev was : Option (Row StatisticsRow)
     was = row_in rows i
 
-    next : (mid.state ≡ next_state (set_ask ether_stats bs place) (state_seen was)) × (mid.columns ≡ put_all ether_stats with_column new_row bs i (unwrap_or (columns_seen was) blank_row))
-    next = is_after ether_stats with_column new_row bs i was mid (sym (after i) ∙ here)
-
     new_state : mid.state ≡ ether_state settings with_set place
-    new_state = state_is settings middle with_set middle_rows i mid here
+    new_state = state_committed statistics_rows set moment i mid here
 
     sums_left : mid.columns.statistics ≡ (unwrap_or (columns_seen was) blank_row).statistics
-    sums_left = ap (λ c. c.statistics) next.1 ∙ all_leave ether_stats with_column new_row (λ c. c.statistics) (λ c n v. refl) bs i (unwrap_or (columns_seen was) blank_row)
+    sums_left = other_left statistics_rows set i mid here (λ c. c.statistics) (λ c n v. refl)
 
     -- a row that wasn't valid had counted nothing
     none_before : (o : Option (Row StatisticsRow)) → was ≡ o → is_valid (ether_state settings journal place) ≡ false → counter_of (unwrap_or (columns_seen o) blank_row).statistics each ≡ 0
@@ -186,7 +165,7 @@ module _ (settings : Counting) (journal : Journal) (moment : ℕ) (bs : Bindings
     -- a row that was valid had counted what the journal gives
     sum_before : (o : Option (Row StatisticsRow)) → was ≡ o → is_valid (ether_state settings journal place) ≡ true → counter_of (unwrap_or (columns_seen o) blank_row).statistics each ≡ counter_sum settings journal place each % 2 ^ 64
     sum_before None e valid =
-        let absent : Absent ≡ ether_state settings journal place = ap state_seen (sym e) ∙ is.alike.states i in
+        let absent : Absent ≡ ether_state settings journal place = ap state_seen (sym e) ∙ set.stood.alike.states i in
         let no : is_valid Absent ≡ true = ap is_valid absent ∙ valid in
         absurd (cc)
     sum_before (Some row) e valid = sums i row e each
@@ -194,9 +173,10 @@ module _ (settings : Counting) (journal : Journal) (moment : ℕ) (bs : Bindings
     -- the data source of a row that stays valid is as it was
     same_source : is_valid (ether_state settings journal place) ≡ true → is_valid mid.state ≡ true → ether_column settings with_set place 2 ≡ ether_column settings journal place 2
     same_source old valid =
-        let was_valid : state_seen was ≡ Valid = is.alike.states i ∙ valid_is (ether_state settings journal place) old in
+        let was_valid : state_seen was ≡ Valid = set.stood.alike.states i ∙ valid_is (ether_state settings journal place) old in
+        let next = row_committed statistics_rows set i mid here in
         let stays : is_valid (next_state (set_ask ether_stats bs place) Valid) ≡ true = ap (λ s. is_valid (next_state (set_ask ether_stats bs place) s)) (sym was_valid) ∙ sym (ap is_valid next.0) ∙ valid in
-        column_stays ether_stats (ether_beginning settings) set_to journal moment bs values gives rows together is i 2 refl refl old stays
+        column_stays ether_stats (ether_beginning settings) set_to journal moment bs values set.gives rows set.fine.together set.stood i 2 refl refl old stays
 
     valid_with_set : is_valid mid.state ≡ true → (b : Bool) → stays_valid ether_stats (ether_beginning settings) (assigns moment values) journal place ≡ b → counter_of mid.columns.statistics each ≡ counter_sum settings with_set place each % 2 ^ 64
     valid_with_set valid true stays =

@@ -1,14 +1,13 @@
 -- The group statistics, as a caller sees it.
-use Rattle.std.specs.Prelude.{◌≡◌, ℕ, ◌%◌, ◌^◌, List, [], ◌∷◌, length, Option, Some}
+use Rattle.std.specs.Prelude.{◌≡◌, ℕ, ◌%◌, ◌^◌, List, [], ◌∷◌, Option, Some}
 use Rattle.rm_val.specs.Val.{Val}
 use Rattle.rm_val.specs.declared.error.ErrorStatus.{ErrorStatus}
 use Rattle.rm_model.specs.Counting.{Counting}
 use Rattle.rm_model.specs.Journal.{Journal}
-use Rattle.rm_model.specs.Judgement.{Bindings, place_of, alone_fault, second_pass, IsFirstFault}
-use Rattle.rm_model.specs.declared.verdict.Verdict.TheVariants.{Fine}
+use Rattle.rm_model.specs.Judgement.{Bindings, place_of, alone_fault}
 use Rattle.rm_status.specs.declared.row.Row.{Row}
-use Rattle.rm_status.specs.Rows.{row_in, rows_before}
-use Rattle.rm_group.specs.Alone.{AreFineAlone}
+use Rattle.rm_status.specs.Fine as rows
+use Rattle.rm_status.specs.Rows.{row_in}
 use Rattle.rm_group.specs.Listed.{ListedTable}
 use Rattle.rm_ether.specs.Columns.{ether_columns}
 use Rattle.rm_status.specs.RowsAfter.{AreRowsAfter}
@@ -17,7 +16,7 @@ use Rattle.rm_ether.specs.declared.row.StatisticsRow.{StatisticsRow}
 use Rattle.rm_ether.specs.declared.ether.Ether.{Ether}
 use Rattle.rm_ether.specs.EtherStats.{ether_entry, ether_stats, ether_beginning, counter_sum}
 use Rattle.rm_ether.specs.Standing.{counter_of}
-use Rattle.rm_ether.specs.StatisticsRows.{set_to}
+use Rattle.rm_ether.specs.StatisticsRows.{set_to, statistics_rows}
 
 -- how many frames the group was given
 abbrev pub frames_given : Ether → ℕ
@@ -47,6 +46,5 @@ abbrev pub ether_alone : List ℕ → Val → Option ErrorStatus
 ether_alone name value = alone_fault ether_stats (place_of ether_stats name) value
 
 -- both passes find nothing wrong with a Set, by the rows that are kept
-pub record AreFine (ether : Ether) (bindings : Bindings) : Type 0 where
-  pub alone : AreFineAlone ether_alone bindings
-  pub together : IsFirstFault (length bindings) (second_pass ether_stats (rows_before ether_stats set_to ether.rows) bindings) Fine
+abbrev pub AreFine : Ether → Bindings → Type 0
+AreFine ether = rows.AreFine statistics_rows ether.rows

@@ -30,10 +30,6 @@ with_column row n value = record {
 abbrev pub blank_row : StatisticsRow
 blank_row = record { source = 1; owner = record { items = [] }; statistics = no_sums }
 
--- whatever its index
-abbrev pub new_row : ℕ → StatisticsRow
-new_row index = blank_row
-
 -- the row that is there from before the first act
 abbrev pub monitor_row : StatisticsRow
 monitor_row = record { source = 1; owner = record { items = codes "monitor" }; statistics = no_sums }

@@ -89,7 +89,7 @@ impl Group for Ether {
 
     ghost together = { λ settings journal now readings bindings place. second_pass ether_stats (rows_after ether_stats (ether_beginning settings) journal) bindings place };
 
-    ghost accepts = { λ s now bindings. AreFine s bindings };
+    ghost accepts = { λ s now. AreFine s };
 
     ghost finite = { λ settings journal now. ether_finite settings journal };
 

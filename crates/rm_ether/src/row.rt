@@ -4,15 +4,13 @@ ghost use Rattle.std.specs.Prelude.{◌≡◌, refl};
 use crate::statistics::Statistics;
 use arrayvec::ArrayVec;
 use rm_columns::{
-    ControlRow, ControlSheet, OneNumber, interface_in, interface_name, put_text, same_text,
+    ControlRow, ControlSheet, MOST_OWNER, OneNumber, interface_in, interface_name, put_text,
+    same_text,
 };
 use rm_group::TableObjects;
 use rm_model::Setting::{Empty, Interface};
 use rm_model::{ColumnKind, StatusKind, column};
 use rm_val::{Oid, Value};
-
-/// How many octets an owner has at most.
-const MOST_OWNER: usize = 127;
 
 /// The number of etherStatsStatus.
 pub(crate) const STATUS: u32 = 21;

@@ -1,5 +1,5 @@
 -- What is kept of events after a Set with which nothing is wrong.
-use Rattle.std.proofs.Common.{◌≡◌, ℕ, List, [], ◌∷◌, Bool, true, false, cond, ◌&&◌, Option, Some, None, refl, sym, ap, subst, ◌∙◌}
+use Rattle.std.proofs.Common.{◌≡◌, ℕ, List, [], ◌∷◌, Bool, true, false, cond, Option, Some, None, refl, sym, ap, subst, ◌∙◌}
 use Rattle.std.specs.Prelude.{is_some}
 use Rattle.std.proofs.lemmas.Bool.{and_parts}
 use Rattle.rm_model.specs.Counting.{Counting}
@@ -11,6 +11,7 @@ use Rattle.rm_status.specs.declared.row.Row.{Row}
 use Rattle.rm_status.specs.Rows.{state_in}
 use Rattle.rm_status.specs.RowsAfter.{AreRowsAfter}
 use Rattle.rm_status.proofs.RowFacts.{valid_is}
+use Rattle.rm_status.proofs.RowsAfterLemmas.{not_first}
 use Rattle.rm_status.proofs.Committed.{IsCommitted, rows_committed}
 use Rattle.rm_status.proofs.RowsThen.{column_stays}
 use Rattle.rm_event.specs.declared.log.Log.{Log}
@@ -27,17 +28,13 @@ use Rattle.rm_pool.specs.Pools.{valid_in, IsOfValid, IsThere}
 use Rattle.rm_event.specs.Standing.{IsLogOf, AreLogs}
 use Rattle.rm_pool.proofs.Spares.{not_there}
 
-not_first : (a b : Bool) → b ≡ true → (a && b) ≡ false → a ≡ false
-not_first true b is h = absurd (cc)
-not_first false b is h = refl
-
 module _ (settings : Counting) (journal : Journal) (moment : ℕ) (bs : Bindings) (values : Assignments) (rows new : List (Row EventRow))
     (set : IsCommitted event_rows no_rows journal values bs rows new) where
   abbrev with_set : Journal
   with_set = assigns moment values ∷ journal
 
   pub rows_with_set : AreRowsAfter event_table no_rows set_to new with_set
-  rows_with_set = rows_committed event_rows no_rows journal moment values bs rows new set
+  rows_with_set = rows_committed event_rows set moment
 
   module _ (logs logs_new : List (Slot Log)) (of_valid : IsOfValid logs rows) (of_valid_new : IsOfValid logs_new new)
       (stays : (row : ℕ) → valid_in new row ≡ true → has_part logs row ≡ true → part_in logs_new row ≡ part_in logs row)
@@ -61,7 +58,7 @@ module _ (settings : Counting) (journal : Journal) (moment : ℕ) (bs : Bindings
         let asked : set_ask event_table values place ≡ set_ask event_table bs place = ap (value_ask event_table.status_kind) (set.gives (cell_name event_table.entry event_table.status place)) in
         let remains : is_valid (next_state (set_ask event_table bs place) Valid) ≡ true =
         ap (λ s. is_valid (next_state (set_ask event_table bs place) s)) (sym (valid_is (event_state journal place) old)) ∙ ap (λ a. is_valid (next_state a (event_state journal place))) (sym asked) ∙ valid in
-        ap type_in (column_stays event_table no_rows set_to journal moment bs values set.gives rows set.together set.stood event 3 refl refl old remains)
+        ap type_in (column_stays event_table no_rows set_to journal moment bs values set.gives rows set.fine.together set.stood event 3 refl refl old remains)
 
     -- one that stays valid
     goes_on : stays_valid event_table no_rows (assigns moment values) journal place ≡ true → (o : Option Log) → part_in logs event ≡ o → IsLogOf (event_state journal place) (type_of journal event) (firings settings journal event) o → IsIt (part_in logs_new event)

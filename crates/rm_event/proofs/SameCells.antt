@@ -6,9 +6,8 @@ use Rattle.std.proofs.lemmas.Bool.Decides.{nat_tests}
 use Rattle.rm_val.specs.Val.{Val, int, octets, ticks, null}
 use Rattle.rm_model.specs.Counting.{Counting}
 use Rattle.rm_model.specs.Journal.{Journal}
-use Rattle.rm_model.specs.Cells.{cells_of, cell_at, instance_of, IsNext}
+use Rattle.rm_model.specs.Cells.{cells_of, IsNext}
 use Rattle.rm_model.specs.ControlRows.{no_rows, is_valid}
-use Rattle.rm_model.specs.declared.instance.Instance.{Instance}
 use Rattle.rm_status.specs.declared.row.Row.{Row}
 use Rattle.rm_status.specs.Rows.{row_in, state_in, AreControlRows}
 use Rattle.rm_status.specs.RowsShown.{with_index}
@@ -26,7 +25,8 @@ use Rattle.rm_event.specs.Tables.{event_other, events_table, log_entry, log_of, 
 use Rattle.rm_event.specs.Log.{IsLog, kept_time}
 use Rattle.rm_pool.specs.Slots.{part_in}
 use Rattle.rm_event.specs.Standing.{IsLogOf, AreLogs}
-use Rattle.rm_nested.specs.NumberedRows.{is_kept_of, shown_by, value_by}
+use Rattle.rm_nested.specs.NumberedRows.{shown_by, value_by, value_in}
+use Rattle.rm_nested.proofs.NumberedTables.{same_numbered}
 use Rattle.rm_event.specs.Shown.{sent_in, kept_other, rows_table, description_in, shows, entry_value, logs_table, cells_shown}
 use Rattle.rm_status.proofs.Judged.{same_next}
 use Rattle.rm_status.proofs.RowFacts.{row_there, valid_there, valid_columns}
@@ -80,7 +80,7 @@ module _ (rows : List (Row EventRow)) (held : AreControlRows event_table rows) (
     entry_shows number shown column = λ d. cond (nat_eq column 1) (int (pos i)) (cond (nat_eq column 2) (int (pos number)) (cond (nat_eq column 3) (ticks (time_is number shown d)) (description_there d)))
 
   abbrev shown_after : ℕ → ℕ → ℕ → Option Val
-  shown_after i number column = cond (is_entry settings journal (i ∷ number ∷ [])) (Some (log_value settings journal i number column)) None
+  shown_after i number column = cond (is_entry settings journal i number) (Some (log_value settings journal i number column)) None
 
   of_shown : (i number : ℕ) (column : ℕ) (kept : Log) → is_valid (event_state journal (i ∷ [])) ≡ true → IsLog kept (type_of journal i) (firings settings journal i) → (b : Bool) → is_shown kept.added number ≡ b → cond b (Some (entry_value rows i kept number column)) None ≡ cond b (Some (log_value settings journal i number column)) None
   of_shown i number column kept valid it true shown = ap Some (entry_shows i kept valid it number shown column)
@@ -93,24 +93,13 @@ module _ (rows : List (Row EventRow)) (held : AreControlRows event_table rows) (
       of_shown i number column kept it.0 it.1 (is_shown kept.added number) refl
       ∙ sym (ap (λ b. cond b (Some (log_value settings journal i number column)) None) entry_is)
     where
-      entry_is : is_entry settings journal (i ∷ number ∷ []) ≡ is_shown kept.added number
+      entry_is : is_entry settings journal i number ≡ is_shown kept.added number
       entry_is = ap (λ b. b && is_shown (length (log_of settings journal i)) number) it.0 ∙ ap (λ n. is_shown n number) (sym it.1.added)
 
-  of_pair : (i number : ℕ) (column : ℕ) → cond (is_kept_of shows logs 0 i (number ∷ [])) (Some (value_by (entry_value rows) i (part_in logs i) number column)) None ≡ shown_after i number column
-  of_pair i number column = of_log i number column (part_in logs i) (are i)
-
-  entry_cell_at : (at : Option Instance) → cell_at (logs_table rows logs) at ≡ cell_at (log_table settings journal) at
-  entry_cell_at None = refl
-  entry_cell_at (Some at) = by_index at.index
-    where
-      by_index : (index : List ℕ) → cell_at (logs_table rows logs) (Some (record { column = at.column; index = index })) ≡ cell_at (log_table settings journal) (Some (record { column = at.column; index = index }))
-      by_index [] = refl
-      by_index (i ∷ []) = refl
-      by_index (i ∷ number ∷ []) = of_pair i number at.column
-      by_index (i ∷ number ∷ next ∷ more) = refl
-
   same_entries : (name : List ℕ) → cells_of (logs_table rows logs) name ≡ cells_of (log_table settings journal) name
-  same_entries name = entry_cell_at (instance_of log_entry log_columns name)
+  same_entries =
+      same_numbered log_entry log_columns (λ i number. shown_by shows (part_in logs i) 0 number) (value_in (entry_value rows) logs) (is_entry settings journal) (log_value settings journal)
+      (λ i number column. of_log i number column (part_in logs i) (are i))
 
   pub same_cells : (name : List ℕ) → cells_shown rows logs name ≡ event_cells settings journal name
   same_cells name = λ d. option_or (same_events name d) (same_entries name d)

@@ -1,5 +1,5 @@
 -- That the cells of eventTable and logTable are finitely many.
-use Rattle.std.proofs.Common.{◌≡◌, ℕ, ◌≤◌, List, [], ◌∷◌, Contains, Bool, true, arith}
+use Rattle.std.proofs.Common.{◌≡◌, ℕ, ◌≤◌, List, Contains, Bool, true, arith}
 use Rattle.std.specs.Prelude.{length}
 use Rattle.std.specs.Option.{option_or}
 use Rattle.std.proofs.lemmas.Bool.Decides.{nat_tests}
@@ -10,7 +10,7 @@ use Rattle.rm_model.specs.Finite.{AreFinite}
 use Rattle.rm_model.proofs.Finite.{both_finite, table_finite}
 use Rattle.rm_nested.proofs.Finite.{rows_of, in_rows, numbered_of, in_numbered}
 use Rattle.rm_event.specs.EventTable.{event_table}
-use Rattle.rm_event.specs.Tables.{events_table, log_of, is_shown, is_entry, log_table}
+use Rattle.rm_event.specs.Tables.{events_table, log_of, is_shown, log_table}
 
 within : (entries number : ℕ) → is_shown entries number ≡ true → number ≤ entries
 within entries number h = grind (arith, nat_tests)
@@ -27,11 +27,8 @@ module _ (settings : Counting) (journal : Journal) where
   abbrev entries_of : List (List ℕ)
   entries_of = numbered_of event_table journal shows entries (λ event number. within (entries event) number)
 
-  in_entries : (index : List ℕ) → is_entry settings journal index ≡ true → Contains entries_of index
-  in_entries [] is = absurd (cc)
-  in_entries (event ∷ []) is = absurd (cc)
-  in_entries (event ∷ number ∷ []) is = in_numbered event_table journal shows entries (λ event number. within (entries event) number) (event ∷ number ∷ []) is
-  in_entries (event ∷ number ∷ next ∷ more) is = absurd (cc)
+  in_entries : (index : List ℕ) → (log_table settings journal).is_row index ≡ true → Contains entries_of index
+  in_entries = in_numbered event_table journal shows entries (λ event number. within (entries event) number)
 
 -- the cells of both are finitely many
 pub event_finite : (settings : Counting) (journal : Journal) → AreFinite (λ name. option_or (cells_of (events_table settings journal) name) (cells_of (log_table settings journal) name))

@@ -47,7 +47,7 @@ entry_value rows event log number column =
 
 -- logTable with these rows and logs, at the moment 0 as at any other
 abbrev pub logs_table : List (Row EventRow) → List (Slot Log) → Table
-logs_table rows logs = inner_table log_entry log_columns (is_kept_of shows logs 0) (λ column index. value_at (entry_value rows) logs index column)
+logs_table rows logs = inner_table log_entry log_columns (is_kept_of shows logs 0) (value_at (entry_value rows) logs)
 
 -- the cells of both
 abbrev pub cells_shown : List (Row EventRow) → List (Slot Log) → Cells

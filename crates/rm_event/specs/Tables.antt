@@ -1,7 +1,7 @@
 -- What eventTable and logTable show after a journal (RFC 1757, section 5).
-use Rattle.std.specs.Prelude.{ℕ, pos, ◌+◌, ◌-◌, List, [], ◌∷◌, length, Bool, false, ◌&&◌, nat_eq, nat_le, nat_lt, slice_get, if◌then◌else◌}
+use Rattle.std.specs.Prelude.{ℕ, pos, ◌+◌, ◌-◌, List, [], ◌∷◌, length, Bool, ◌&&◌, nat_eq, nat_le, nat_lt, slice_get, if◌then◌else◌}
 use Rattle.std.specs.Option.{option_map_or}
-use Rattle.rm_val.specs.Val.{Val, int, ticks, null}
+use Rattle.rm_val.specs.Val.{Val, int, ticks}
 use Rattle.rm_model.specs.Counting.{Counting}
 use Rattle.rm_model.specs.Journal.{Journal}
 use Rattle.rm_model.specs.Cells.{Table}
@@ -10,6 +10,7 @@ use Rattle.rm_model.specs.ControlCells.{control_cells}
 use Rattle.rm_group.specs.Listed.{ListedTable}
 use Rattle.rm_status.specs.RowsShown.{with_index}
 use Rattle.rm_status.specs.Rows.{row_number}
+use Rattle.rm_nested.specs.InnerTable.{numbered_table}
 use Rattle.rm_event.specs.Columns.{event_columns, log_columns}
 use Rattle.rm_event.specs.EventTable.{event_table, event_state, event_set, type_of}
 use Rattle.rm_acts.specs.Fired.{firings}
@@ -44,29 +45,17 @@ abbrev pub time_at : List ℕ → ℕ → ℕ
 time_at moments number = option_map_or tick_of (slice_get moments (length moments - number)) 0
 
 -- whether these numbers are those of an event whose row is valid and of an entry of its log that is shown
-abbrev pub is_entry : Counting → Journal → List ℕ → Bool
-is_entry settings journal (event ∷ number ∷ []) =
-    is_valid (event_state journal (event ∷ [])) && is_shown (length (log_of settings journal event)) number
-is_entry settings journal index = false
+abbrev pub is_entry : Counting → Journal → (event number : ℕ) → Bool
+is_entry settings journal event number = is_valid (event_state journal (event ∷ [])) && is_shown (length (log_of settings journal event)) number
 
 -- what a column of an entry shows
-abbrev pub log_value : Counting → Journal → ℕ → ℕ → ℕ → Val
+abbrev pub log_value : Counting → Journal → (event number column : ℕ) → Val
 log_value settings journal event number column =
     if nat_eq column 1 then int (pos event)
     else if nat_eq column 2 then int (pos number)
     else if nat_eq column 3 then ticks (time_at (log_of settings journal event) number)
     else event_set journal (event ∷ []) 2
 
--- the same by the numbers of an index
-abbrev pub log_at : Counting → Journal → List ℕ → ℕ → Val
-log_at settings journal (event ∷ number ∷ []) column = log_value settings journal event number column
-log_at settings journal index column = null
-
 -- logTable after a journal
 abbrev pub log_table : Counting → Journal → Table
-log_table settings journal = record {
-  entry = log_entry;
-  columns = log_columns;
-  is_row = is_entry settings journal;
-  value = λ column index. log_at settings journal index column;
-}
+log_table settings journal = numbered_table log_entry log_columns (is_entry settings journal) (log_value settings journal)

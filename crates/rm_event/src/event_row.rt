@@ -4,7 +4,7 @@ ghost use Rattle.rm_event.specs.EventRows.{event_rows};
 
 use crate::event_type::EventType;
 use arrayvec::ArrayVec;
-use rm_columns::{ControlRow, ControlSheet, Numbered, OneNumber, put_text, same_text};
+use rm_columns::{ControlRow, ControlSheet, MOST_OWNER, Numbered, OneNumber, put_text, same_text};
 use rm_group::TableObjects;
 use rm_model::Setting::{Empty, Number};
 use rm_model::{ColumnKind, StatusKind, column, numbers};
@@ -46,7 +46,7 @@ pub struct EventRow {
     /// eventCommunity
     pub community: ArrayVec<u8, MOST_TEXT>,
     /// eventOwner
-    pub owner: ArrayVec<u8, MOST_TEXT>,
+    pub owner: ArrayVec<u8, MOST_OWNER>,
 }
 
 impl ControlRow for EventRow {

@@ -16,9 +16,11 @@ const OBJECTS: &[TableObjects] = &[EVENT_OBJECTS, LOG_OBJECTS];
 impl Group for Events {
     ghost use Rattle.rm_model.specs.ControlRows.{no_rows};
     ghost use Rattle.rm_model.specs.Judgement.{second_pass, rows_after};
+    ghost use Rattle.rm_status.specs.Fine.{AreFine};
+    ghost use Rattle.rm_event.specs.EventRows.{event_rows};
     ghost use Rattle.rm_event.specs.EventTable.{event_table};
     ghost use Rattle.rm_event.specs.Finite.{event_finite};
-    ghost use Rattle.rm_event.specs.Group.{event_cells, event_alone, AreFine};
+    ghost use Rattle.rm_event.specs.Group.{event_cells, event_alone};
     ghost use Rattle.rm_event.specs.Standing.{Stands};
 
     ghost stands = { Stands };
@@ -35,7 +37,7 @@ impl Group for Events {
 
     ghost together = { λ settings journal now readings bindings place. second_pass event_table (rows_after event_table no_rows journal) bindings place };
 
-    ghost accepts = { λ s now bindings. AreFine s bindings };
+    ghost accepts = { λ s now. AreFine event_rows s.rows };
 
     ghost finite = { λ settings journal now. event_finite settings journal };
 
@@ -75,7 +77,7 @@ impl Stores for Events {
 
     ghost reserves = { λ settings journal bindings index. Reserves event_table (rows_after event_table no_rows journal) bindings index };
 
-    ghost prepared = { λ s now bindings. IsPrepared s bindings };
+    ghost prepared = { λ s now. IsPrepared s };
 
     ghost released = { IsReleased };
 

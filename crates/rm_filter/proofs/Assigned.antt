@@ -1,22 +1,22 @@
 -- What a Set makes of the channels that are kept.
-use Rattle.std.proofs.Common.{◌≡◌, ℕ, ◌%◌, ◌^◌, List, [], ◌∷◌, Bool, true, false, cond, ◌&&◌, Option, Some, None, refl, sym, ap, subst, ◌∙◌, nat_eq, option_map}
+use Rattle.std.proofs.Common.{◌≡◌, ℕ, ◌%◌, ◌^◌, List, [], ◌∷◌, Bool, true, false, cond, Option, Some, None, refl, sym, ap, subst, ◌∙◌, nat_eq, option_map}
 use Rattle.std.specs.Prelude.{pos, unwrap_or}
 use Rattle.std.specs.Option.{option_map_or, option_or}
 use Rattle.rm_val.specs.Val.{Val, int}
 use Rattle.rm_val.specs.Contents.{natural_in}
 use Rattle.rm_model.specs.Counting.{Counting}
 use Rattle.rm_model.specs.Journal.{Assignments, Journal, assigns, value_given}
-use Rattle.rm_model.specs.ControlRows.{no_rows, cell_name, set_ask, next_state, is_absent, is_valid, state_of, stays_valid}
+use Rattle.rm_model.specs.ControlRows.{no_rows, cell_name, is_absent, is_valid, state_of, stays_valid}
 use Rattle.rm_model.specs.Judgement.{Bindings, column_kind, value_fault}
 use Rattle.rm_model.specs.declared.row.State.{State}
 use Rattle.rm_model.specs.declared.row.State.TheVariants.{Absent}
 use Rattle.rm_status.specs.declared.row.Row.{Row}
-use Rattle.rm_status.specs.Rows.{row_in, state_seen, columns_seen, AreControlRows}
+use Rattle.rm_status.specs.Rows.{row_in, state_seen, columns_seen}
 use Rattle.rm_status.specs.Change.{changed_row}
-use Rattle.rm_status.specs.Commit.{put_all, row_after}
 use Rattle.rm_status.specs.RowsAfter.{AreRowsAfter}
-use Rattle.rm_status.proofs.Puts.{AllFine, set_in_all}
-use Rattle.rm_status.proofs.RowsAfterLemmas.{rows_assigns, rows_changed, all_leave, is_after}
+use Rattle.rm_status.proofs.Committed.{IsCommitted, changed_committed, state_committed, row_committed, other_left}
+use Rattle.rm_status.proofs.Puts.{all_fine, set_in_all}
+use Rattle.rm_status.proofs.RowsAfterLemmas.{not_first, was_there}
 use Rattle.rm_status.proofs.RowFacts.{row_there}
 use Rattle.rm_acts.specs.Channels.{channel_entry, channel_table, match_count}
 use Rattle.rm_acts.specs.Fired.{Turned, fired, present, unset, data_control, event_status}
@@ -28,11 +28,6 @@ use Rattle.rm_filter.specs.DataControl.{control_number}
 use Rattle.rm_filter.specs.EventStatus.{status_number}
 use Rattle.rm_filter.specs.Tables.{IsPresent, ArePresent}
 use Rattle.rm_filter.proofs.MatchCounts.{idle_count, begun_count, kept_count}
-
--- a row that is changed was there
-pub was_there : (f : Row Channel → Row Channel) (o : Option (Row Channel)) (row : Row Channel) → option_map f o ≡ Some row → (old : Row Channel) × (o ≡ Some old) × (f old ≡ row)
-was_there f None row e = absurd (cc)
-was_there f (Some old) row e = (old, refl, cc)
 
 -- the columns with the present state are set as the others
 abbrev shown : Channel → ℕ → Option Val
@@ -46,28 +41,18 @@ given_number : (given : Option Val) (new old : ℕ) → Some (int (pos new)) ≡
 given_number None new old is = ap (λ o. option_map_or natural_in o 0) is
 given_number (Some v) new old is = ap (λ o. option_map_or natural_in o 0) is
 
-not_first : (a b : Bool) → b ≡ true → (a && b) ≡ false → a ≡ false
-not_first true b is h = absurd (cc)
-not_first false b is h = refl
-
-module _ (settings : Counting) (journal : Journal) (moment : ℕ) (bs : Bindings) (values : Assignments)
-    (gives : (name : List ℕ) → value_given values name ≡ value_given bs name)
-    (fine : AllFine channel_table bs)
-    (rows middle new : List (Row Channel)) (held : AreControlRows channel_table rows)
-    (after : (i : ℕ) → row_in middle i ≡ row_after channel_table with_column new_channel bs i (row_in rows i))
+module _ (settings : Counting) (journal : Journal) (moment : ℕ) (bs : Bindings) (values : Assignments) (rows middle new : List (Row Channel))
+    (set : IsCommitted channel_form no_rows journal values bs rows middle)
     (rested : (i : ℕ) → row_in new i ≡ option_map (changed_row (λ index state channel. resting state channel)) (row_in middle i))
-    (is : AreRowsAfter channel_table no_rows set_to rows journal) (are : ArePresent rows settings journal (fired settings journal)) where
+    (are : ArePresent rows settings journal (fired settings journal)) where
   abbrev with_set : Journal
   with_set = assigns moment values ∷ journal
 
   resting_keeps : (number : ℕ) (state : State) (channel : Channel) (n : ℕ) → set_to (resting state channel) n ≡ set_to channel n
   resting_keeps number state channel n = elim (is_valid state) as (λ b. set_to (cond b channel (record channel { matches = 0 })) n ≡ set_to channel n) [ true ↦ refl | false ↦ refl ]
 
-  middle_rows : AreRowsAfter channel_table no_rows set_to middle with_set
-  middle_rows = rows_assigns channel_table no_rows set_to with_column new_channel channel_form.set_with channel_form.blank_alike refl journal moment bs values gives fine rows middle held is after
-
   pub rows_with_set : AreRowsAfter channel_table no_rows set_to new with_set
-  rows_with_set = rows_changed channel_table no_rows set_to (λ index state channel. resting state channel) resting_keeps middle new rested with_set middle_rows
+  rows_with_set = changed_committed channel_form set moment (λ index state channel. resting state channel) resting_keeps new rested
 
   module _ (i : ℕ) (mid : Row Channel) (here : row_in middle i ≡ Some mid) where
     abbrev was : Option (Row Channel)
@@ -79,11 +64,8 @@ module _ (settings : Counting) (journal : Journal) (moment : ℕ) (bs : Bindings
     abbrev absent : Bool
     absent = is_absent (state_of channel_table no_rows journal (i ∷ []))
 
-    next : (mid.state ≡ next_state (set_ask channel_table bs (i ∷ [])) (state_seen was)) × (mid.columns ≡ put_all channel_table with_column new_channel bs i old)
-    next = is_after channel_table with_column new_channel bs i was mid (sym (after i) ∙ here)
-
     new_state : mid.state ≡ state_of channel_table no_rows with_set (i ∷ [])
-    new_state = sym (ap state_seen here) ∙ middle_rows.alike.states i
+    new_state = state_committed channel_form set moment i mid here
 
     -- what is present is what was given, or what it was
     set_number : (number : Channel → ℕ) (column : ℕ) → nat_eq 12 column ≡ false → ((c : Channel) → shown c column ≡ Some (int (pos (number c))))
@@ -91,9 +73,9 @@ module _ (settings : Counting) (journal : Journal) (moment : ℕ) (bs : Bindings
     set_number number column other is_shown =
         given_number (value_given values (cell_name channel_entry column (i ∷ []))) (number mid.columns) (number old)
         (sym (is_shown mid.columns)
-        ∙ ap (λ c. shown c column) next.1
-        ∙ set_in_all channel_table with_column new_channel shown shown_with bs i column old other fine
-        ∙ ap (λ g. option_or g (shown old column)) (sym (gives (cell_name channel_entry column (i ∷ []))))
+        ∙ ap (λ c. shown c column) (row_committed channel_form set i mid here).1
+        ∙ set_in_all channel_table with_column new_channel shown shown_with bs i column old other (all_fine channel_table bs set.fine.alone)
+        ∙ ap (λ g. option_or g (shown old column)) (sym (set.gives (cell_name channel_entry column (i ∷ []))))
         ∙ ap (λ o. option_or (value_given values (cell_name channel_entry column (i ∷ []))) o) (is_shown old))
 
     -- what it was is the default where the row is made
@@ -104,10 +86,10 @@ module _ (settings : Counting) (journal : Journal) (moment : ℕ) (bs : Bindings
       where
         by_row : (o : Option (Row Channel)) → row_in rows i ≡ o → number (unwrap_or (columns_seen o) blank_channel) ≡ cond absent (unset turned) (present turned journal (fired settings journal) i)
         by_row None e =
-            let none : is_absent Absent ≡ absent = ap (λ o. is_absent (state_seen o)) (sym e) ∙ ap is_absent (is.alike.states i) in
+            let none : is_absent Absent ≡ absent = ap (λ o. is_absent (state_seen o)) (sym e) ∙ ap is_absent (set.stood.alike.states i) in
             blank ∙ ap (λ b. cond b (unset turned) (present turned journal (fired settings journal) i)) none
         by_row (Some r) e =
-            let there : absent ≡ false = ap is_absent (sym (is.alike.states i)) ∙ ap (λ o. is_absent (state_seen o)) e ∙ row_there channel_table rows i r held e in
+            let there : absent ≡ false = ap is_absent (sym (set.stood.alike.states i)) ∙ ap (λ o. is_absent (state_seen o)) e ∙ row_there channel_table rows i r set.held e in
             stood r e ∙ ap (λ b. cond b (unset turned) (present turned journal (fired settings journal) i)) (sym there)
 
     control_is : control_number mid.columns.control ≡ present data_control with_set (fired settings with_set) i
@@ -121,11 +103,11 @@ module _ (settings : Counting) (journal : Journal) (moment : ℕ) (bs : Bindings
         ∙ ap (λ n. option_map_or natural_in (value_given values (cell_name channel_entry 8 (i ∷ []))) n) (begins event_status (λ c. status_number c.status) refl (λ r e. (are i r e).status))
 
     matches_left : mid.columns.matches ≡ old.matches
-    matches_left = ap (λ c. c.matches) next.1 ∙ all_leave channel_table with_column new_channel (λ c. c.matches) (λ c n v. refl) bs i old
+    matches_left = other_left channel_form set i mid here (λ c. c.matches) (λ c n v. refl)
 
     old_matches : (o : Option (Row Channel)) → row_in rows i ≡ o → (unwrap_or (columns_seen o) blank_channel).matches ≡ match_count settings journal i % 2 ^ 32
     old_matches None e =
-        let absent_is : Absent ≡ state_of channel_table no_rows journal (i ∷ []) = ap state_seen (sym e) ∙ is.alike.states i in
+        let absent_is : Absent ≡ state_of channel_table no_rows journal (i ∷ []) = ap state_seen (sym e) ∙ set.stood.alike.states i in
         ap (λ n. n % 2 ^ 32) (sym (idle_count settings i journal (ap is_valid (sym absent_is))))
     old_matches (Some r) e = (are i r e).matches
 

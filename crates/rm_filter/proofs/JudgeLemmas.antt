@@ -3,10 +3,8 @@ use Rattle.std.proofs.Common.{◌≡◌, ℕ, suc, ◌+◌, ◌<◌, ◌≤◌, 
 use Rattle.std.specs.Prelude.{filter, filter_map}
 use Rattle.std.specs.List.{cons_option}
 use Rattle.std.proofs.lemmas.Bool.Decides.{nat_tests}
-use Rattle.rm_model.specs.Indexing.{one_within}
-use Rattle.rm_status.proofs.RowFacts.{found_there}
 use Rattle.rm_status.specs.declared.row.Row.{Row}
-use Rattle.rm_status.specs.Rows.{row_in, AllAbove, Rising, AllThere, IsIndexAfter}
+use Rattle.rm_status.specs.Rows.{row_in, AllAbove, Rising, AllThere}
 use Rattle.rm_acts.specs.Channels.{channel_table}
 use Rattle.rm_filter.specs.declared.accepted.Accepted.{Accepted}
 use Rattle.rm_filter.specs.declared.channel.Channel.{Channel}
@@ -140,9 +138,3 @@ length_with list (Some one) = let n = length_more list one in omega (arith, n)
 pub length_more : (rows : List (Row Channel)) (row : Row Channel) → length (rows ++ row ∷ []) ≡ length rows + 1
 length_more [] row = refl
 length_more (x ∷ rows) row = let n = length_more rows row in omega (arith, n)
-
--- an index above another is that of a row, and so not too large
-pub next_fits : (rows : List (Row Channel)) (last index : ℕ) → AllThere channel_table rows → IsIndexAfter rows last (Some index) → (last < index) × (index ≤ 65535)
-next_fits rows last index there after =
-    let fits = one_within index (found_there channel_table rows index after.1.0 there after.1.1).0 in
-    (after.0, omega (arith, fits))

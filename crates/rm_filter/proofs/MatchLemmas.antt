@@ -5,6 +5,7 @@ use Rattle.std.specs.List.{list_any}
 use Rattle.std.specs.Option.{option_and_then, option_map}
 use Rattle.rm_val.specs.Val.{Val, int, octets as text}
 use Rattle.rm_val.specs.Contents.{natural_in, octets_in}
+use Rattle.rm_columns.specs.Values.{natural_of}
 use Rattle.rm_model.specs.Counting.{Counting}
 use Rattle.rm_model.specs.Journal.{Frame, Journal}
 use Rattle.rm_model.specs.FrameFacts.{frame_facts}
@@ -25,7 +26,7 @@ use Rattle.rm_acts.specs.Filters.{filter_table, channel_of, matches}
 use Rattle.rm_match.specs.Tests.{status_bits}
 use Rattle.rm_filter.specs.declared.filter_row.FilterRow.{FilterRow}
 use Rattle.rm_filter.specs.FilterRows.{set_to}
-use Rattle.rm_filter.specs.Matching.{natural, channel_kept, status_test, row_matches, matches_seen, matches_at}
+use Rattle.rm_filter.specs.Matching.{channel_kept, status_test, row_matches, matches_seen, matches_at}
 
 module _ (rows : List (Row FilterRow)) (journal : Journal) (is : AreRowsAfter filter_table no_rows set_to rows journal) (index : ℕ) (filter : FilterRow) (has : columns_in rows index ≡ Some filter) (valid : is_valid (state_in rows index) ≡ true) where
   is_there : is_absent (state_in rows index) ≡ false
@@ -65,19 +66,19 @@ module _ (rows : List (Row FilterRow)) (journal : Journal) (is : AreRowsAfter fi
   status_not_mask_is : int filter.status_not_mask ≡ value 9
   status_not_mask_is = ap (shows 9) (sym has) ∙ (is.alike.columns index is_there).1.1.1.1.1.1.1.0.shown
 
-  data_passes : (frame : Frame) → pass (test_of filter.pkt_data.items filter.mask.items filter.not_mask.items) (drop (natural filter.offset) frame.octets)
+  data_passes : (frame : Frame) → pass (test_of filter.pkt_data.items filter.mask.items filter.not_mask.items) (drop (natural_of filter.offset) frame.octets)
       ≡ pass (test_of (octets_in (value 4)) (octets_in (value 5)) (octets_in (value 6))) (drop (natural_in (value 3)) frame.octets)
   data_passes frame =
-      ap (λ xs. pass (test_of (octets_in xs) filter.mask.items filter.not_mask.items) (drop (natural filter.offset) frame.octets)) wanted_is
-      ∙ ap (λ xs. pass (test_of (octets_in (value 4)) (octets_in xs) filter.not_mask.items) (drop (natural filter.offset) frame.octets)) mask_is
-      ∙ ap (λ xs. pass (test_of (octets_in (value 4)) (octets_in (value 5)) (octets_in xs)) (drop (natural filter.offset) frame.octets)) not_mask_is
+      ap (λ xs. pass (test_of (octets_in xs) filter.mask.items filter.not_mask.items) (drop (natural_of filter.offset) frame.octets)) wanted_is
+      ∙ ap (λ xs. pass (test_of (octets_in (value 4)) (octets_in xs) filter.not_mask.items) (drop (natural_of filter.offset) frame.octets)) mask_is
+      ∙ ap (λ xs. pass (test_of (octets_in (value 4)) (octets_in (value 5)) (octets_in xs)) (drop (natural_of filter.offset) frame.octets)) not_mask_is
       ∙ ap (λ n. pass (test_of (octets_in (value 4)) (octets_in (value 5)) (octets_in (value 6))) (drop (natural_in n) frame.octets)) offset_is
 
   status_passes : (status : ℕ) → pass (status_bits (status_test filter) ∷ []) (status ∷ [])
       ≡ pass (status_bits (record { status = natural_in (value 7); mask = natural_in (value 8); not_mask = natural_in (value 9) }) ∷ []) (status ∷ [])
   status_passes status =
-      ap (λ n. pass (status_bits (record { status = natural_in n; mask = natural filter.status_mask; not_mask = natural filter.status_not_mask }) ∷ []) (status ∷ [])) status_is
-      ∙ ap (λ n. pass (status_bits (record { status = natural_in (value 7); mask = natural_in n; not_mask = natural filter.status_not_mask }) ∷ []) (status ∷ [])) status_mask_is
+      ap (λ n. pass (status_bits (record { status = natural_in n; mask = natural_of filter.status_mask; not_mask = natural_of filter.status_not_mask }) ∷ []) (status ∷ [])) status_is
+      ∙ ap (λ n. pass (status_bits (record { status = natural_in (value 7); mask = natural_in n; not_mask = natural_of filter.status_not_mask }) ∷ []) (status ∷ [])) status_mask_is
       ∙ ap (λ n. pass (status_bits (record { status = natural_in (value 7); mask = natural_in (value 8); not_mask = natural_in n }) ∷ []) (status ∷ [])) status_not_mask_is
 
   pub matches_after : (settings : Counting) (frame : Frame) → row_matches filter (frame_facts settings frame).status frame.octets ≡ matches settings journal index frame

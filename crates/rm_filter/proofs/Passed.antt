@@ -12,7 +12,7 @@ use Rattle.rm_status.specs.declared.row.Row.{Row}
 use Rattle.rm_status.specs.Rows.{row_in, state_seen, AllAbove, Rising}
 use Rattle.rm_status.specs.Change.{changed_row}
 use Rattle.rm_status.specs.RowsAfter.{AreRowsAfter}
-use Rattle.rm_status.proofs.RowsAfterLemmas.{rows_changed}
+use Rattle.rm_status.proofs.RowsAfterLemmas.{rows_changed, was_there}
 use Rattle.rm_acts.specs.Channels.{channel_table, accepts, match_count}
 use Rattle.rm_acts.specs.Fired.{fired}
 use Rattle.rm_filter.specs.declared.accepted.Accepted.{Accepted}
@@ -21,7 +21,6 @@ use Rattle.rm_filter.specs.ChannelForm.{set_to}
 use Rattle.rm_filter.specs.Changes.{counting}
 use Rattle.rm_filter.specs.Judging.{accepted_by, judged, is_among}
 use Rattle.rm_filter.specs.Tables.{IsPresent, ArePresent}
-use Rattle.rm_filter.proofs.Assigned.{was_there}
 use Rattle.rm_filter.proofs.JudgeLemmas.{index_is}
 use Rattle.rm_filter.proofs.MatchCounts.{passed_count}
 

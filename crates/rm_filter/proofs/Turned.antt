@@ -13,7 +13,7 @@ use Rattle.rm_status.specs.Rows.{row_in, state_in, columns_in, state_seen, colum
 use Rattle.rm_status.specs.Change.{changed_row}
 use Rattle.rm_status.specs.RowsAfter.{AreRowsAfter}
 use Rattle.rm_status.proofs.RowFacts.{valid_there}
-use Rattle.rm_status.proofs.RowsAfterLemmas.{rows_changed}
+use Rattle.rm_status.proofs.RowsAfterLemmas.{rows_changed, was_there}
 use Rattle.rm_acts.specs.declared.firing.Firing.{Firing}
 use Rattle.rm_acts.specs.Rows.{has_valid}
 use Rattle.rm_acts.specs.Channels.{channel_table, turn_on_event, turn_off_event, event_of}
@@ -30,7 +30,6 @@ use Rattle.rm_filter.specs.DataControl.{control_number}
 use Rattle.rm_filter.specs.EventStatus.{status_number}
 use Rattle.rm_filter.specs.Changes.{turned, status_after, taking}
 use Rattle.rm_filter.specs.Tables.{IsPresent, ArePresent}
-use Rattle.rm_filter.proofs.Assigned.{was_there}
 use Rattle.rm_filter.proofs.JudgeLemmas.{index_is}
 
 -- the events of a channel, by what its columns were set to

@@ -1,5 +1,5 @@
 -- The groups of filterTable and of channelTable, as a caller sees them.
-use Rattle.std.specs.Prelude.{◌≡◌, ℕ, ◌%◌, ◌^◌, List, [], ◌∷◌, length, Option, Some}
+use Rattle.std.specs.Prelude.{◌≡◌, ℕ, ◌%◌, ◌^◌, List, [], ◌∷◌, Option, Some}
 use Rattle.rm_val.specs.Val.{Val, null}
 use Rattle.rm_val.specs.declared.error.ErrorStatus.{ErrorStatus}
 use Rattle.rm_model.specs.Counting.{Counting}
@@ -7,15 +7,14 @@ use Rattle.rm_model.specs.Journal.{Journal}
 use Rattle.rm_model.specs.Cells.{Table}
 use Rattle.rm_model.specs.ControlRows.{no_rows}
 use Rattle.rm_model.specs.ControlCells.{control_cells}
-use Rattle.rm_model.specs.Judgement.{Bindings, place_of, alone_fault, second_pass, IsFirstFault}
-use Rattle.rm_model.specs.declared.verdict.Verdict.TheVariants.{Fine}
+use Rattle.rm_model.specs.Judgement.{Bindings, place_of, alone_fault}
 use Rattle.rm_status.specs.declared.row.Row.{Row}
-use Rattle.rm_status.specs.Rows.{row_in, rows_before}
+use Rattle.rm_status.specs.Fine.{AreFine}
+use Rattle.rm_status.specs.Rows.{row_in}
 use Rattle.rm_status.specs.RowsShown.{with_index}
 use Rattle.rm_status.specs.RowsAfter.{AreRowsAfter}
-use Rattle.rm_group.specs.Alone.{AreFineAlone}
 use Rattle.rm_group.specs.Listed.{ListedTable}
-use Rattle.rm_acts.specs.Filters.{filter_entry, filter_table}
+use Rattle.rm_acts.specs.Filters.{filter_table}
 use Rattle.rm_acts.specs.Channels.{channel_entry, channel_table, match_count}
 use Rattle.rm_acts.specs.Fired.{Fired, fired, present, data_control, event_status}
 use Rattle.rm_filter.specs.declared.channel.Channel.{Channel}
@@ -56,10 +55,7 @@ pub record HasChannels (channels : ChannelTable) (settings : Counting) (journal 
   pub rows : AreRowsAfter channel_table no_rows channel.set_to channels.rows journal
   pub present : ArePresent channels.rows settings journal (fired settings journal)
 
--- the tables of each group
-abbrev pub filter_tables : List ListedTable
-filter_tables = record { entry = filter_entry; columns = filter.filter_columns } ∷ []
-
+-- channelTable as a list of tables
 abbrev pub channel_tables : List ListedTable
 channel_tables = record { entry = channel_entry; columns = row.channel_columns } ∷ []
 
@@ -71,10 +67,8 @@ abbrev pub channel_alone : List ℕ → Val → Option ErrorStatus
 channel_alone name value = alone_fault channel_table (place_of channel_table name) value
 
 -- both passes find nothing wrong with a Set, by the rows that are kept
-pub record AreFiltersFine (filters : FilterTable) (bindings : Bindings) : Type 0 where
-  pub alone : AreFineAlone filter_alone bindings
-  pub together : IsFirstFault (length bindings) (second_pass filter_table (rows_before filter_table filter.set_to filters.rows) bindings) Fine
+abbrev pub AreFiltersFine : FilterTable → Bindings → Type 0
+AreFiltersFine filters = AreFine filter.filter_rows filters.rows
 
-pub record AreChannelsFine (channels : ChannelTable) (bindings : Bindings) : Type 0 where
-  pub alone : AreFineAlone channel_alone bindings
-  pub together : IsFirstFault (length bindings) (second_pass channel_table (rows_before channel_table channel.set_to channels.rows) bindings) Fine
+abbrev pub AreChannelsFine : ChannelTable → Bindings → Type 0
+AreChannelsFine channels = AreFine channel.channel_form channels.rows

@@ -6,7 +6,9 @@ use crate::accept_type::AcceptType;
 use crate::data_control::DataControl;
 use crate::event_status::EventStatus;
 use arrayvec::ArrayVec;
-use rm_columns::{ControlRow, ControlSheet, Numbered, OneNumber, put_text, same_text, short_in};
+use rm_columns::{
+    ControlRow, ControlSheet, MOST_OWNER, Numbered, OneNumber, put_text, same_text, short_in,
+};
 use rm_group::TableObjects;
 use rm_model::Setting::{Empty, Number};
 use rm_model::{ColumnKind, INTERFACES, StatusKind, column, numbers};
@@ -63,7 +65,7 @@ pub struct ChannelRow {
     /// channelDescription
     pub description: ArrayVec<u8, MOST_TEXT>,
     /// channelOwner
-    pub owner: ArrayVec<u8, MOST_TEXT>,
+    pub owner: ArrayVec<u8, MOST_OWNER>,
 }
 
 impl ControlRow for ChannelRow {

@@ -5,7 +5,7 @@ ghost use Rattle.rm_val.specs.Val.{val_of};
 ghost use Rattle.rm_val.specs.Spellable.{IsSpellable, HasSpelling};
 ghost use Rattle.rm_model.specs.Counting.{Counting};
 ghost use Rattle.rm_model.specs.Cells.{IsNext, cells_of};
-ghost use Rattle.rm_status.specs.Rows.{AreControlRows, row_number};
+ghost use Rattle.rm_status.specs.Rows.{AreControlRows};
 ghost use Rattle.rm_acts.specs.Channels.{channel_table};
 ghost use Rattle.rm_filter.specs.Tables.{HasChannels};
 ghost use Rattle.rm_filter.specs.Shown.{channels_kept, with_present, present_at, control_in, status_in};
@@ -14,15 +14,10 @@ use crate::changes::Resting;
 use crate::channel::Channel;
 use crate::channel_row::CHANNEL_OBJECTS;
 use rm_columns::{ControlRow, Numbered};
-use rm_group::{
-    Assigns, Commits, Group, Look, Readable, Storeless, TableObjects, Tables, instance_of,
-};
+use rm_group::{Assigns, Commits, Group, Look, Readable, Storeless, instance_of};
 use rm_model::{Instance, Verdict};
-use rm_status::{Controls, OtherColumns, Row};
+use rm_status::{Controls, OtherColumns, Row, row_number};
 use rm_val::{Oid, Value};
-
-/// The tables of the group.
-const OBJECTS: &[TableObjects] = &[CHANNEL_OBJECTS];
 
 /// The channels: channelTable (RFC 1757, section 5).
 #[derive(Drop)]
@@ -123,13 +118,6 @@ impl ChannelTable {
     }
 }
 
-// The one number of an index, and 0 for any other index.
-fn row_number(index: &Oid) -> u32
-    ensures { result ≡ row_number index.now }
-{
-    if index.len() == 1 { index.at(0) } else { 0 }
-}
-
 impl Group for ChannelTable {
     ghost use Rattle.rm_model.specs.ControlRows.{no_rows};
     ghost use Rattle.rm_model.specs.Judgement.{second_pass, rows_after};
@@ -151,7 +139,7 @@ impl Group for ChannelTable {
 
     ghost together = { λ settings journal now readings bindings place. second_pass channel_table (rows_after channel_table no_rows journal) bindings place };
 
-    ghost accepts = { λ s now bindings. AreChannelsFine s bindings };
+    ghost accepts = { λ s now. AreChannelsFine s };
 
     ghost finite = { λ settings journal now. channels_finite settings journal };
 
@@ -184,25 +172,6 @@ impl Commits for ChannelTable {
         self.rows.commit(set);
         self.rows.change_each(&Resting);
     }
-}
-
-impl Tables for ChannelTable {
-    ghost use Rattle.rm_acts.specs.Shown.{channels_shown};
-    ghost use Rattle.rm_filter.specs.ChannelRows.{channel_columns};
-    ghost use Rattle.rm_filter.specs.Tables.{channel_tables};
-    ghost use Rattle.rm_group.specs.Listed.{is_settable, of_table, control_listed};
-
-    ghost tables = { channel_tables };
-
-    ghost can_be_set = { is_settable channel_table };
-
-    fn tables() -> &'static [TableObjects] {
-        OBJECTS
-    }
-
-    ghost shows_listed = { λ settings journal now. of_table (channels_shown settings journal) };
-
-    ghost refuses_listed = { control_listed channel_table channel_columns };
 }
 
 impl Readable for ChannelTable {

@@ -1,10 +1,10 @@
 // The columns of a row of filterTable.
 ghost use Rattle.std.specs.Prelude.{◌≡◌, refl};
-ghost use Rattle.rm_val.specs.Val.{int};
-ghost use Rattle.rm_val.specs.Contents.{natural_in};
 
 use arrayvec::ArrayVec;
-use rm_columns::{ControlRow, ControlSheet, OneNumber, number_in, put_text, same_text};
+use rm_columns::{
+    ControlRow, ControlSheet, MOST_OWNER, OneNumber, natural, number_in, put_text, same_text,
+};
 use rm_group::TableObjects;
 use rm_match::{PacketTest, StatusTest};
 use rm_model::Setting::{Empty, Number};
@@ -13,9 +13,6 @@ use rm_val::{Oid, Value};
 
 /// How many octets the data of a filter and its masks have at most.
 const MOST_DATA: usize = 128;
-
-/// How many octets an owner has at most.
-const MOST_OWNER: usize = 127;
 
 /// The number of filterStatus.
 pub const FILTER_STATUS: u32 = 11;
@@ -100,13 +97,6 @@ impl FilterRow {
             not_mask: natural(self.status_not_mask),
         }
     }
-}
-
-// A number that a column shows which takes none below 0.
-fn natural(number: i32) -> u32
-    ensures { result ≡ natural_in (int number) }
-{
-    u32::try_from(number).unwrap_or(0)
 }
 
 impl ControlRow for FilterRow {

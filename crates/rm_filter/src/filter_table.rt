@@ -1,13 +1,10 @@
 // filterTable, as a group of objects.
 
 use crate::filter_row::{FILTER_OBJECTS, FilterRow};
-use rm_group::{Assigns, Commits, Group, Look, Readable, Storeless, TableObjects, Tables};
+use rm_group::{Assigns, Commits, Group, Look, Storeless};
 use rm_model::Verdict;
 use rm_status::{Controls, OtherColumns, Row};
 use rm_val::{Oid, Value};
-
-/// The tables of the group.
-const OBJECTS: &[TableObjects] = &[FILTER_OBJECTS];
 
 /// The filters: filterTable (RFC 1757, section 5).
 #[derive(Drop)]
@@ -65,7 +62,7 @@ impl Group for FilterTable {
 
     ghost together = { λ settings journal now readings bindings place. second_pass filter_table (rows_after filter_table no_rows journal) bindings place };
 
-    ghost accepts = { λ s now bindings. AreFiltersFine s bindings };
+    ghost accepts = { λ s now. AreFiltersFine s };
 
     ghost finite = { λ settings journal now. filters_finite journal };
 
@@ -97,40 +94,4 @@ impl Commits for FilterTable {
         prove!(self.rows.len() <= 32);
         self.rows.commit(set);
     }
-}
-
-impl Tables for FilterTable {
-    ghost use Rattle.rm_acts.specs.Filters.{filter_table};
-    ghost use Rattle.rm_filter.specs.FilterRows.{filter_columns};
-    ghost use Rattle.rm_filter.specs.Tables.{filter_tables, filters_shown};
-    ghost use Rattle.rm_group.specs.Listed.{is_settable, of_table, control_listed};
-
-    ghost tables = { filter_tables };
-
-    ghost can_be_set = { is_settable filter_table };
-
-    fn tables() -> &'static [TableObjects] {
-        OBJECTS
-    }
-
-    ghost shows_listed = { λ settings journal now. of_table (filters_shown journal) };
-
-    ghost refuses_listed = { control_listed filter_table filter_columns };
-}
-
-// Alarms sample none of its variables.
-impl Readable for FilterTable {
-    ghost use Rattle.std.specs.Prelude.{refl, None};
-
-    ghost sampleable = { λ settings journal now name. None };
-
-    ghost shown = { λ s now name. None };
-
-    fn value(&self, _name: &Oid, _now: u32) -> Option<Value<'_>> {
-        None
-    }
-
-    fn shows(&self, _now: u32) {}
-
-    ghost recurring = { λ settings one other journal alike now name. refl };
 }

@@ -1,5 +1,5 @@
 -- That the cells of historyControl and etherHistory are finitely many.
-use Rattle.std.proofs.Common.{◌≡◌, ℕ, ◌≤◌, List, [], ◌∷◌, Contains, Bool, true}
+use Rattle.std.proofs.Common.{◌≡◌, ℕ, ◌≤◌, List, [], ◌∷◌, Bool, true}
 use Rattle.rm_model.specs.Counting.{Counting}
 use Rattle.rm_model.specs.Journal.{Journal}
 use Rattle.rm_model.specs.Cells.{cells_of}
@@ -9,7 +9,7 @@ use Rattle.rm_nested.proofs.Finite.{rows_of, in_rows, numbered_of, in_numbered}
 use Rattle.rm_history.specs.Buckets.{complete_at, is_shown}
 use Rattle.rm_history.specs.BucketLaws.{shown_tells}
 use Rattle.rm_history.specs.HistoryControl.{history_control, control_table, plan_of}
-use Rattle.rm_history.specs.EtherHistory.{is_sample, sample_table}
+use Rattle.rm_history.specs.EtherHistory.{sample_table}
 use Rattle.rm_history.specs.Collection.{history_cells}
 
 module _ (journal : Journal) (now : ℕ) where
@@ -27,17 +27,12 @@ module _ (journal : Journal) (now : ℕ) where
   abbrev buckets_of : List (List ℕ)
   buckets_of = numbered_of history_control journal shows last low
 
-  in_buckets : (index : List ℕ) → is_sample journal now index ≡ true → Contains buckets_of index
-  in_buckets [] is = absurd (cc)
-  in_buckets (row ∷ []) is = absurd (cc)
-  in_buckets (row ∷ bucket ∷ []) is = in_numbered history_control journal shows last low (row ∷ bucket ∷ []) is
-  in_buckets (row ∷ bucket ∷ next ∷ more) is = absurd (cc)
-
 pub control_finite : (journal : Journal) → AreFinite (cells_of (control_table journal))
 control_finite journal = table_finite (control_table journal) (rows_of history_control journal) (in_rows history_control journal)
 
 pub samples_finite : (settings : Counting) (journal : Journal) (now : ℕ) → AreFinite (cells_of (sample_table settings journal now))
-samples_finite settings journal now = table_finite (sample_table settings journal now) (buckets_of journal now) (in_buckets journal now)
+samples_finite settings journal now =
+    table_finite (sample_table settings journal now) (buckets_of journal now) (in_numbered history_control journal (shows journal now) (last journal now) (low journal now))
 
 -- the cells of both are finitely many
 pub history_finite : (settings : Counting) (journal : Journal) (now : ℕ) → AreFinite (history_cells settings journal now)

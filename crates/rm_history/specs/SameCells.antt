@@ -7,9 +7,8 @@ use Rattle.rm_val.specs.Val.{Val, int, counter, ticks}
 use Rattle.rm_model.specs.Counting.{Counting}
 use Rattle.rm_model.specs.Journal.{Journal, last_moment}
 use Rattle.rm_model.specs.Alike.{HasSameColumns}
-use Rattle.rm_model.specs.Cells.{cells_of, cell_at, instance_of}
+use Rattle.rm_model.specs.Cells.{cells_of}
 use Rattle.rm_model.specs.ControlRows.{no_rows, is_absent, is_valid, set_value}
-use Rattle.rm_model.specs.declared.instance.Instance.{Instance}
 use Rattle.rm_status.specs.declared.row.Row.{Row}
 use Rattle.rm_status.specs.Rows.{row_in, state_seen, columns_seen, AreControlRows}
 use Rattle.rm_columns.specs.Values.{natural_in}
@@ -31,7 +30,8 @@ use Rattle.rm_history.specs.BucketLaws.{closed_by, shown_tells}
 use Rattle.rm_history.specs.Run.{kept_counter}
 use Rattle.rm_pool.specs.declared.slot.Slot.{Slot}
 use Rattle.rm_pool.specs.Slots.{part_in}
-use Rattle.rm_nested.specs.NumberedRows.{is_kept_of, shown_by, value_by}
+use Rattle.rm_nested.specs.NumberedRows.{shown_by, value_by, value_in}
+use Rattle.rm_nested.proofs.NumberedTables.{same_numbered}
 use Rattle.rm_history.specs.Shown.{granted_in, kept_other, rows_table, shows, bucket_value, runs_table}
 use Rattle.rm_history.specs.Standing.{IsRun}
 use Rattle.rm_history.specs.Collection.{history_cells, history_collection}
@@ -87,7 +87,7 @@ module _ (runs : List (Slot Run)) (settings : Counting) (journal : Journal) (his
   shown_in row bucket column o = cond (shown_by shows o now bucket) (Some (value_by bucket_value row o bucket column)) None
 
   abbrev shown_after : ℕ → ℕ → ℕ → Option Val
-  shown_after row bucket column = cond (is_sample journal now (row ∷ bucket ∷ [])) (Some (sample_value settings journal row bucket column)) None
+  shown_after row bucket column = cond (is_sample journal now row bucket) (Some (sample_value settings journal row bucket column)) None
 
   of_run : (row bucket : ℕ) (column : ℕ) (run : Run) → IsRun settings journal row run → (b : Bool) → is_shown run.plan now bucket ≡ b → cond b (Some (bucket_value row run bucket column)) None ≡ cond b (Some (sample_value settings journal row bucket column)) None
   of_run row bucket column run is true shown = ap Some (bucket_shows settings journal now later row run is bucket shown column)
@@ -99,24 +99,13 @@ module _ (runs : List (Slot Run)) (settings : Counting) (journal : Journal) (his
       of_run row bucket column run is.1 (is_shown run.plan now bucket) refl
       ∙ sym (ap (λ b. cond b (Some (sample_value settings journal row bucket column)) None) is_there)
     where
-      is_there : is_sample journal now (row ∷ bucket ∷ []) ≡ is_shown run.plan now bucket
+      is_there : is_sample journal now row bucket ≡ is_shown run.plan now bucket
       is_there = ap (λ s. is_valid s && is_shown (plan_of journal (row ∷ [])) now bucket) is.0 ∙ ap (λ plan. is_shown plan now bucket) (sym is.1.plan)
 
-  of_pair : (row bucket : ℕ) (column : ℕ) → cond (is_kept_of shows runs now row (bucket ∷ [])) (Some (value_by bucket_value row (part_in runs row) bucket column)) None ≡ shown_after row bucket column
-  of_pair row bucket column = of_history row bucket column (part_in runs row) (histories row)
-
-  sample_cell_at : (at : Option Instance) → cell_at (runs_table runs now) at ≡ cell_at (sample_table settings journal now) at
-  sample_cell_at None = refl
-  sample_cell_at (Some at) = by_index at.index
-    where
-      by_index : (index : List ℕ) → cell_at (runs_table runs now) (Some (record { column = at.column; index = index })) ≡ cell_at (sample_table settings journal now) (Some (record { column = at.column; index = index }))
-      by_index [] = refl
-      by_index (row ∷ []) = refl
-      by_index (row ∷ bucket ∷ []) = of_pair row bucket at.column
-      by_index (row ∷ bucket ∷ next ∷ more) = refl
-
   pub same_samples : (name : List ℕ) → cells_of (runs_table runs now) name ≡ cells_of (sample_table settings journal now) name
-  same_samples name = sample_cell_at (instance_of sample_entry sample_columns name)
+  same_samples =
+      same_numbered sample_entry sample_columns (λ row bucket. shown_by shows (part_in runs row) now bucket) (value_in bucket_value runs) (is_sample journal now) (sample_value settings journal)
+      (λ row bucket column. of_history row bucket column (part_in runs row) (histories row))
 
 -- both
 pub same_cells : (settings : Counting) (journal : Journal) (now : ℕ) (rows : List (Row ControlColumns)) (runs : List (Slot Run)) → AreControlRows history_control rows → AreRowsAfter history_control no_rows set_to rows journal

@@ -49,4 +49,4 @@ bucket_value row run bucket column =
 
 -- etherHistory with these histories, at a moment
 abbrev pub runs_table : List (Slot Run) → ℕ → Table
-runs_table runs now = inner_table sample_entry sample_columns (is_kept_of shows runs now) (λ column index. value_at bucket_value runs index column)
+runs_table runs now = inner_table sample_entry sample_columns (is_kept_of shows runs now) (value_at bucket_value runs)

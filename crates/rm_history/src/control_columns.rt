@@ -4,8 +4,8 @@ ghost use Rattle.rm_history.specs.ControlColumns.{control_rows};
 
 use arrayvec::ArrayVec;
 use rm_columns::{
-    ControlRow, ControlSheet, OneNumber, interface_in, interface_name, put_text, same_text,
-    short_in,
+    ControlRow, ControlSheet, MOST_OWNER, OneNumber, interface_in, interface_name, put_text,
+    same_text, short_in,
 };
 use rm_group::TableObjects;
 use rm_model::Setting::{Empty, Interface, Number};
@@ -14,9 +14,6 @@ use rm_val::{Oid, Value};
 
 /// The status column of historyControl.
 pub const STATUS: u32 = 7;
-
-/// How many octets an owner has at most.
-const MOST_OWNER: usize = 127;
 
 /// The objects of historyControl.
 pub(crate) const CONTROL_OBJECTS: TableObjects = TableObjects {

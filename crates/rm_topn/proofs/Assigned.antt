@@ -38,7 +38,7 @@ module _ (settings : Counting) (journal : Journal) (now : ℕ) (later : last_mom
   with_set = assigns now values ∷ journal
 
   pub rows_with_set : AreRowsAfter top_control no_rows set_to new with_set
-  rows_with_set = rows_committed control_rows no_rows journal now values bs rows new set
+  rows_with_set = rows_committed control_rows set now
 
   module _ (i : ℕ) where
     abbrev time : List ℕ

@@ -11,12 +11,11 @@ use Rattle.rm_group.proofs.Dues.{of_sooner}
 use Rattle.rm_collect.specs.Rows.{IsKept}
 use Rattle.rm_model.specs.ControlRows.{is_valid}
 use Rattle.rm_model.specs.Counting.{Counting}
-use Rattle.rm_model.specs.Indexing.{one_within}
 use Rattle.rm_model.specs.Journal.{Journal}
 use Rattle.rm_pool.specs.declared.slot.Slot.{Slot}
 use Rattle.rm_pool.specs.Pools.{IsOfValid}
 use Rattle.rm_pool.specs.Slots.{part_in}
-use Rattle.rm_status.proofs.RowFacts.{no_row_0, found_there}
+use Rattle.rm_status.proofs.RowFacts.{no_row_0}
 use Rattle.rm_status.specs.declared.row.Row.{Row}
 use Rattle.rm_status.specs.Rows.{row_in, state_seen, AllThere, IsIndexAfter}
 use Rattle.rm_topn.specs.declared.control_columns.ControlColumns.{ControlColumns}
@@ -99,11 +98,6 @@ module _ (courses : List (Slot Course)) where
           by_last : (last < due.number) ⊎ (due.number ≤ last) → IsEndTo last due
           by_last (inr low) = (is, low)
           by_last (inl above) = absurd (none_some (end_in courses due.number) due.moment (no_end rows of_valid due.number (after due.number above)) is.1)
-
-pub above_fits : (rows : List (Row ControlColumns)) (last row : ℕ) → AllThere top_control rows → IsIndexAfter rows last (Some row) → (last < row) × (row ≤ 65535)
-above_fits rows last row there after =
-    let fits = one_within row (found_there top_control rows row after.1.0 there after.1.1).0 in
-    (after.0, omega (arith, fits))
 
 -- Where reports stand for a journal, those end that haven't by the moment that they were given last, and by the last act.
 module _ (reports : Reports) (settings : Counting) (journal : Journal) (stands : Stands reports settings journal) (row : ℕ) where

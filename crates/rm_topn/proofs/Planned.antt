@@ -8,7 +8,7 @@ use Rattle.rm_model.specs.ControlRows.{no_rows, is_absent, set_value}
 use Rattle.rm_model.specs.ControlTable.{default_of}
 use Rattle.rm_model.specs.Journal.{Journal}
 use Rattle.rm_columns.specs.Numbering.{variant}
-use Rattle.rm_columns.specs.Values.{natural_in}
+use Rattle.rm_columns.specs.Values.{natural_in, natural_of}
 use Rattle.rm_status.specs.declared.row.Row.{Row}
 use Rattle.rm_status.specs.Rows.{columns_in, state_in}
 use Rattle.rm_status.specs.RowsAfter.{AreRowsAfter}
@@ -18,7 +18,7 @@ use Rattle.rm_report.specs.RateBase.{base_number, numbering}
 use Rattle.rm_topn.specs.declared.control_columns.ControlColumns.{ControlColumns}
 use Rattle.rm_topn.specs.Control.{top_control}
 use Rattle.rm_topn.specs.ControlColumns.{set_to}
-use Rattle.rm_topn.specs.Plans.{IsPlan, natural_of, plan_of}
+use Rattle.rm_topn.specs.Plans.{IsPlan, plan_of}
 
 base_is : (base : RateBase) → variant numbering (base_number base) ≡ base
 base_is InPkts = refl

@@ -4,7 +4,7 @@ use Rattle.std.specs.Prelude.{pos, is_some}
 use Rattle.std.specs.Option.{option_or, option_and_then, option_map_or}
 use Rattle.std.proofs.Math.Nat.{min-eq_left}
 use Rattle.rm_val.specs.Val.{Val, int, ticks, null}
-use Rattle.rm_columns.specs.Values.{natural_in}
+use Rattle.rm_columns.specs.Values.{natural_in, natural_of}
 use Rattle.rm_model.specs.Counting.{Counting}
 use Rattle.rm_model.specs.Journal.{Journal, last_moment}
 use Rattle.rm_model.specs.Alike.{HasSameColumns}
@@ -21,7 +21,8 @@ use Rattle.rm_status.proofs.KeptCellsLaws.{same_control_cells}
 use Rattle.rm_status.proofs.RowFacts.{row_there}
 use Rattle.rm_pool.specs.declared.slot.Slot.{Slot}
 use Rattle.rm_pool.specs.Slots.{part_in}
-use Rattle.rm_nested.specs.NumberedRows.{shown_by, value_by}
+use Rattle.rm_nested.specs.NumberedRows.{shown_by, value_by, value_in}
+use Rattle.rm_nested.proofs.NumberedTables.{same_numbered}
 use Rattle.rm_collect.specs.Rows.{IsKept}
 use Rattle.rm_report.specs.declared.ranked.Ranked.{Ranked}
 use Rattle.rm_report.specs.Ranking.{ranked_at}
@@ -32,9 +33,8 @@ use Rattle.rm_topn.specs.Control.{control_entry, control_state, seconds_set, siz
 use Rattle.rm_topn.specs.ControlColumns.{set_to}
 use Rattle.rm_topn.specs.Courses.{has_ended, is_shown}
 use Rattle.rm_topn.specs.Held.{AreAskable}
-use Rattle.rm_topn.specs.HostTop.{control_other, control_table, host_value, report_entry, report_table, set_table, top_cells}
+use Rattle.rm_topn.specs.HostTop.{control_other, control_table, host_value, is_place, report_entry, report_table, report_value, set_table, top_cells}
 use Rattle.rm_topn.specs.Kept.{IsCourse}
-use Rattle.rm_topn.specs.Plans.{natural_of}
 use Rattle.rm_topn.specs.Reports.{duration, host_shown, ranked_in, start_time, time_remaining}
 use Rattle.rm_topn.specs.Shown.{cells_kept, control_kept, duration_of, granted_of, other_shown, report_kept, seconds_in, set_kept, start_of, time_of, time_shown, value_shown}
 use Rattle.rm_topn.specs.StartLaws.{idle_start}
@@ -138,6 +138,9 @@ module _ (rows : List (Row ControlColumns)) (held : AreControlRows top_control r
 
 -- hostTopN
 module _ (courses : List (Slot Course)) (settings : Counting) (journal : Journal) (kept : (row : ℕ) → IsKept top_control IsCourse settings journal row (part_in courses row)) (now : ℕ) (askable : AreAskable courses now) where
+  abbrev value_of : ℕ → Course → ℕ → ℕ → Val
+  value_of row course place column = value_shown courses row place column
+
   module _ (row place column : ℕ) where
     abbrev cell_of : Option Ranked → Option Val
     cell_of host = cond (is_some host) (Some (option_map_or (λ ranked. host_value row place ranked column) host null)) None
@@ -157,9 +160,6 @@ module _ (courses : List (Slot Course)) (settings : Counting) (journal : Journal
         None))
         (idle_start row journal idle)
 
-    abbrev value_of : ℕ → Course → ℕ → ℕ → Val
-    value_of row course place column = value_shown courses row place column
-
     of_course : (o : Option Course) → part_in courses row ≡ o → IsKept top_control IsCourse settings journal row o
         → cond (shown_by is_shown o now place) (Some (value_by value_of row o place column)) None ≡ cell_of (host_shown settings journal now row place)
     of_course None here idle = ap cell_of (sym (no_host idle))
@@ -168,18 +168,10 @@ module _ (courses : List (Slot Course)) (settings : Counting) (journal : Journal
         ∙ once_ended (has_ended course now) (ranked_at place course.report.rows)
         ∙ ap cell_of (host_is settings journal row course now place is.1 (λ run runs. askable row run (ap (option_and_then (λ (course : Course). course.run)) here ∙ runs)))
 
-  host_cell_at : (o : Option Instance) → cell_at (report_kept courses now) o ≡ cell_at (report_table settings journal now) o
-  host_cell_at None = refl
-  host_cell_at (Some at) = by_numbers at.index
-    where
-      by_numbers : (index : List ℕ) → cell_at (report_kept courses now) (Some (record { column = at.column; index = index })) ≡ cell_at (report_table settings journal now) (Some (record { column = at.column; index = index }))
-      by_numbers [] = refl
-      by_numbers (row ∷ []) = refl
-      by_numbers (row ∷ place ∷ []) = of_course row place at.column (part_in courses row) refl (kept row)
-      by_numbers (row ∷ place ∷ next ∷ more) = refl
-
   same_hosts : (name : List ℕ) → cells_of (report_kept courses now) name ≡ cells_of (report_table settings journal now) name
-  same_hosts name = host_cell_at (instance_of report_entry report_columns name)
+  same_hosts =
+      same_numbered report_entry report_columns (λ row place. shown_by is_shown (part_in courses row) now place) (value_in value_of courses) (is_place settings journal now) (report_value settings journal now)
+      (λ row place column. of_course row place column (part_in courses row) refl (kept row))
 
 -- both
 pub same_cells : (rows : List (Row ControlColumns)) → AreControlRows top_control rows → (courses : List (Slot Course)) → (settings : Counting) (journal : Journal) → AreRowsAfter top_control no_rows set_to rows journal

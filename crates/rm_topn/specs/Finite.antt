@@ -7,29 +7,23 @@ use Rattle.std.proofs.lemmas.Bool.Decides.{nat_tests}
 use Rattle.rm_model.specs.Counting.{Counting}
 use Rattle.rm_model.specs.Journal.{Journal}
 use Rattle.rm_model.specs.Cells.{cells_of}
-use Rattle.rm_model.specs.ControlRows.{is_absent, is_valid}
+use Rattle.rm_model.specs.ControlRows.{is_valid}
 use Rattle.rm_model.specs.Finite.{AreFinite}
-use Rattle.rm_model.specs.declared.row.State.{State}
-use Rattle.rm_model.specs.declared.row.State.TheVariants.{Absent, UnderCreation, Valid}
 use Rattle.rm_model.proofs.Finite.{both_finite, table_finite}
 use Rattle.rm_columns.specs.Values.{natural_in}
+use Rattle.rm_status.proofs.RowFacts.{valid_there}
 use Rattle.rm_nested.proofs.Finite.{rows_of, in_rows, numbers, in_numbers, nested, in_nested}
 use Rattle.rm_nested.specs.Nested.{is_number}
 use Rattle.rm_report.specs.declared.ranked.Ranked.{Ranked}
 use Rattle.rm_topn.specs.Control.{control_set, control_state, seconds_set, size_granted, top_control}
 use Rattle.rm_topn.specs.HostTop.{control_table, is_place, report_table, top_cells}
-use Rattle.rm_topn.specs.Reports.{host_shown, ranked_in}
+use Rattle.rm_topn.specs.Reports.{ranked_in}
 use Rattle.rm_topn.specs.StartLaws.{idle_start}
 use Rattle.rm_topn.specs.Starts.{before_moment, end_of, last_start}
 
-there_is : (s : State) → is_valid s ≡ true → not (is_absent s) ≡ true
-there_is Absent h = absurd (cc)
-there_is UnderCreation h = refl
-there_is Valid h = refl
-
 module _ (settings : Counting) (journal : Journal) (now : ℕ) where
   abbrev is_at : (row place : ℕ) → Bool
-  is_at row place = is_some (host_shown settings journal now row place)
+  is_at = is_place settings journal now
 
   module _ (row place : ℕ) where
     -- the host at a place of a report that began so
@@ -69,17 +63,14 @@ module _ (settings : Counting) (journal : Journal) (now : ℕ) where
 
   of_row : (row : ℕ) (index : List ℕ) → is_number (is_at row) index ≡ true → Contains (rows_of top_control journal) (row ∷ [])
   of_row row [] is = absurd (cc)
-  of_row row (place ∷ []) is = in_rows top_control journal (row ∷ []) (there_is (control_state journal row) (of_valid row place is))
+  of_row row (place ∷ []) is = in_rows top_control journal (row ∷ []) (ap not (valid_there (control_state journal row) (of_valid row place is)))
   of_row row (place ∷ next ∷ more) is = absurd (cc)
 
   of_place : (row : ℕ) (index : List ℕ) → is_number (is_at row) index ≡ true → Contains (numbers 100) index
   of_place row index is = in_numbers (is_at row) 100 (λ place shown. at_most_100 row place shown) index is
 
-  in_places : (index : List ℕ) → is_place settings journal now index ≡ true → Contains places index
-  in_places [] is = absurd (cc)
-  in_places (row ∷ []) is = absurd (cc)
-  in_places (row ∷ place ∷ []) is = in_nested (λ row index. is_number (is_at row) index) (rows_of top_control journal) (λ row. numbers 100) of_row of_place (row ∷ place ∷ []) is
-  in_places (row ∷ place ∷ next ∷ more) is = absurd (cc)
+  in_places : (index : List ℕ) → (report_table settings journal now).is_row index ≡ true → Contains places index
+  in_places = in_nested (λ row. is_number (is_at row)) (rows_of top_control journal) (λ row. numbers 100) of_row of_place
 
 -- the cells of both are finitely many
 pub top_finite : (settings : Counting) (journal : Journal) (now : ℕ) → AreFinite (top_cells settings journal now)

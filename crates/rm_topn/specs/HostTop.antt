@@ -1,5 +1,5 @@
 -- The tables hostTopNControl and hostTopN (RFC 1757, section 5), as they are shown after a journal at a moment in milliseconds.
-use Rattle.std.specs.Prelude.{ℕ, pos, min, List, [], ◌∷◌, Bool, false, nat_eq, if◌then◌else◌, is_some}
+use Rattle.std.specs.Prelude.{ℕ, pos, min, List, [], ◌∷◌, Bool, nat_eq, if◌then◌else◌, is_some}
 use Rattle.std.specs.Option.{option_map_or, option_or}
 use Rattle.rm_val.specs.Val.{Val, int, octets, ticks, null}
 use Rattle.rm_model.specs.Counting.{Counting}
@@ -9,6 +9,7 @@ use Rattle.rm_model.specs.ControlRows.{no_rows, is_valid}
 use Rattle.rm_model.specs.ControlCells.{control_cells}
 use Rattle.rm_status.specs.Rows.{row_number}
 use Rattle.rm_status.specs.RowsShown.{with_index}
+use Rattle.rm_nested.specs.InnerTable.{numbered_table}
 use Rattle.rm_report.specs.declared.ranked.Ranked.{Ranked}
 use Rattle.rm_topn.specs.Columns.{control_columns, report_columns}
 use Rattle.rm_topn.specs.Control.{top_control, control_state, size_granted}
@@ -37,9 +38,8 @@ abbrev pub report_entry : List ℕ
 report_entry = 1 ∷ 3 ∷ 6 ∷ 1 ∷ 2 ∷ 1 ∷ 16 ∷ 5 ∷ 2 ∷ 1 ∷ []
 
 -- whether these numbers are those of a control row and of a place in its report
-abbrev pub is_place : Counting → Journal → (now : ℕ) → List ℕ → Bool
-is_place settings journal now (row ∷ place ∷ []) = is_some (host_shown settings journal now row place)
-is_place settings journal now index = false
+abbrev pub is_place : Counting → Journal → (now row place : ℕ) → Bool
+is_place settings journal now row place = is_some (host_shown settings journal now row place)
 
 -- What a column shows of the host at a place: the control row, the place, its address, and its rate, which is shown as 2147483647 at most.
 abbrev pub host_value : (row place : ℕ) → Ranked → (column : ℕ) → Val
@@ -49,19 +49,13 @@ host_value row place ranked column =
     else if nat_eq column 3 then octets ranked.address
     else int (pos (min ranked.rate.0 2147483647))
 
--- the same by the numbers of an index
-abbrev pub report_value : Counting → Journal → (now : ℕ) → ℕ → List ℕ → Val
-report_value settings journal now column (row ∷ place ∷ []) = option_map_or (λ ranked. host_value row place ranked column) (host_shown settings journal now row place) null
-report_value settings journal now column index = null
+-- the same of the host that is shown there after a journal, at a moment
+abbrev pub report_value : Counting → Journal → (now row place column : ℕ) → Val
+report_value settings journal now row place column = option_map_or (λ ranked. host_value row place ranked column) (host_shown settings journal now row place) null
 
 -- hostTopN
 abbrev pub report_table : Counting → Journal → (now : ℕ) → Table
-report_table settings journal now = record {
-  entry = report_entry;
-  columns = report_columns;
-  is_row = is_place settings journal now;
-  value = report_value settings journal now;
-}
+report_table settings journal now = numbered_table report_entry report_columns (is_place settings journal now) (report_value settings journal now)
 
 -- the cells of both
 abbrev pub top_cells : Counting → Journal → (now : ℕ) → Cells

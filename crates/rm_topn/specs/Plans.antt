@@ -1,16 +1,11 @@
 -- What a row asks of a report that begins.
-use Rattle.std.specs.Prelude.{◌≡◌, ℕ, ℤ, min}
+use Rattle.std.specs.Prelude.{◌≡◌, ℕ, min}
 use Rattle.std.specs.Option.{option_map_or}
-use Rattle.rm_val.specs.Val.{int}
 use Rattle.rm_model.specs.Journal.{Journal}
-use Rattle.rm_columns.specs.Values.{natural_in}
+use Rattle.rm_columns.specs.Values.{natural_of}
 use Rattle.rm_topn.specs.declared.control_columns.ControlColumns.{ControlColumns}
 use Rattle.rm_topn.specs.declared.plan.Plan.{Plan}
 use Rattle.rm_topn.specs.Control.{host_row, rate_base, seconds_set, size_granted}
-
--- a number, 0 where it is negative
-abbrev pub natural_of : ℤ → ℕ
-natural_of number = natural_in (int number)
 
 -- what a row with these columns asks of a report
 abbrev pub plan_of : ControlColumns → Plan

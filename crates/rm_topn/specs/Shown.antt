@@ -4,6 +4,7 @@ use Rattle.std.specs.Option.{option_and_then, option_map_or, option_or}
 use Rattle.rm_val.specs.Val.{Val, int, ticks, null}
 use Rattle.rm_model.specs.Cells.{Cells, Table, cells_of, instance_of}
 use Rattle.rm_model.specs.ControlRows.{is_valid}
+use Rattle.rm_columns.specs.Values.{natural_of}
 use Rattle.rm_status.specs.declared.row.Row.{Row}
 use Rattle.rm_status.specs.Rows.{row_in, columns_in, row_number}
 use Rattle.rm_status.specs.RowsShown.{rows_shown}
@@ -20,7 +21,7 @@ use Rattle.rm_topn.specs.Control.{control_entry}
 use Rattle.rm_topn.specs.ControlColumns.{control_rows}
 use Rattle.rm_topn.specs.Courses.{is_shown}
 use Rattle.rm_topn.specs.HostTop.{host_value, report_entry}
-use Rattle.rm_topn.specs.Plans.{natural_of, plan_of}
+use Rattle.rm_topn.specs.Plans.{plan_of}
 use Rattle.rm_topn.specs.Times.{duration_kept, start_kept, time_kept}
 
 -- the host at a place in the report that is kept of a row, if there is one
@@ -34,7 +35,7 @@ value_shown courses row place column = option_map_or (λ ranked. host_value row 
 -- hostTopN at a moment
 abbrev pub report_kept : List (Slot Course) → (now : ℕ) → Table
 report_kept courses now =
-    inner_table report_entry report_columns (is_kept_of is_shown courses now) (λ column index. value_at (λ row course place column. value_shown courses row place column) courses index column)
+    inner_table report_entry report_columns (is_kept_of is_shown courses now) (value_at (λ row course place column. value_shown courses row place column) courses)
 
 -- For how many seconds a report of a row runs, by what the row was set to, and when it began: 0 where none did.
 abbrev pub duration_of : Option Course → (set : ℕ) → ℕ

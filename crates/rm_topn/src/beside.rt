@@ -17,7 +17,7 @@ impl Beside<Hosts> for Reports {
 
     ghost together_beside = { λ settings journal now readings bindings place. second_pass top_control (rows_after top_control no_rows journal) bindings place };
 
-    ghost ready = { λ s first now bindings. IsPrepared s bindings };
+    ghost ready = { λ s first now. IsPrepared s };
 
     ghost begun = { HasBegun };
 

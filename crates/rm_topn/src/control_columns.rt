@@ -3,7 +3,9 @@ ghost use Rattle.std.specs.Prelude.{refl};
 ghost use Rattle.rm_topn.specs.ControlColumns.{control_rows};
 
 use arrayvec::ArrayVec;
-use rm_columns::{ControlRow, ControlSheet, Numbered, OneNumber, number_in, put_text, same_text};
+use rm_columns::{
+    ControlRow, ControlSheet, MOST_OWNER, Numbered, OneNumber, number_in, put_text, same_text,
+};
 use rm_group::TableObjects;
 use rm_model::Setting::{Empty, Number};
 use rm_model::{ColumnKind, StatusKind, column, numbers};
@@ -15,9 +17,6 @@ pub(crate) const STATUS: u32 = 10;
 
 /// The column TimeRemaining.
 pub(crate) const TIME: u32 = 4;
-
-/// How many octets an owner has at most.
-const MOST_OWNER: usize = 127;
 
 /// The objects of hostTopNControl.
 pub(crate) const CONTROL_OBJECTS: TableObjects = TableObjects {

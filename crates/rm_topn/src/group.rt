@@ -36,7 +36,7 @@ impl Group for Reports {
 
     ghost together = { λ settings journal now readings bindings place. second_pass top_control (rows_after top_control no_rows journal) bindings place };
 
-    ghost accepts = { λ s now bindings. AreFine s bindings };
+    ghost accepts = { λ s now. AreFine s };
 
     ghost finite = { top_finite };
 
@@ -72,7 +72,7 @@ impl Stores for Reports {
 
     ghost reserves = { λ settings journal bindings index. Reserves top_control (rows_after top_control no_rows journal) bindings index };
 
-    ghost prepared = { λ s now bindings. IsPrepared s bindings };
+    ghost prepared = { λ s now. IsPrepared s };
 
     ghost released = { IsReleased };
 

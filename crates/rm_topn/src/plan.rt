@@ -1,8 +1,9 @@
 // What a row of hostTopNControl asks of a report.
-ghost use Rattle.std.specs.Prelude.{◌≡◌, ◌≤◌};
-ghost use Rattle.rm_topn.specs.Plans.{natural_of, plan_of};
+ghost use Rattle.std.specs.Prelude.{◌≡◌};
+ghost use Rattle.rm_topn.specs.Plans.{plan_of};
 
 use crate::control_columns::ControlColumns;
+use rm_columns::natural;
 use rm_report::RateBase;
 
 /// How many hosts a report has at most, however many are asked for.
@@ -36,12 +37,4 @@ impl ControlColumns {
             seconds: natural(self.seconds),
         }
     }
-}
-
-/// A number, 0 where it is negative.
-pub(crate) fn natural(number: i32) -> u32
-    ensures value { result ≡ natural_of number }
-    ensures most { result ≤ 2147483647 }
-{
-    if number >= 0 { number as u32 } else { 0 }
 }

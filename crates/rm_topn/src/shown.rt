@@ -4,21 +4,20 @@ ghost use Rattle.std.specs.Option.{option_copied, option_map};
 ghost use Rattle.rm_val.specs.Val.{val_of};
 ghost use Rattle.rm_val.specs.Spellable.{IsSpellable, HasSpelling};
 ghost use Rattle.rm_model.specs.Cells.{IsNext, cells_of};
-ghost use Rattle.rm_status.specs.Rows.{AreControlRows, row_number};
+ghost use Rattle.rm_status.specs.Rows.{AreControlRows};
 ghost use Rattle.rm_topn.specs.Control.{top_control};
 ghost use Rattle.rm_topn.specs.Shown.{cells_kept, control_kept, counted, duration_of, granted_of, seconds_in, start_of, time_of, time_row, time_shown};
 
 use crate::control_columns::{CONTROL_OBJECTS, ControlColumns, TIME};
 use crate::course::Course;
-use crate::plan::natural;
 use crate::reports::Reports;
 use crate::top_rows::{REPORT_OBJECTS, TopRows};
-use rm_columns::ControlRow;
+use rm_columns::{ControlRow, natural};
 use rm_group::{choose_nearer, instance_of, is_under};
 use rm_model::State;
 use rm_nested::{inner_cell, next_inner_cell};
 use rm_pool::Pool;
-use rm_status::{Controls, OtherColumns, Row};
+use rm_status::{Controls, OtherColumns, Row, row_number};
 use rm_val::{Oid, Value};
 
 // The columns of hostTopNControl that can't be set, by what its rows keep.
@@ -104,13 +103,6 @@ fn time_row(name: &Oid) -> Option<u32>
     } else {
         None
     }
-}
-
-// The one number of an index, and 0 for any other index.
-fn row_number(index: &Oid) -> u32
-    ensures { result ≡ row_number index.now }
-{
-    if index.len() == 1 { index.at(0) } else { 0 }
 }
 
 impl Reports {

@@ -1,16 +1,8 @@
-use Rattle.std.proofs.Common.{arith}
-use Rattle.rm_alarm.proofs.NextDue.{begins, goes_on, ends, above_fits}
+use Rattle.rm_alarm.proofs.NextDue.{begins, goes_on, ends}
 use Rattle.rm_alarm.proofs.due.earliest.Goals as goal
 
 pub loop-index-init : goal.loop-index-init
 loop-index-init c = begins c.args.rows.now c.len.ensures.rows.1
-
-pub loop-index-smaller : goal.loop-index-smaller
-loop-index-smaller c =
-    let fits = above_fits c.args.rows.now c.loop-index.last c.in-Some.index c.len.ensures.rows.1 c.in-Some.ensures.least in
-    let low = fits.0 in
-    let high = fits.1 in
-    omega arith
 
 pub loop-index-preserved : goal.loop-index-preserved
 loop-index-preserved c =

@@ -1,4 +1,4 @@
-use Rattle.std.proofs.Common.{◌-◌}
+use Rattle.std.proofs.Common.{◌-◌, ◌^◌}
 use Rattle.rm_alarm.specs.Due.{due_at}
 use Rattle.rm_acts.proofs.NextDueLaws.{IsNextTo}
 use Rattle.rm_alarm.proofs.due.earliest.Given as goal
@@ -8,4 +8,4 @@ abbrev pub invariant-loop-index : goal.invariant-loop-index
 invariant-loop-index l = IsNextTo (due_at l.rows) l.last l.next
 
 abbrev pub decreases-loop-index : goal.decreases-loop-index
-decreases-loop-index l = 65536 - l.last
+decreases-loop-index l = 2 ^ 32 - l.last

@@ -1,16 +1,9 @@
-use Rattle.std.proofs.Common.{sym, ◌∙◌, arith}
-use Rattle.rm_filter.proofs.FindLemmas.{none_at_first, none_up_to_next, none_at_all, next_fits}
+use Rattle.std.proofs.Common.{sym, ◌∙◌}
+use Rattle.rm_filter.proofs.FindLemmas.{none_at_first, none_up_to_next, none_at_all}
 use Rattle.rm_filter.proofs.accepting.finds_match.Goals as goal
 
 pub loop-index-init : goal.loop-index-init
 loop-index-init c = none_at_first c.args.filters.now c.args.channel c.args.facts.now.status c.args.octets.now c.len.ensures.rows.1
-
-pub loop-index-smaller : goal.loop-index-smaller
-loop-index-smaller c =
-    let fits = next_fits c.args.filters.now c.loop-index.last c.in-Some.index c.len.ensures.rows.1 c.in-Some.ensures.least in
-    let low = fits.0 in
-    let high = fits.1 in
-    omega arith
 
 pub loop-index-preserved : goal.loop-index-preserved
 loop-index-preserved c =

@@ -1,7 +1,7 @@
 use Rattle.std.proofs.Common.{sym, ap, ◌∙◌, length, arith}
 use Rattle.std.specs.Prelude.{filter_map}
 use Rattle.rm_filter.specs.Judging.{judged, with_one}
-use Rattle.rm_filter.proofs.JudgeLemmas.{up_to, none_to_0, few_to, one_more, all_to, mapped_more, length_with, length_more, next_fits}
+use Rattle.rm_filter.proofs.JudgeLemmas.{up_to, none_to_0, few_to, one_more, all_to, mapped_more, length_with, length_more}
 use Rattle.rm_filter.proofs.judging.judge.Goals as goal
 
 pub loop-index-init : goal.loop-index-init
@@ -22,13 +22,6 @@ add-requires c =
     let most = c.len.ensures.most in
     let all = c.len.ensures.value in
     omega (arith, longer, few, so_far, most, all)
-
-pub loop-index-smaller : goal.loop-index-smaller
-loop-index-smaller c =
-    let fits = next_fits c.args.channels.now c.loop-index.last c.in-Some.index c.len.ensures.rows.1 c.in-Some.ensures.least in
-    let low = fits.0 in
-    let high = fits.1 in
-    omega arith
 
 pub loop-index-preserved : goal.loop-index-preserved
 loop-index-preserved c =

@@ -1,4 +1,4 @@
-use Rattle.std.proofs.Common.{◌≡◌, ◌≤◌, ◌-◌, ℕ, length}
+use Rattle.std.proofs.Common.{◌≡◌, ◌≤◌, ◌-◌, ◌^◌, ℕ, length}
 use Rattle.std.specs.Prelude.{filter_map}
 use Rattle.rm_model.specs.Counting.{Counting}
 use Rattle.rm_model.specs.Journal.{Frame, Journal}
@@ -24,4 +24,4 @@ invariant-loop-index l =
     → l.accepting.items ≡ filter_map (judged settings journal frame) (up_to l.last l.channels))
 
 abbrev pub decreases-loop-index : goal.decreases-loop-index
-decreases-loop-index l = 65536 - l.last
+decreases-loop-index l = 2 ^ 32 - l.last

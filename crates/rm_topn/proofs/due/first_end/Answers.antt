@@ -1,16 +1,8 @@
-use Rattle.std.proofs.Common.{arith}
-use Rattle.rm_topn.proofs.Dues.{begins, goes_on, ends, above_fits}
+use Rattle.rm_topn.proofs.Dues.{begins, goes_on, ends}
 use Rattle.rm_topn.proofs.due.first_end.Goals as goal
 
 pub loop-row-init : goal.loop-row-init
 loop-row-init c = begins c.args.courses.now c.args.rows.now c.len.ensures.rows.1 c.requires
-
-pub loop-row-smaller : goal.loop-row-smaller
-loop-row-smaller c =
-    let fits = above_fits c.args.rows.now c.loop-row.last c.in-Some.row c.len.ensures.rows.1 c.in-Some.ensures.least in
-    let low = fits.0 in
-    let high = fits.1 in
-    omega arith
 
 pub loop-row-preserved : goal.loop-row-preserved
 loop-row-preserved c =

@@ -8,10 +8,9 @@ use Rattle.rm_status.specs.declared.row.Row.{Row}
 use Rattle.rm_status.specs.Rows.{row_in}
 use Rattle.rm_status.specs.Change.{changed_row}
 use Rattle.rm_status.proofs.Commits.{index_in}
-use Rattle.rm_status.proofs.RowsAfterLemmas.{rows_changed, same_before}
+use Rattle.rm_status.proofs.RowsAfterLemmas.{rows_changed, same_before, was_there}
 use Rattle.rm_alarm.specs.declared.row.AlarmRow.{AlarmRow}
 use Rattle.rm_alarm.specs.Rows.{set_to, reading_base, variable_with}
-use Rattle.rm_alarm.proofs.AfterSets.{was_there}
 use Rattle.rm_alarm.proofs.Changes.{kept_changed, based_changed}
 use Rattle.rm_alarm.proofs.NextDue.{next_kept}
 use Rattle.rm_alarm.proofs.Pace.{paced_changed}
@@ -32,10 +31,12 @@ returns-clause-fine g c =
     let bs = g.A.Assigns.bindings c.args.set.now in
     let readings = g.L.Look.readings c.args.look.now c.args.now in
     record {
-      alone = c.requires.alone;
-      together = subst (λ (b : Beginning). IsFirstFault (length bs) (second_pass alarm_table b bs) Fine)
-          (sym (same_before alarm_table no_rows set_to (λ index state row. reading_base readings bs index row) (λ index state row n. refl) c.args.self.now.rows c.change_each.new.self c.change_each.ensures))
-          c.requires.together;
+      fine = record {
+        alone = c.requires.fine.alone;
+        together = subst (λ (b : Beginning). IsFirstFault (length bs) (second_pass alarm_table b bs) Fine)
+            (sym (same_before alarm_table no_rows set_to (λ index state row. reading_base readings bs index row) (λ index state row n. refl) c.args.self.now.rows c.change_each.new.self c.change_each.ensures))
+            c.requires.fine.together;
+      };
       values = c.requires.values;
     }
 

@@ -3,12 +3,12 @@ use Rattle.std.specs.Ordering.{nat_cmp, is_lt}
 use Rattle.std.specs.Cmp.Lexicographic.{slice_cmp}
 use Rattle.rm_val.specs.Val.{val_of}
 use Rattle.rm_model.specs.Cells.{IsNext, cells_of}
-use Rattle.rm_group.proofs.Leasts.{is_below}
+use Rattle.rm_group.proofs.Leasts.{is_below, found_first}
 use Rattle.rm_status.specs.RowsShown.{rows_shown}
 use Rattle.rm_pool.proofs.Numbered.{numbered}
 use Rattle.rm_collect.specs.Collection.{kept}
 use Rattle.rm_collect.specs.Held.{Held}
-use Rattle.rm_collect.proofs.Nearest.{found_first, name_stays}
+use Rattle.rm_collect.proofs.Nearest.{name_stays}
 use Rattle.rm_collect.proofs.collecting.Collecting.shown_after.Goals as goal
 
 pub returns-then-is_under-clause-next : goal.returns-then-is_under-clause-next

@@ -1,8 +1,7 @@
-use Rattle.std.proofs.Common.{◌≡◌, subst, option_map}
+use Rattle.std.proofs.Common.{◌≡◌, option_map}
 use Rattle.rm_val.specs.Val.{val_of}
 use Rattle.rm_pool.proofs.Numbered.{numbered}
 use Rattle.rm_collect.specs.Collection.{control_kept}
-use Rattle.rm_collect.specs.Held.{Held}
 use Rattle.rm_collect.proofs.Nearest.{shown_first, shown_second}
 use Rattle.rm_collect.proofs.collecting.Collecting.shown_at.Goals as goal
 
@@ -24,5 +23,5 @@ returns-in-None-clause-value g c =
     let held = c.args.self.now in
     let control = control_kept g.P.Columns.ControlRow.form collection held.rows held.parts c.args.name.now in
     let found = option_map val_of c.inner_cell.result in
-    let inner = subst (λ (held : Held g.row.P-Columns.Denot g.row.P.Denot g.row.P-Shared.Denot). found ≡ collection.inner held.rows held.parts c.args.now c.args.name.now) c.self.view_is c.inner_cell.ensures.value in
+    let inner : found ≡ collection.inner held.rows held.parts c.args.now c.args.name.now = rw (← c.self.view_is) c.inner_cell.ensures.value in
     shown_second control (collection.inner held.rows held.parts c.args.now c.args.name.now) found c.in-None.ensures.value inner

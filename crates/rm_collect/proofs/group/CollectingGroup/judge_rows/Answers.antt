@@ -4,8 +4,6 @@ use Rattle.rm_model.specs.Judgement.{IsFirstFault, second_pass}
 use Rattle.rm_model.specs.declared.verdict.Verdict.{Verdict}
 use Rattle.rm_status.specs.Rows.{rows_before}
 use Rattle.rm_status.proofs.Judged.{judged_after}
-use Rattle.rm_collect.specs.Group.{Stands, AreFine}
-use Rattle.rm_collect.specs.Held.{Held}
 use Rattle.rm_collect.proofs.InRange.{first_fine}
 use Rattle.rm_collect.proofs.group.CollectingGroup.judge_rows.Goals as goal
 
@@ -17,15 +15,15 @@ judge_rows-requires g c =
 pub returns-clause-accepted : goal.returns-clause-accepted
 returns-clause-accepted g c fine =
     let form = g.P.Columns.ControlRow.form in
-    let collection = g.P.Collected.collection in
     let bs = g.A.Assigns.bindings c.args.set.now in
     let together = subst (λ (verdict : Verdict). IsFirstFault (length bs) (second_pass form.table (rows_before form.table form.set_to c.self.inside.table.rows) bs) verdict) fine c.judge_rows.ensures.verdict in
-    subst (λ (held : Held g.row.P-Columns.Denot g.row.P.Denot g.row.P-Shared.Denot). AreFine form collection held bs) c.self.view_is (record { each = c.requires.alone; together = together })
+    record {
+      each = c.requires.alone;
+      by_rows = rw (← c.self.view_is) (record { alone = first_fine form g.P.Collected.collection g.met.P.Collected.laws bs c.requires.alone; together = together });
+    }
 
 pub returns-clause-verdict : goal.returns-clause-verdict
 returns-clause-verdict g c settings journal stands later askable =
     let form = g.P.Columns.ControlRow.form in
-    let inside = c.self.inside in
-    let held : Held g.row.P-Columns.Denot g.row.P.Denot g.row.P-Shared.Denot = record { rows = inside.table.rows; parts = inside.parts; shared = inside.table.shared; frames = inside.frames; last = inside.table.last } in
-    let stood : Stands form g.P.Collected.collection held settings journal = rw c.self.view_is stands in
-    judged_after form.table no_rows form.set_to inside.table.rows journal stood.rows (g.A.Assigns.bindings c.args.set.now) c.judge_rows.result c.judge_rows.ensures.verdict
+    let stood = rw (← c.self.view_is) at stands in
+    judged_after form.table no_rows form.set_to c.self.inside.table.rows journal stood.rows (g.A.Assigns.bindings c.args.set.now) c.judge_rows.result c.judge_rows.ensures.verdict

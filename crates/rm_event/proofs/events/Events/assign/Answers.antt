@@ -1,8 +1,6 @@
 use Rattle.std.proofs.Common.{◌≤◌, length, sym, subst, arith}
 use Rattle.rm_model.specs.ControlRows.{no_rows}
 use Rattle.rm_status.proofs.Committed.{IsCommitted, count_then}
-use Rattle.rm_status.proofs.Puts.{all_fine}
-use Rattle.rm_event.specs.EventTable.{event_table}
 use Rattle.rm_event.specs.EventRows.{event_rows}
 use Rattle.rm_event.proofs.Assigned.{rows_with_set, logs_with_set}
 use Rattle.rm_event.proofs.events.Events.assign.Goals as goal
@@ -16,7 +14,7 @@ returns-clause-stands g c settings journal now values stands gives =
     let bs = g.A.Assigns.bindings c.args.set.now in
     let old = c.args.self.now in
     let set : IsCommitted event_rows no_rows journal values bs old.rows c.commit.new.self =
-    record { gives = gives; fine = all_fine event_table bs c.requires.ready.fine.alone; together = c.requires.ready.fine.together; held = c.len.ensures.rows; stood = stands.rows; after = c.commit.ensures } in
+    record { gives = gives; fine = c.requires.ready.fine; held = c.len.ensures.rows; stood = stands.rows; after = c.commit.ensures } in
     record {
       rows = rows_with_set settings journal now bs values old.rows c.commit.new.self set;
       logs = logs_with_set settings journal now bs values old.rows c.commit.new.self set old.logs c.follow.new.self old.of_valid c.follow.ensures.of_valid c.follow.ensures.stays c.follow.ensures.begun stands.logs;

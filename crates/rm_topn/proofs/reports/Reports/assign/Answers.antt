@@ -1,8 +1,6 @@
 use Rattle.std.proofs.Common.{◌≤◌, length, sym, subst, arith}
 use Rattle.rm_model.specs.ControlRows.{no_rows}
 use Rattle.rm_status.proofs.Committed.{IsCommitted, count_then}
-use Rattle.rm_status.proofs.Puts.{all_fine}
-use Rattle.rm_topn.specs.Control.{top_control}
 use Rattle.rm_topn.specs.ControlColumns.{control_rows}
 use Rattle.rm_topn.specs.Courses.{end_at}
 use Rattle.rm_topn.proofs.Assigned.{rows_with_set, courses_with_set, ended_with_set}
@@ -31,7 +29,7 @@ returns-clause-begun g c settings journal values stands later asked gives hosts 
     let follow = c.follow.ensures in
     let held = stands.held in
     let set : IsCommitted control_rows no_rows journal values bs old.rows c.commit.new.self =
-    record { gives = gives; fine = all_fine top_control bs c.requires.ready.fine.alone; together = c.requires.ready.fine.together; held = c.len.ensures.rows; stood = held.rows; after = c.commit.ensures } in
+    record { gives = gives; fine = c.requires.ready.fine; held = c.len.ensures.rows; stood = held.rows; after = c.commit.ensures } in
     record {
       held = record { rows = rows_with_set settings journal c.args.now later bs values old.rows c.commit.new.self set; given = held.given; measured = record { few = held.measured.few; short = held.measured.short } };
       courses =

@@ -1,9 +1,6 @@
 -- How the columns of an alarm are set.
-use Rattle.std.specs.Prelude.{◌≡◌, ℕ, [], nat_eq, if◌then◌else◌, Some, None, refl}
-use Rattle.rm_val.specs.Val.{Val}
+use Rattle.std.specs.Prelude.{[], refl}
 use Rattle.rm_model.specs.ControlTable.{owner_column}
-use Rattle.rm_model.specs.Alike.{HasSameColumns}
-use Rattle.rm_model.specs.Judgement.{column_kind, value_fault}
 use Rattle.rm_acts.specs.Alarms.{alarm_table, interval_column, variable_column, sample_type_column, startup_column, rising_column, falling_column, rising_event_column, falling_event_column}
 use Rattle.rm_columns.specs.Kinds.{texts, numbers, needed_numbers, needed_names}
 use Rattle.rm_columns.specs.RowForm.{RowForm}
@@ -30,9 +27,3 @@ alarm_rows =
     (one_more numbers falling_event_column refl _ n value row.falling_event _ _
     (one_more (texts 127) (owner_column 11) refl [] n value row.owner _ _ (no_columns n value))))))))))
     refl refl refl refl refl
-
-pub blank_alike : (index : ℕ) → HasSameColumns alarm_table (set_to blank_row) (λ column. None)
-blank_alike = alarm_rows.blank_alike
-
-pub set_with : (row : AlarmRow) (n other : ℕ) (value : Val) → value_fault (column_kind alarm_table n) value ≡ None → set_to (with_column row n value) other ≡ (if nat_eq n other then Some value else set_to row other)
-set_with = alarm_rows.set_with
