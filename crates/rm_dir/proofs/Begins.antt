@@ -15,13 +15,12 @@ use Rattle.rm_status.specs.Rows.{row_in, state_seen, columns_seen, state_in}
 use Rattle.rm_status.specs.RowsAfter.{is_numbered, AreRowsAfter}
 use Rattle.rm_status.proofs.RowsBefore.{state_before, set_before_at}
 use Rattle.rm_path.specs.declared.identifier.ProtocolIdentifier.{ProtocolIdentifier}
-use Rattle.rm_path.specs.declared.identifier.ProtocolIdentifier.TheVariants.{Ether2, Ether, Ip, Tcp, Udp}
-use Rattle.rm_path.specs.Identifier.{number_of, IsInRange, is_same}
-use Rattle.rm_path.proofs.Identifiers.{same_number, same_is, is_itself}
+use Rattle.rm_path.specs.Identifier.{number_of, identified, is_same}
+use Rattle.rm_path.proofs.Identifiers.{same_is, is_itself}
 use Rattle.rm_dir.specs.declared.row.DirectoryRow.{DirectoryRow}
 use Rattle.rm_dir.specs.Support.{support_number}
 use Rattle.rm_dir.specs.BuiltIn.{BuiltIn, built_in_rows, built_in, is_built_in, is_countable, built_in_local}
-use Rattle.rm_dir.specs.DirectoryIndex.{directory_index, is_directory_row, identified, indexed, index_with, may_have_row, row_protocol, protocol_of, protocol_is, row_of}
+use Rattle.rm_dir.specs.DirectoryIndex.{directory_index, is_directory_row, indexed, index_with, may_have_row, row_protocol, protocol_of, protocol_is, row_of, same_protocol}
 use Rattle.rm_dir.specs.DirectoryIndex as index
 use Rattle.rm_dir.specs.DirectoryRows.{set_to}
 use Rattle.rm_dir.specs.ProtocolDir.{protocol_dir, directory_beginning, built_in_set, first_config}
@@ -33,13 +32,6 @@ use Rattle.rm_dir.specs.Group.{AreLocal}
 both : (a b : Bool) → (a && b) ≡ true → (a ≡ true) × (b ≡ true)
 both true b is = (refl, is)
 both false b is = absurd (cc)
-
-in_range : (protocol : ProtocolIdentifier) → may_have_row protocol ≡ true → IsInRange protocol
-in_range Ether2 may = tt
-in_range (Ether type) may = let parts = both (nat_le 1536 type) (nat_le type 65535) may in grind (arith, nat_tests)
-in_range (Ip protocol) may = grind (arith, nat_tests)
-in_range (Tcp port) may = let parts = both (nat_le 1 port) (nat_le port 65535) may in grind (arith, nat_tests)
-in_range (Udp port) may = let parts = both (nat_le 1 port) (nat_le port 65535) may in grind (arith, nat_tests)
 
 itself : (n : ℕ) → nat_eq n n ≡ true
 itself n = grind (arith, nat_tests)
@@ -53,7 +45,7 @@ same_test one other a b = by_test (is_same one other) refl (nat_eq (number_of on
     by_test false e false f = refl
     by_test true e false f = let same : one ≡ other = same_is one other e in absurd (let yes : nat_eq (number_of one) (number_of other) ≡ true = subst (λ p. nat_eq (number_of one) (number_of p) ≡ true) same (itself (number_of one)) in cc)
     by_test false e true f =
-        let same : one ≡ other = same_number one other (in_range one a) (in_range other b) (eqb-true (number_of one) (number_of other) f) in
+        let same : one ≡ other = same_protocol one other a b (eqb-true (number_of one) (number_of other) f) in
         absurd (let yes : is_same one other ≡ true = subst (λ p. is_same one p ≡ true) same (is_itself one) in cc)
 
 -- what is known of each of some sound rows

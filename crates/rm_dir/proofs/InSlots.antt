@@ -17,10 +17,10 @@ use Rattle.rm_path.specs.declared.identifier.ProtocolIdentifier.{ProtocolIdentif
 use Rattle.rm_path.specs.declared.protocol.Protocol.{Protocol}
 use Rattle.rm_path.specs.Identifier.{number_of}
 use Rattle.rm_path.specs.Slots.{protocol_in, identifier_in, is_active, AreApart, AreFull, HaveSlots, IsSlotOf, IsSlotOfFirst}
-use Rattle.rm_path.proofs.SlotLemmas.{active_in, some_slot}
+use Rattle.rm_path.proofs.SlotLemmas.{active_in, some_slot, in_its_slot}
 use Rattle.rm_dir.specs.declared.row.DirectoryRow.{DirectoryRow}
 use Rattle.rm_dir.specs.Active.{protocol_kept, held_protocol}
-use Rattle.rm_dir.specs.DirectoryIndex.{identified, may_have_row, number_within, of_number, row_of, row_protocol}
+use Rattle.rm_dir.specs.DirectoryIndex.{may_have_row, number_within, of_number, row_of, row_protocol, same_protocol}
 use Rattle.rm_dir.specs.Paths.{AreKnown, AreOfRows, DoStay}
 use Rattle.rm_dir.proofs.Counts.{count_under}
 
@@ -173,7 +173,7 @@ module _ (rows : List (Row DirectoryRow)) (slots : List (Option Protocol)) (know
             let it = found_it slots (number_of identifier) e in
             let may = (has_row rows identifier protocol active).0 in
             let other = (has_row rows it.1.identifier it.1 (known it.0 it.1 it.2)).0 in
-            let same : it.1.identifier ≡ identifier = sym (of_number it.1.identifier other) ∙ ap identified it.3 ∙ of_number identifier may in
+            let same : it.1.identifier ≡ identifier = same_protocol it.1.identifier identifier other may it.3 in
             let is = active_in slots it.0 identifier (ap (option_map (λ one. one.identifier)) it.2 ∙ ap Some same) in
             absurd (cc)
 
@@ -251,12 +251,10 @@ module _ (rows : List (Row DirectoryRow)) (old : List (Option Protocol)) where
     -- a protocol that is in a slot is active while it stays there
     stays_active : (new : List (Option Protocol)) → ((slot : ℕ) (protocol : Protocol) → protocol_in now slot ≡ Some protocol → protocol_in new slot ≡ Some protocol)
         → (identifier : ProtocolIdentifier) → is_active now identifier ≡ true → is_active new identifier ≡ true
-    stays_active new stay identifier active = let it = some_slot now identifier active in by_held (protocol_in now it.0) refl it.1
-      where
-        by_held : (held : Option Protocol) → protocol_in now (some_slot now identifier active).0 ≡ held → option_map (λ one. one.identifier) held ≡ Some identifier → is_active new identifier ≡ true
-        by_held None e none = absurd (none-some identifier none)
-        by_held (Some protocol) e same =
-            active_in new (some_slot now identifier active).0 identifier (ap (option_map (λ one. one.identifier)) (stay (some_slot now identifier active).0 protocol e) ∙ same)
+    stays_active new stay identifier active =
+        let slot = some_slot now identifier active in
+        let it = in_its_slot now slot.0 identifier slot.1 in
+        active_in new slot.0 identifier (ap (option_map (λ one. one.identifier)) (stay slot.0 it.0 it.1) ∙ ap Some it.2)
 
     pub one_put_in : (new : List (Option Protocol)) (number : ℕ) → IsIndexAfter rows at (Some number) → number < 2 ^ 32 → AreKnown rows new
         → ((slot : ℕ) (protocol : Protocol) → protocol_in now slot ≡ Some protocol → protocol_in new slot ≡ Some protocol)

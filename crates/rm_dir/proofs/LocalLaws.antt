@@ -1,5 +1,5 @@
 -- No two rows have the same local index.
-use Rattle.std.proofs.Common.{◌≡◌, ℕ, ◌+◌, ◌<◌, ◌≤◌, ◌^◌, List, [], ◌∷◌, length, Bool, true, false, cond, not, ◌&&◌, nat_lt, Some, None, is_some, find, refl, sym, ap, subst, ◌∙◌, arith}
+use Rattle.std.proofs.Common.{◌≡◌, ℕ, ◌+◌, ◌<◌, ◌≤◌, ◌^◌, List, [], ◌∷◌, length, Bool, true, false, cond, not, ◌&&◌, nat_lt, Option, Some, None, is_some, find, refl, sym, ap, subst, ◌∙◌, arith}
 use Rattle.std.specs.Prelude.{unwrap_or}
 use Rattle.std.specs.List.{position_from}
 use Rattle.std.specs.Option.{option_map_or}
@@ -12,11 +12,14 @@ use Rattle.rm_model.specs.declared.row.State.TheVariants.{Absent, UnderCreation,
 use Rattle.rm_path.specs.declared.identifier.ProtocolIdentifier.{ProtocolIdentifier}
 use Rattle.rm_path.specs.declared.protocol.Protocol.{Protocol}
 use Rattle.rm_path.specs.Identifier.{number_of, is_same}
+use Rattle.rm_path.specs.Slots.{protocol_in, identifier_in}
 use Rattle.rm_path.proofs.Identifiers.{same_is}
+use Rattle.rm_path.proofs.SlotLemmas.{in_its_slot}
 use Rattle.rm_dir.specs.Active.{HaveOwnLocals, active_protocol, is_on}
 use Rattle.rm_dir.specs.BuiltIn.{BuiltIn, built_in_rows, built_in_local, is_built_in}
-use Rattle.rm_dir.specs.DirectoryIndex.{directory_index, identified, index_with, may_have_row, number_within, of_number, row_of, protocol_is, protocol_of, row_protocol}
+use Rattle.rm_dir.specs.DirectoryIndex.{directory_index, index_with, may_have_row, number_within, of_number, row_of, protocol_is, protocol_of, row_protocol, same_protocol}
 use Rattle.rm_dir.specs.LocalIndexes.{makes, count_made_below, greatest_given, local_index}
+use Rattle.rm_dir.specs.Paths.{AreActiveAfter}
 use Rattle.rm_dir.specs.ProtocolDir.{directory_state}
 use Rattle.rm_dir.proofs.Counts.{count_next, count_within}
 
@@ -28,18 +31,31 @@ has journal identifier = not (is_absent (directory_state journal (index_with ide
 abbrev pub local_of : Journal → ProtocolIdentifier → ℕ
 local_of journal identifier = local_index journal (index_with identifier)
 
--- what is known of a protocol that is active has its local index
-pub active_local : (journal : Journal) (identifier : ProtocolIdentifier) (known : Protocol) → active_protocol journal identifier ≡ Some known → known.local ≡ local_index journal (index_with identifier)
-active_local journal identifier known is = by_test (may_have_row identifier && is_valid (directory_state journal (index_with identifier))) is
+-- a protocol that is active can have a row, has one, and has its local index
+pub active_has : (journal : Journal) (identifier : ProtocolIdentifier) (known : Protocol) → active_protocol journal identifier ≡ Some known
+    → (may_have_row identifier ≡ true) × (has journal identifier ≡ true) × (known.local ≡ local_of journal identifier)
+active_has journal identifier known is = by_test (may_have_row identifier) (directory_state journal (index_with identifier)) refl refl is
   where
-    by_test : (t : Bool)
-        → cond t (Some (record { identifier = identifier; local = local_index journal (index_with identifier); host = is_on journal (index_with identifier) 7; matrix = is_on journal (index_with identifier) 8 })) None ≡ Some known
-        → known.local ≡ local_index journal (index_with identifier)
-    by_test true some = sym (ap (λ one. one.local) (same_Some _ _ some))
-    by_test false none = absurd (none-some known none)
+    by_test : (t : Bool) (state : State) → may_have_row identifier ≡ t → directory_state journal (index_with identifier) ≡ state
+        → cond (t && is_valid state) (Some (record { identifier = identifier; local = local_of journal identifier; host = is_on journal (index_with identifier) 7; matrix = is_on journal (index_with identifier) 8 })) None ≡ Some known
+        → (may_have_row identifier ≡ true) × (has journal identifier ≡ true) × (known.local ≡ local_of journal identifier)
+    by_test false state e f none = absurd (none-some known none)
+    by_test true Absent e f none = absurd (none-some known none)
+    by_test true UnderCreation e f none = absurd (none-some known none)
+    by_test true Valid e f some = (e, ap (λ s. not (is_absent s)) f, sym (ap (λ one. one.local) (same_Some _ _ some)))
+
+pub active_local : (journal : Journal) (identifier : ProtocolIdentifier) (known : Protocol) → active_protocol journal identifier ≡ Some known → known.local ≡ local_of journal identifier
+active_local journal identifier known is = (active_has journal identifier known is).2
+
+-- in the slot of a protocol that is active is what is known of it, with its local index
+pub held_is : (journal : Journal) (slots : List (Option Protocol)) → AreActiveAfter journal slots → (slot : ℕ) (identifier : ProtocolIdentifier) → identifier_in slots slot ≡ Some identifier
+    → (protocol : Protocol) × (protocol_in slots slot ≡ Some protocol) × (protocol.identifier ≡ identifier) × (protocol.local ≡ local_of journal identifier)
+held_is journal slots are slot identifier here =
+    let it = in_its_slot slots slot identifier here in
+    (it.0, it.1, it.2, active_local journal it.0.identifier it.0 (are.known slot it.0 it.1) ∙ ap (local_of journal) it.2)
 
 -- the protocol of the index of a protocol that can have a row
-own_protocol : (identifier : ProtocolIdentifier) → may_have_row identifier ≡ true → protocol_of (index_with identifier) ≡ Some identifier
+pub own_protocol : (identifier : ProtocolIdentifier) → may_have_row identifier ≡ true → protocol_of (index_with identifier) ≡ Some identifier
 own_protocol identifier may =
     let index_is : directory_index (number_of identifier) ≡ index_with identifier = rw (row_of identifier may, of_number identifier may) refl in
     let row_is : row_protocol (number_of identifier) ≡ Some identifier = rw (row_of identifier may, of_number identifier may) refl in
@@ -81,7 +97,7 @@ places_apart (row ∷ rows) from one other first second same =
     by_tests false false e f some also equal of_one of_other rest = rest some also equal
 
 -- the row of a protocol that is there from the beginning is one of those
-there_first : (identifier : ProtocolIdentifier) → may_have_row identifier ≡ true → has [] identifier ≡ true → is_built_in identifier ≡ true
+pub there_first : (identifier : ProtocolIdentifier) → may_have_row identifier ≡ true → has [] identifier ≡ true → is_built_in identifier ≡ true
 there_first identifier may is = there_is (is_built_in identifier) (subst (λ o. not (is_absent (cond (option_map_or is_built_in o false) Valid Absent)) ≡ true) (own_protocol identifier may) is)
   where
     there_is : (b : Bool) → not (is_absent (cond b Valid Absent)) ≡ true → b ≡ true
@@ -145,7 +161,7 @@ module _ (act : Act) (earlier : Journal) where
         where
           by_more : (t : Bool) → nat_lt (number_of other) (number_of one) ≡ t → one ≡ other
           by_more true f = absurd (let rises = made_rise other one also may too (grind (arith, nat_tests)) in omega (arith, rises, equal))
-          by_more false f = let same : number_of one ≡ number_of other = grind (arith, nat_tests) in sym (of_number one may) ∙ ap identified same ∙ of_number other also
+          by_more false f = same_protocol one other may also (grind (arith, nat_tests))
 
 -- the local index of a row was given
 pub local_given : (journal : Journal) (identifier : ProtocolIdentifier) → may_have_row identifier ≡ true → has journal identifier ≡ true → local_of journal identifier ≤ greatest_given journal
@@ -183,19 +199,6 @@ locals_apart (act ∷ earlier) one other may also there too same = by_made (made
     by_made false true e f rest = absurd (new_above other one also may f e there (sym same))
     by_made false false e f rest =
         rest (was_there act earlier one e there) (was_there act earlier other f too) (sym (local_kept act earlier one e) ∙ same ∙ local_kept act earlier other f)
-
--- a protocol that is active can have a row, has one, and has its local index
-active_has : (journal : Journal) (identifier : ProtocolIdentifier) (known : Protocol) → active_protocol journal identifier ≡ Some known
-    → (may_have_row identifier ≡ true) × (has journal identifier ≡ true) × (known.local ≡ local_of journal identifier)
-active_has journal identifier known is = by_test (may_have_row identifier) (directory_state journal (index_with identifier)) refl refl is
-  where
-    by_test : (t : Bool) (state : State) → may_have_row identifier ≡ t → directory_state journal (index_with identifier) ≡ state
-        → cond (t && is_valid state) (Some (record { identifier = identifier; local = local_of journal identifier; host = is_on journal (index_with identifier) 7; matrix = is_on journal (index_with identifier) 8 })) None ≡ Some known
-        → (may_have_row identifier ≡ true) × (has journal identifier ≡ true) × (known.local ≡ local_of journal identifier)
-    by_test false state e f none = absurd (none-some known none)
-    by_test true Absent e f none = absurd (none-some known none)
-    by_test true UnderCreation e f none = absurd (none-some known none)
-    by_test true Valid e f some = (e, ap (λ s. not (is_absent s)) f, sym (ap (λ one. one.local) (same_Some _ _ some)))
 
 pub own_locals : (journal : Journal) → HaveOwnLocals journal
 own_locals journal one other known also is too same =

@@ -3,7 +3,6 @@ use Rattle.std.proofs.Common.{◌≡◌, ℕ, ◌≤◌, ◌+◌, ◌<◌, ◌^�
 use Rattle.std.specs.Prelude.{unwrap_or, is_some}
 use Rattle.std.specs.Option.{option_map_or}
 use Rattle.std.proofs.lemmas.Bool.Decides.{nat_tests}
-use Rattle.std.proofs.lemmas.Option.{none-some, same_Some}
 use borrow.Author.Tests.{eqb-true}
 use Rattle.rm_model.specs.Journal.{Assignments, Journal, assigns, value_given}
 use Rattle.rm_model.specs.ControlRows.{set_ask, is_absent}
@@ -16,11 +15,11 @@ use Rattle.rm_status.specs.RowsAfter.{AreRowsAfter}
 use Rattle.rm_status.proofs.Held.{held_is}
 use Rattle.rm_status.proofs.Puts.{AllFine}
 use Rattle.rm_status.proofs.RowFacts.{found_there, row_fits}
-use Rattle.rm_status.proofs.RowsAfterLemmas.{rows_changed}
-use Rattle.rm_path.specs.Identifier.{number_of}
+use Rattle.rm_status.proofs.RowsAfterLemmas.{rows_changed, was_there}
+use Rattle.rm_path.specs.Identifier.{number_of, identified}
 use Rattle.rm_dir.specs.declared.row.DirectoryRow.{DirectoryRow}
 use Rattle.rm_dir.specs.Support.{support_number}
-use Rattle.rm_dir.specs.DirectoryIndex.{directory_index, is_directory_row, identified, may_have_row, protocol_of, protocol_is}
+use Rattle.rm_dir.specs.DirectoryIndex.{directory_index, is_directory_row, may_have_row, protocol_of, protocol_is}
 use Rattle.rm_dir.specs.DirectoryRows.{set_to, with_column, new_row}
 use Rattle.rm_dir.specs.ProtocolDir.{protocol_dir, directory_beginning, directory_state}
 use Rattle.rm_dir.specs.LocalIndexes.{makes, count_made_below, greatest_given, local_index}
@@ -39,11 +38,6 @@ number_back i is = ap (λ o. option_map_or number_of o 0) (protocol_is i) ∙ rw
     same : (a b : Bool) → nat_eq (number_of (identified i)) i ≡ a → (a && b) ≡ true → number_of (identified i) ≡ i
     same true b e h = eqb-true (number_of (identified i)) i e
     same false b e h = absurd (cc)
-
--- a row that is settled was there
-was_there : (f : Row DirectoryRow → Row DirectoryRow) (o : Option (Row DirectoryRow)) (row : Row DirectoryRow) → option_map f o ≡ Some row → (old : Row DirectoryRow) × (o ≡ Some old) × (f old ≡ row)
-was_there f None row e = absurd (none-some row e)
-was_there f (Some old) row e = (old, refl, same_Some _ _ e)
 
 module _ (bs : Bindings) (rows middle : List (Row DirectoryRow))
     (held : AreControlRows protocol_dir rows) (held_then : AreControlRows protocol_dir middle)

@@ -1,6 +1,6 @@
 -- The indexes of protocolDirTable (RFC 2021): the identifier of a protocol, in four octets for each layer, and its parameters, in one octet for each
 -- layer, both with their counts (RFC 2074, section 3).
-use Rattle.std.proofs.Common.{◌≡◌, ℕ, ◌+◌, ◌-◌, ◌*◌, ◌/◌, ◌%◌, ◌^◌, ◌<◌, ◌≤◌, List, [], ◌∷◌, length, get_or, Bool, true, false, cond, ◌&&◌, nat_eq, nat_le, nat_lt, Option, Some, None, refl, sym, ap, subst, ◌∙◌, arith}
+use Rattle.std.proofs.Common.{◌≡◌, ℕ, ◌+◌, ◌*◌, ◌/◌, ◌%◌, ◌^◌, ◌<◌, ◌≤◌, List, [], ◌∷◌, length, get_or, Bool, true, false, cond, ◌&&◌, nat_eq, nat_le, nat_lt, Option, Some, None, refl, sym, ap, subst, ◌∙◌, arith}
 use Rattle.std.specs.Prelude.{if◌then◌else◌}
 use Rattle.std.specs.Str.{bytes_eq}
 use Rattle.std.specs.Ordering.{nat_cmp, ordering_then}
@@ -14,7 +14,8 @@ use Rattle.rm_model.specs.Indexing.{Indexing, IsIndexing}
 use Rattle.rm_model.specs.Names.{Below}
 use Rattle.rm_path.specs.declared.identifier.ProtocolIdentifier.{ProtocolIdentifier}
 use Rattle.rm_path.specs.declared.identifier.ProtocolIdentifier.TheVariants.{Ether2, Ether, Ip, Tcp, Udp}
-use Rattle.rm_path.specs.Identifier.{number_of}
+use Rattle.rm_path.specs.Identifier.{number_of, identified, IsInRange}
+use Rattle.rm_path.proofs.Identifiers.{of_number as of_its_number, same_number}
 
 -- a number of sixteen bits as the four octets of a layer, before some others
 abbrev pub layer : ℕ → List ℕ → List ℕ
@@ -35,15 +36,6 @@ may_have_row (Ether type) = nat_le 1536 type && nat_le type 65535
 may_have_row (Ip protocol) = nat_le protocol 255
 may_have_row (Tcp port) = nat_le 1 port && nat_le port 65535
 may_have_row (Udp port) = nat_le 1 port && nat_le port 65535
-
--- the only protocol that can have a number
-abbrev pub identified : ℕ → ProtocolIdentifier
-identified number =
-    if nat_lt number 65536 then Ether2
-    else if nat_lt number 131072 then Ether (number - 65536)
-    else if nat_lt number 196608 then Ip (number - 131072)
-    else if nat_lt number 262144 then Tcp (number - 196608)
-    else Udp (number - 262144)
 
 -- whether a number is that of a protocol that can have a row
 abbrev pub is_directory_row : ℕ → Bool
@@ -89,32 +81,21 @@ both false b is = absurd (cc)
 equal : (m n : ℕ) → nat_eq m n ≡ true → m ≡ n
 equal m n is = grind (arith, nat_tests)
 
--- the protocol with the number of one is that one, where it can have a row
+-- the number of a protocol that may have a row has no more bits than it may have
+in_range : (protocol : ProtocolIdentifier) → may_have_row protocol ≡ true → IsInRange protocol
+in_range Ether2 may = tt
+in_range (Ether type) may = let parts = both (nat_le 1536 type) (nat_le type 65535) may in grind (arith, nat_tests)
+in_range (Ip protocol) may = grind (arith, nat_tests)
+in_range (Tcp port) may = let parts = both (nat_le 1 port) (nat_le port 65535) may in grind (arith, nat_tests)
+in_range (Udp port) may = let parts = both (nat_le 1 port) (nat_le port 65535) may in grind (arith, nat_tests)
+
+-- a protocol that can have a row is the one with its number
 pub of_number : (protocol : ProtocolIdentifier) → may_have_row protocol ≡ true → identified (number_of protocol) ≡ protocol
-of_number Ether2 may = refl
-of_number (Ether type) may =
-    let parts = both (nat_le 1536 type) (nat_le type 65535) may in
-    let low : nat_lt (65536 + type) 65536 ≡ false = grind (arith, nat_tests) in
-    let high : nat_lt (65536 + type) 131072 ≡ true = grind (arith, nat_tests) in
-    rw (low, high) (ap Ether (omega arith))
-of_number (Ip protocol) may =
-    let one : nat_lt (131072 + protocol) 65536 ≡ false = grind (arith, nat_tests) in
-    let two : nat_lt (131072 + protocol) 131072 ≡ false = grind (arith, nat_tests) in
-    let three : nat_lt (131072 + protocol) 196608 ≡ true = grind (arith, nat_tests) in
-    rw (one, two, three) (ap Ip (omega arith))
-of_number (Tcp port) may =
-    let parts = both (nat_le 1 port) (nat_le port 65535) may in
-    let one : nat_lt (196608 + port) 65536 ≡ false = grind (arith, nat_tests) in
-    let two : nat_lt (196608 + port) 131072 ≡ false = grind (arith, nat_tests) in
-    let three : nat_lt (196608 + port) 196608 ≡ false = grind (arith, nat_tests) in
-    let four : nat_lt (196608 + port) 262144 ≡ true = grind (arith, nat_tests) in
-    rw (one, two, three, four) (ap Tcp (omega arith))
-of_number (Udp port) may =
-    let one : nat_lt (262144 + port) 65536 ≡ false = grind (arith, nat_tests) in
-    let two : nat_lt (262144 + port) 131072 ≡ false = grind (arith, nat_tests) in
-    let three : nat_lt (262144 + port) 196608 ≡ false = grind (arith, nat_tests) in
-    let four : nat_lt (262144 + port) 262144 ≡ false = grind (arith, nat_tests) in
-    rw (one, two, three, four) (ap Udp (omega arith))
+of_number protocol may = of_its_number protocol (in_range protocol may)
+
+-- protocols that can have rows are one where their numbers are
+pub same_protocol : (one other : ProtocolIdentifier) → may_have_row one ≡ true → may_have_row other ≡ true → number_of one ≡ number_of other → one ≡ other
+same_protocol one other may also = same_number one other (in_range one may) (in_range other also)
 
 itself : (n : ℕ) → nat_eq n n ≡ true
 itself n = grind (arith, nat_tests)

@@ -1,16 +1,16 @@
 -- The directory, as a caller sees it.
-use Rattle.std.specs.Prelude.{◌≡◌, ℕ, ◌+◌, ◌≤◌, ◌^◌, List, length, Some}
+use Rattle.std.specs.Prelude.{◌≡◌, ℕ, ◌+◌, ◌≤◌, ◌^◌, List, Some}
 use Rattle.rm_model.specs.Journal.{Journal}
 use Rattle.rm_model.specs.ControlRows.{set_ask}
-use Rattle.rm_model.specs.Judgement.{Bindings, IsFirstFault, first_pass, second_pass, is_made, count_below}
-use Rattle.rm_model.specs.declared.verdict.Verdict.TheVariants.{Fine}
+use Rattle.rm_model.specs.Judgement.{Bindings, is_made, count_below}
 use Rattle.rm_status.specs.declared.row.Row.{Row}
-use Rattle.rm_status.specs.Rows.{row_in, rows_before, state_in}
+use Rattle.rm_status.specs.Fine as rows
+use Rattle.rm_status.specs.Rows.{row_in, state_in}
 use Rattle.rm_status.specs.RowsAfter.{AreRowsAfter}
 use Rattle.rm_dir.specs.declared.row.DirectoryRow.{DirectoryRow}
 use Rattle.rm_dir.specs.declared.directory.Directory.{Directory}
 use Rattle.rm_dir.specs.DirectoryIndex.{directory_index}
-use Rattle.rm_dir.specs.DirectoryRows.{set_to}
+use Rattle.rm_dir.specs.DirectoryRows.{set_to, directory_rows}
 use Rattle.rm_dir.specs.ProtocolDir.{protocol_dir, directory_beginning}
 use Rattle.rm_dir.specs.LocalIndexes.{greatest_given, local_index}
 use Rattle.rm_dir.specs.LastChange.{last_change}
@@ -32,8 +32,7 @@ abbrev pub HasIndexes : Directory → Bindings → Type 0
 HasIndexes directory bindings =
     directory.given + count_below (λ row. is_made (state_in directory.rows row) (set_ask protocol_dir bindings (directory_index row))) (2 ^ 32) ≤ 2147483647
 
--- nothing is wrong with a Set, by what is held
+-- both passes find nothing wrong with a Set, by what is held, and there is a local index for each row that it makes
 pub record AreFine (directory : Directory) (bindings : Bindings) : Type 0 where
-  pub alone : IsFirstFault (length bindings) (first_pass protocol_dir bindings) Fine
-  pub together : IsFirstFault (length bindings) (second_pass protocol_dir (rows_before protocol_dir set_to directory.rows) bindings) Fine
+  pub fine : rows.AreFine directory_rows directory.rows bindings
   pub indexes : HasIndexes directory bindings

@@ -56,13 +56,10 @@ pub struct Directory {
 impl Directory {
     ghost use Rattle.std.specs.Prelude.{ℕ, List, [], ◌∷◌, ◌+◌, length};
     ghost use Rattle.rm_model.specs.Journal.{Assignments, Journal, assigns, value_given};
-    ghost use Rattle.rm_model.specs.Judgement.{IsFirstFault, first_pass, second_pass};
+    ghost use Rattle.rm_model.specs.Judgement.{IsFirstFault};
     ghost use Rattle.rm_model.specs.declared.verdict.Verdict.TheVariants.{Fine};
-    ghost use Rattle.rm_status.specs.Rows.{rows_before};
-    ghost use Rattle.rm_dir.specs.DirectoryRows.{set_to};
-    ghost use Rattle.rm_dir.specs.ProtocolDir.{protocol_dir};
     ghost use Rattle.rm_dir.specs.Tables.{directory_cells};
-    ghost use Rattle.rm_dir.specs.Group.{Stands, AreFine, HasIndexes};
+    ghost use Rattle.rm_dir.specs.Group.{Stands, AreFine};
     ghost use Rattle.rm_dir.specs.Judging.{directory_alone, directory_together};
     ghost use Rattle.rm_group.specs.Alone.{alone_at, AreFineAlone, IsWithin};
 
@@ -148,9 +145,7 @@ impl Directory {
     /// Does a Set with which both passes found nothing wrong, at a moment in milliseconds. There is a local index for each row that
     /// it makes.
     pub(crate) fn assign<A: Assigns>(&mut self, set: &A, now: u32)
-        requires fine { IsFirstFault (length (A.bindings set.now)) (first_pass protocol_dir (A.bindings set.now)) Fine }
-        requires together { let bindings = A.bindings set.now in IsFirstFault (length bindings) (second_pass protocol_dir (rows_before protocol_dir set_to self.old.rows) bindings) Fine }
-        requires indexes { HasIndexes self.old (A.bindings set.now) }
+        requires { AreFine self.old (A.bindings set.now) }
         ensures stands { (journal : Journal) (values : Assignments) → Stands self.old journal
             → ((name : List ℕ) → value_given values name ≡ value_given (A.bindings set.now) name)
             → Stands self.new (assigns now values ∷ journal) }

@@ -2,8 +2,7 @@
 use crate::directory::{CHANGE_OBJECTS, Directory};
 use crate::row::DIRECTORY_OBJECTS;
 use rm_group::{
-    Assigns, Commits, Group, Look, NeverDue, Passing, Readable, Storeless, TableObjects, Tables,
-    Unfired, Unsampled,
+    Assigns, Commits, Group, Look, Passing, Storeless, TableObjects, Tables, Unfired, Unsampled,
 };
 use rm_model::Verdict;
 use rm_val::{Oid, Value};
@@ -31,7 +30,7 @@ impl Group for Directory {
 
     ghost together = { λ settings journal now readings bindings place. directory_together journal bindings place };
 
-    ghost accepts = { λ s now bindings. AreFine s bindings };
+    ghost accepts = { λ s now. AreFine s };
 
     ghost finite = { λ settings journal now. directory_finite journal };
 
@@ -99,23 +98,6 @@ impl Tables for Directory {
     ghost refuses_listed = { beside_listed protocol_dir directory_columns change_listed };
 }
 
-// No alarm may sample the cells of the directory.
-impl Readable for Directory {
-    ghost use Rattle.std.specs.Prelude.{None, refl};
-
-    ghost sampleable = { λ settings journal now name. None };
-
-    ghost shown = { λ s now name. None };
-
-    fn value(&self, _name: &Oid, _now: u32) -> Option<Value<'_>> {
-        None
-    }
-
-    fn shows(&self, _now: u32) {}
-
-    ghost recurring = { λ settings one other journal alike now name. refl };
-}
-
 // A frame makes no difference to the directory itself.
 impl Unfired for Directory {
     fn take_frame(&mut self, _passing: &Passing<'_>) {}
@@ -125,8 +107,4 @@ impl Unsampled for Directory {
     ghost use Rattle.rm_dir.specs.Idle.{stands_sampled};
 
     ghost begins = { λ s settings earlier moment alarm reading stands later asked. stands_sampled s earlier moment alarm reading stands };
-}
-
-impl NeverDue for Directory {
-    ghost always_asked = { λ s moment. tt };
 }

@@ -1,8 +1,8 @@
 // The indexes of the rows of the directory, and what goes by them.
 ghost use Rattle.std.specs.Prelude.{◌≡◌, ◌+◌, ◌*◌, ◌/◌, ◌%◌, ◌<◌, [], ◌∷◌, length, slice_index, nat_eq, Some, None, true, false, IfSome, IfNone};
 ghost use Rattle.std.specs.Option.{option_map};
-ghost use Rattle.rm_path.specs.Identifier.{number_of};
-ghost use Rattle.rm_dir.specs.DirectoryIndex.{index_with, may_have_row, row_protocol, protocol_of, directory_indexing, directory_number, is_directory_row, identified, indexed};
+ghost use Rattle.rm_path.specs.Identifier.{number_of, identified};
+ghost use Rattle.rm_dir.specs.DirectoryIndex.{index_with, may_have_row, row_protocol, protocol_of, directory_indexing, directory_number, is_directory_row, indexed};
 ghost use Rattle.rm_dir.specs.ProtocolDir.{directory_rules, is_fixed_column};
 
 use crate::built_in::{is_built_in, is_countable};

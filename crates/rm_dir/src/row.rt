@@ -7,15 +7,13 @@ use crate::built_in::is_countable;
 use crate::keys::{DirectoryKeys, row_protocol};
 use crate::support::Support;
 use arrayvec::ArrayVec;
-use rm_columns::{ControlRow, ControlSheet, Numbered, put_text, same_text};
+use rm_columns::{ControlRow, ControlSheet, MOST_OWNER, Numbered, put_text, same_text};
 use rm_group::TableObjects;
 use rm_model::Setting::{Empty, Number};
 use rm_model::{ColumnKind, StatusKind, column, numbers};
 use rm_val::Value;
 
-/// How many octets an owner has at most, and how many a description.
-const MOST_OWNER: usize = 127;
-
+/// How many octets a description has at most.
 const MOST_DESCR: usize = 64;
 
 /// The number of protocolDirStatus.

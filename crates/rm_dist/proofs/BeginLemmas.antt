@@ -2,23 +2,21 @@
 use Rattle.std.proofs.Common.{◌≡◌, ℕ, List, [], ◌∷◌, true, false, Option, Some, None, option_map, refl, sym, ap, subst, ◌∙◌}
 use Rattle.std.specs.Prelude.{unwrap_or}
 use Rattle.rm_model.specs.Counting.{Counting}
-use Rattle.rm_model.specs.Journal.{Assignments, Journal, assigns, value_given}
-use Rattle.rm_model.specs.ControlRows.{no_rows, is_valid, next_state, set_ask}
+use Rattle.rm_model.specs.Journal.{Assignments, Journal, assigns}
+use Rattle.rm_model.specs.ControlRows.{no_rows, is_valid}
 use Rattle.rm_model.specs.Judgement.{Bindings}
 use Rattle.rm_model.specs.declared.row.State.{State}
 use Rattle.rm_model.specs.declared.row.State.TheVariants.{Absent, UnderCreation, Valid}
 use Rattle.rm_status.specs.declared.row.Row.{Row}
-use Rattle.rm_status.specs.Rows.{row_in, columns_seen, state_seen, AreControlRows}
+use Rattle.rm_status.specs.Rows.{row_in, columns_seen, state_seen}
 use Rattle.rm_status.specs.Change.{changed_row}
-use Rattle.rm_status.specs.Commit.{put_all, row_after}
 use Rattle.rm_status.specs.RowsAfter.{AreRowsAfter}
-use Rattle.rm_status.proofs.Puts.{AllFine}
-use Rattle.rm_status.proofs.RowsAfterLemmas.{rows_assigns, rows_changed, all_leave, is_after}
-use Rattle.rm_dist.proofs.Changed.{was_there}
+use Rattle.rm_status.proofs.Committed.{IsCommitted, changed_committed, state_committed, other_left}
+use Rattle.rm_status.proofs.RowsAfterLemmas.{was_there}
 use Rattle.rm_dist.specs.declared.row.DistributionRow.{DistributionRow}
 use Rattle.rm_dist.specs.declared.row.Tally.{Tally}
 use Rattle.rm_dist.specs.Control.{dist_control, control_state}
-use Rattle.rm_dist.specs.ControlColumns.{blank_row, control_rows, set_to, with_column}
+use Rattle.rm_dist.specs.ControlColumns.{blank_row, control_rows, set_to}
 use Rattle.rm_dist.specs.Group.{AreTallied}
 use Rattle.rm_dist.specs.Marks.{marks}
 use Rattle.rm_dist.specs.Resting.{resting, tally_after}
@@ -29,38 +27,28 @@ no_marks : (settings : Counting) (row : ℕ) (journal : Journal) → is_valid (c
 no_marks settings row [] idle = refl
 no_marks settings row (act ∷ earlier) idle = rw idle refl
 
-module _ (settings : Counting) (journal : Journal) (moment : ℕ) (bs : Bindings) (values : Assignments)
-    (gives : (name : List ℕ) → value_given values name ≡ value_given bs name)
-    (fine : AllFine dist_control bs)
-    (rows middle new : List (Row DistributionRow)) (held : AreControlRows dist_control rows)
-    (after : (i : ℕ) → row_in middle i ≡ row_after dist_control with_column (λ n. blank_row) bs i (row_in rows i))
-    (rested : (i : ℕ) → row_in new i ≡ option_map (changed_row (λ index state row. resting moment state row)) (row_in middle i))
-    (is : AreRowsAfter dist_control no_rows set_to rows journal) (tallies : AreTallied rows settings journal) where
+module _ (settings : Counting) (journal : Journal) (moment : ℕ) (bs : Bindings) (values : Assignments) (rows middle new : List (Row DistributionRow))
+    (set : IsCommitted control_rows no_rows journal values bs rows middle)
+    (rested : (i : ℕ) → row_in new i ≡ option_map (changed_row (λ index state row. resting moment state row)) (row_in middle i)) (tallies : AreTallied rows settings journal) where
   abbrev with_set : Journal
   with_set = assigns moment values ∷ journal
 
-  middle_rows : AreRowsAfter dist_control no_rows set_to middle with_set
-  middle_rows = rows_assigns dist_control no_rows set_to with_column (λ n. blank_row) control_rows.set_with control_rows.blank_alike refl journal moment bs values gives fine rows middle held is after
-
   pub rows_begun : AreRowsAfter dist_control no_rows set_to new with_set
-  rows_begun = rows_changed dist_control no_rows set_to (λ index state row. resting moment state row) (λ index state row n. refl) middle new rested with_set middle_rows
+  rows_begun = changed_committed control_rows set moment (λ index state row. resting moment state row) (λ index state row n. refl) new rested
 
   module _ (i : ℕ) (mid : Row DistributionRow) (here : row_in middle i ≡ Some mid) where
     abbrev was : Option (Row DistributionRow)
     was = row_in rows i
 
-    next : (mid.state ≡ next_state (set_ask dist_control bs (i ∷ [])) (state_seen was)) × (mid.columns ≡ put_all dist_control with_column (λ n. blank_row) bs i (unwrap_or (columns_seen was) blank_row))
-    next = is_after dist_control with_column (λ n. blank_row) bs i was mid (sym (after i) ∙ here)
-
     state_then : mid.state ≡ control_state with_set i
-    state_then = ap state_seen (sym here) ∙ middle_rows.alike.states i
+    state_then = state_committed control_rows set moment i mid here
 
     tally_left : mid.columns.tally ≡ (unwrap_or (columns_seen was) blank_row).tally
-    tally_left = ap (λ c. c.tally) next.1 ∙ all_leave dist_control with_column (λ n. blank_row) (λ c. c.tally) (λ c n v. refl) bs i (unwrap_or (columns_seen was) blank_row)
+    tally_left = other_left control_rows set i mid here (λ c. c.tally) (λ c n v. refl)
 
     -- what it had counted before
     before : (o : Option (Row DistributionRow)) → was ≡ o → IsTallied settings journal i (unwrap_or (columns_seen o) blank_row).tally
-    before None e = ap is_valid (sym (ap state_seen (sym e) ∙ is.alike.states i))
+    before None e = ap is_valid (sym (ap state_seen (sym e) ∙ set.stood.alike.states i))
     before (Some row) e = tallies i row e
 
     had : IsTallied settings journal i mid.columns.tally

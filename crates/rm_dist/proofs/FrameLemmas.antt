@@ -16,13 +16,12 @@ use Rattle.rm_status.specs.Rows.{row_in, columns_seen, state_seen}
 use Rattle.rm_status.specs.Change.{changed_row}
 use Rattle.rm_status.specs.RowsAfter.{AreRowsAfter}
 use Rattle.rm_status.proofs.RowFacts.{valid_there}
-use Rattle.rm_status.proofs.RowsAfterLemmas.{rows_passes, rows_changed}
+use Rattle.rm_status.proofs.RowsAfterLemmas.{rows_passes, rows_changed, was_there}
 use Rattle.rm_path.specs.declared.protocol.Protocol.{Protocol}
 use Rattle.rm_path.specs.declared.identifier.ProtocolIdentifier.{ProtocolIdentifier}
 use Rattle.rm_dir.specs.DirectoryIndex.{index_with}
 use Rattle.rm_dir.specs.LocalIndexes.{local_index}
 use Rattle.rm_dir.specs.Paths.{AreActiveAfter, path_after}
-use Rattle.rm_dist.proofs.Changed.{was_there}
 use Rattle.rm_dist.specs.declared.row.DistributionRow.{DistributionRow}
 use Rattle.rm_dist.specs.declared.row.Tally.{Tally}
 use Rattle.rm_dist.specs.Control.{dist_control, control_state, source_of}

@@ -1,5 +1,4 @@
 mod BeginLemmas
-mod Changed
 mod CountLemmas
 mod Examples
 mod FrameLemmas

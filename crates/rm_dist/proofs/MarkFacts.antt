@@ -1,5 +1,5 @@
 -- What is known of the marks of a row.
-use Rattle.std.proofs.Common.{◌≡◌, ℕ, zero, suc, List, [], ◌∷◌, ◌++◌, map, Bool, true, false, cond, not, ◌&&◌, ◌||◌, nat_eq, Option, Some, None, is_some, option_map, find, refl, sym, ap, subst, ◌∙◌, arith}
+use Rattle.std.proofs.Common.{◌≡◌, ℕ, zero, suc, List, [], ◌∷◌, ◌++◌, map, Bool, true, false, cond, not, ◌&&◌, ◌||◌, nat_eq, Option, Some, None, is_some, find, refl, sym, ap, subst, ◌∙◌, arith}
 use Rattle.std.proofs.lemmas.Bool.Decides.{nat_tests}
 use Rattle.std.proofs.lemmas.Option.{none-some, same_Some}
 use Rattle.rm_proto.specs.declared.known.Facts.{Facts}
@@ -18,7 +18,7 @@ use Rattle.rm_dir.specs.DirectoryIndex.{index_with, may_have_row}
 use Rattle.rm_dir.specs.LocalIndexes.{local_index}
 use Rattle.rm_dir.specs.Paths.{AreActiveAfter, is_active_after}
 use Rattle.rm_dir.specs.ProtocolDir.{directory_state}
-use Rattle.rm_dir.proofs.LocalLaws.{active_local}
+use Rattle.rm_dir.proofs.LocalLaws.{held_is}
 use Rattle.rm_dist.specs.Control.{control_state, source_of}
 use Rattle.rm_dist.specs.Marks.{Mark, is_counted, marks, marks_of, new_marks, of_active}
 use Rattle.rm_dist.specs.Resting.{has_local, is_local}
@@ -136,15 +136,10 @@ in_slot (first ∷ slots) (suc slot) protocol is = either (is_local protocol.loc
 
 module _ (journal : Journal) (slots : List (Option Protocol)) (are : AreActiveAfter journal slots) where
   pub has_slot : (mark : Mark) → IsMarkOf journal mark → has_local slots mark.local ≡ true
-  has_slot mark is = let it = some_slot slots mark.protocol (are.each mark.protocol ∙ is.active) in by_held it.0 (protocol_in slots it.0) refl it.1
-    where
-      by_held : (slot : ℕ) (held : Option Protocol) → protocol_in slots slot ≡ held → option_map (λ one. one.identifier) held ≡ Some mark.protocol → has_local slots mark.local ≡ true
-      by_held slot None e none = absurd (none-some mark.protocol none)
-      by_held slot (Some protocol) e named =
-          let local : protocol.local ≡ mark.local =
-          active_local journal protocol.identifier protocol (are.known slot protocol e) ∙ ap (λ one. local_index journal (index_with one)) (same_Some _ _ named) ∙ sym is.local_is
-          in
-          subst (λ k. has_local slots k ≡ true) local (in_slot slots slot protocol e)
+  has_slot mark is =
+      let slot = some_slot slots mark.protocol (are.each mark.protocol ∙ is.active) in
+      let it = held_is journal slots are slot.0 mark.protocol slot.1 in
+      subst (λ k. has_local slots k ≡ true) (it.3 ∙ sym is.local_is) (in_slot slots slot.0 it.0 it.1)
 
   pub all_in : (some : List Mark) → AreMarksOf journal some → AllIn slots some
   all_in [] all = tt

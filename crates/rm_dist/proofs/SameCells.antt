@@ -4,9 +4,8 @@ use Rattle.std.specs.Option.{option_and_then, option_map_or, option_or}
 use Rattle.rm_val.specs.Val.{Val, counter, ticks}
 use Rattle.rm_model.specs.Counting.{Counting}
 use Rattle.rm_model.specs.Journal.{Journal, moment_of}
-use Rattle.rm_model.specs.Cells.{cells_of, cell_at, instance_of, IsNext}
+use Rattle.rm_model.specs.Cells.{cells_of, IsNext}
 use Rattle.rm_model.specs.ControlRows.{no_rows, activated, is_valid}
-use Rattle.rm_model.specs.declared.instance.Instance.{Instance}
 use Rattle.rm_status.specs.declared.row.Row.{Row}
 use Rattle.rm_status.specs.Rows.{row_in, columns_seen, state_seen, AreControlRows}
 use Rattle.rm_status.specs.RowsAfter.{AreRowsAfter}
@@ -14,6 +13,7 @@ use Rattle.rm_status.specs.RowsShown.{with_index}
 use Rattle.rm_status.proofs.Judged.{same_next}
 use Rattle.rm_status.proofs.KeptCellsLaws.{same_control_cells}
 use Rattle.rm_status.proofs.RowFacts.{row_there}
+use Rattle.rm_nested.proofs.NumberedTables.{same_numbered}
 use Rattle.rm_dist.specs.declared.count.Count.{Count}
 use Rattle.rm_dist.specs.declared.row.DistributionRow.{DistributionRow}
 use Rattle.rm_dist.specs.declared.row.Tally.{Tally}
@@ -21,11 +21,11 @@ use Rattle.rm_dist.specs.Columns.{control_columns, stats_columns}
 use Rattle.rm_dist.specs.Control.{dist_control, control_state}
 use Rattle.rm_dist.specs.ControlColumns.{set_to}
 use Rattle.rm_dist.specs.Counts.{count_in}
-use Rattle.rm_dist.specs.DistStats.{are_some, control_other, control_table, dist_cells, marks_value, octets_of, packets_of, stats_entry, stats_table}
+use Rattle.rm_dist.specs.DistStats.{are_some, control_other, control_table, dist_cells, is_distributed, marks_value, octets_of, packets_of, stats_entry, stats_table, stats_value}
 use Rattle.rm_dist.specs.Finite.{idle_marks}
 use Rattle.rm_dist.specs.Group.{AreTallied}
 use Rattle.rm_dist.specs.Marks.{Mark, marks, with_local}
-use Rattle.rm_dist.specs.Shown.{cells_kept, control_kept, count_kept, count_value, kept_other, since_in, stats_kept, tally_in}
+use Rattle.rm_dist.specs.Shown.{cells_kept, control_kept, count_kept, count_value, has_count, kept_other, since_in, stats_kept, tally_in, value_kept}
 use Rattle.rm_dist.specs.Standing.{count_by, count_of, IsTallied}
 
 -- a row that isn't active became so at no moment
@@ -82,19 +82,10 @@ module _ (rows : List (Row DistributionRow)) (held : AreControlRows dist_control
       by_test true = refl
       by_test false = refl
 
-  stats_cell_at : (at : Option Instance) → cell_at (stats_kept rows) at ≡ cell_at (stats_table settings journal) at
-  stats_cell_at None = refl
-  stats_cell_at (Some at) = by_index at.index
-    where
-      by_index : (index : List ℕ) → cell_at (stats_kept rows) (Some (record { column = at.column; index = index })) ≡ cell_at (stats_table settings journal) (Some (record { column = at.column; index = index }))
-      by_index [] = refl
-      by_index (i ∷ []) = refl
-      by_index (i ∷ local ∷ []) =
-          ap (λ o. cond (is_some o) (Some (count_value o at.column)) None) (count_is i local) ∙ count_shows local at.column (with_local local (marks settings i journal))
-      by_index (i ∷ local ∷ next ∷ more) = refl
-
   same_stats : (name : List ℕ) → cells_of (stats_kept rows) name ≡ cells_of (stats_table settings journal) name
-  same_stats name = stats_cell_at (instance_of stats_entry stats_columns name)
+  same_stats =
+      same_numbered stats_entry stats_columns (has_count rows) (value_kept rows) (is_distributed settings journal) (stats_value settings journal)
+      (λ i local column. ap (λ o. cond (is_some o) (Some (count_value o column)) None) (count_is i local) ∙ count_shows local column (with_local local (marks settings i journal)))
 
   pub same_cells : (name : List ℕ) → cells_kept rows name ≡ dist_cells settings journal name
   same_cells name = λ d. option_or (same_control name d) (same_stats name d)

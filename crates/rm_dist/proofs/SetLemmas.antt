@@ -3,9 +3,7 @@ use Rattle.std.proofs.Common.{◌≡◌, ℕ, suc, ◌+◌, List, [], ◌∷◌,
 use borrow.Author.Tests.{eqb-true}
 use Rattle.rm_model.specs.Counting.{Counting}
 use Rattle.rm_model.specs.Journal.{Act, Journal}
-use Rattle.rm_model.specs.ControlRows.{no_rows, is_absent, is_valid}
-use Rattle.rm_model.specs.declared.row.State.{State}
-use Rattle.rm_model.specs.declared.row.State.TheVariants.{Absent, UnderCreation, Valid}
+use Rattle.rm_model.specs.ControlRows.{no_rows, is_absent}
 use Rattle.rm_path.specs.declared.identifier.ProtocolIdentifier.{ProtocolIdentifier}
 use Rattle.rm_path.specs.declared.protocol.Protocol.{Protocol}
 use Rattle.rm_path.specs.Slots.{protocol_in}
@@ -13,7 +11,8 @@ use Rattle.rm_status.specs.declared.row.Row.{Row}
 use Rattle.rm_status.specs.Rows.{row_in}
 use Rattle.rm_status.specs.Change.{changed_row}
 use Rattle.rm_status.specs.RowsAfter.{AreRowsAfter}
-use Rattle.rm_status.proofs.RowsAfterLemmas.{rows_changed}
+use Rattle.rm_status.proofs.RowFacts.{valid_there}
+use Rattle.rm_status.proofs.RowsAfterLemmas.{rows_changed, was_there}
 use Rattle.rm_dir.specs.Active.{active_protocol}
 use Rattle.std.specs.Option.{option_map_or}
 use Rattle.rm_path.specs.Identifier.{number_of}
@@ -22,7 +21,6 @@ use Rattle.rm_dir.specs.LocalIndexes.{count_made_below, greatest_given, local_in
 use Rattle.rm_dir.specs.Paths.{AreActiveAfter, is_active_after}
 use Rattle.rm_dir.specs.ProtocolDir.{directory_state}
 use Rattle.rm_dir.proofs.LocalLaws.{active_local, local_given, locals_apart}
-use Rattle.rm_dist.proofs.Changed.{was_there}
 use Rattle.rm_dist.specs.declared.count.Count.{Count}
 use Rattle.rm_dist.specs.declared.row.DistributionRow.{DistributionRow}
 use Rattle.rm_dist.specs.declared.row.Tally.{Tally}
@@ -95,22 +93,17 @@ both_true false b is = absurd (cc)
 active_row : (journal : Journal) (protocol : ProtocolIdentifier) → is_active_after journal protocol ≡ true → (may_have_row protocol ≡ true) × (not (is_absent (directory_state journal (index_with protocol))) ≡ true)
 active_row journal protocol active =
     let parts = both_true (may_have_row protocol) _ (sym (active_is journal protocol) ∙ active) in
-    (parts.0, there (directory_state journal (index_with protocol)) parts.1)
-  where
-    there : (state : State) → is_valid state ≡ true → not (is_absent state) ≡ true
-    there Absent is = absurd (cc)
-    there UnderCreation is = absurd (cc)
-    there Valid is = refl
+    (parts.0, ap not (valid_there (directory_state journal (index_with protocol)) parts.1))
 
 -- a protocol that is active after an act, with the local index that one had that was active before it, is that one
 same_protocol : (act : Act) (earlier : Journal) (one other : ProtocolIdentifier) → is_active_after earlier one ≡ true → is_active_after (act ∷ earlier) other ≡ true
     → local_index (act ∷ earlier) (index_with other) ≡ local_index earlier (index_with one) → other ≡ one
 same_protocol act earlier one other before after same = by_made (makes act earlier (index_with other)) refl
   where
-    was_there : (a b : Bool) → (a && not b) ≡ false → not b ≡ true → not a ≡ true
-    was_there true true none some = absurd (cc)
-    was_there true false none some = absurd (cc)
-    was_there false b none some = refl
+    there_before : (a b : Bool) → (a && not b) ≡ false → not b ≡ true → not a ≡ true
+    there_before true true none some = absurd (cc)
+    there_before true false none some = absurd (cc)
+    there_before false b none some = refl
 
     by_made : (t : Bool) → makes act earlier (index_with other) ≡ t → other ≡ one
     by_made true e = absurd (
@@ -119,7 +112,7 @@ same_protocol act earlier one other before after same = by_made (makes act earli
         omega (arith, given, new, same))
     by_made false e =
         let kept : local_index (act ∷ earlier) (index_with other) ≡ local_index earlier (index_with other) = rw e refl in
-        let there = was_there (is_absent (directory_state earlier (index_with other))) (is_absent (directory_state (act ∷ earlier) (index_with other))) e (active_row (act ∷ earlier) other after).1 in
+        let there = there_before (is_absent (directory_state earlier (index_with other))) (is_absent (directory_state (act ∷ earlier) (index_with other))) e (active_row (act ∷ earlier) other after).1 in
         locals_apart earlier other one (active_row (act ∷ earlier) other after).0 (active_row earlier one before).0 there (active_row earlier one before).1 (sym kept ∙ same)
 
 -- after an act, the marks of before

@@ -1,15 +1,14 @@
 -- The local indexes of protocols in slots, after a journal.
-use Rattle.std.proofs.Common.{◌≡◌, ℕ, ◌<◌, List, [], ◌∷◌, length, map, take, Option, Some, None, option_map, refl, ap, ◌∙◌}
+use Rattle.std.proofs.Common.{◌≡◌, ℕ, ◌<◌, List, [], ◌∷◌, length, map, take, Option, Some, refl, ap, ◌∙◌}
 use Rattle.std.specs.Option.{option_map_or}
-use Rattle.std.proofs.lemmas.Option.{none-some, same_Some}
 use Rattle.rm_model.specs.Journal.{Journal}
 use Rattle.rm_path.specs.declared.identifier.ProtocolIdentifier.{ProtocolIdentifier}
 use Rattle.rm_path.specs.declared.protocol.Protocol.{Protocol}
-use Rattle.rm_path.specs.Slots.{protocol_in, identifier_in}
+use Rattle.rm_path.specs.Slots.{identifier_in}
 use Rattle.rm_dir.specs.DirectoryIndex.{index_with}
 use Rattle.rm_dir.specs.LocalIndexes.{local_index}
 use Rattle.rm_dir.specs.Paths.{AreActiveAfter}
-use Rattle.rm_dir.proofs.LocalLaws.{active_local}
+use Rattle.rm_dir.proofs.LocalLaws.{held_is}
 use Rattle.rm_dist.specs.Slots.{local_in}
 
 -- the local indexes of so many slots, of which there are 32 where some were looked at
@@ -19,12 +18,9 @@ pub record IsSoFar (slots : List (Option Protocol)) (path : List ℕ) (at : ℕ)
 
 module _ (journal : Journal) (slots : List (Option Protocol)) (are : AreActiveAfter journal slots) where
   local_is : (slot : ℕ) (identifier : ProtocolIdentifier) → identifier_in slots slot ≡ Some identifier → local_in slots slot ≡ local_index journal (index_with identifier)
-  local_is slot identifier here = by_held (protocol_in slots slot) refl here
-    where
-      by_held : (held : Option Protocol) → protocol_in slots slot ≡ held → option_map (λ one. one.identifier) held ≡ Some identifier → option_map_or (λ protocol. protocol.local) held 0 ≡ local_index journal (index_with identifier)
-      by_held None e none = absurd (none-some identifier none)
-      by_held (Some protocol) e named =
-          active_local journal protocol.identifier protocol (are.known slot protocol e) ∙ ap (λ one. local_index journal (index_with one)) (same_Some _ _ named)
+  local_is slot identifier here =
+      let it = held_is journal slots are slot identifier here in
+      ap (λ (held : Option Protocol). option_map_or (λ protocol. protocol.local) held 0) it.1 ∙ it.3
 
   pub locals_are : (path : List ℕ) (protocols : List ProtocolIdentifier) → map (identifier_in slots) path ≡ map Some protocols → map (local_in slots) path ≡ map (λ protocol. local_index journal (index_with protocol)) protocols
   locals_are [] [] same = refl

@@ -2,13 +2,14 @@
 use Rattle.std.specs.Prelude.{ℕ, ◌%◌, ◌/◌, ◌^◌, List, [], ◌∷◌, length, Bool, false, not, nat_eq, if◌then◌else◌}
 use Rattle.std.specs.List.{sum_by}
 use Rattle.std.specs.Option.{option_or}
-use Rattle.rm_val.specs.Val.{Val, counter, gauge, ticks, null}
+use Rattle.rm_val.specs.Val.{Val, counter, gauge, ticks}
 use Rattle.rm_model.specs.Cells.{Cells, Table, cells_of}
 use Rattle.rm_model.specs.Counting.{Counting}
 use Rattle.rm_model.specs.Journal.{Journal}
 use Rattle.rm_model.specs.ControlCells.{control_cells}
 use Rattle.rm_model.specs.ControlRows.{no_rows, activated}
 use Rattle.rm_status.specs.RowsShown.{with_index}
+use Rattle.rm_nested.specs.InnerTable.{numbered_table}
 use Rattle.rm_dist.specs.Columns.{control_columns, stats_columns}
 use Rattle.rm_dist.specs.Control.{dist_control}
 use Rattle.rm_dist.specs.Marks.{Mark, marks, with_local}
@@ -39,26 +40,20 @@ abbrev pub octets_of : List Mark → ℕ
 octets_of marks = sum_by (λ mark. mark.octets) marks % 2 ^ 32
 
 -- whether these numbers are those of a control row and of the local index of a protocol that it has counted
-abbrev pub is_distributed : Counting → Journal → List ℕ → Bool
-is_distributed settings journal (row ∷ local ∷ []) = are_some (with_local local (marks settings row journal))
-is_distributed settings journal index = false
+abbrev pub is_distributed : Counting → Journal → (row local : ℕ) → Bool
+is_distributed settings journal row local = are_some (with_local local (marks settings row journal))
 
 -- what a column shows of some marks
 abbrev pub marks_value : List Mark → (column : ℕ) → Val
 marks_value some column = gauge (if nat_eq column 1 then packets_of some else octets_of some)
 
-abbrev pub stats_value : Counting → Journal → ℕ → List ℕ → Val
-stats_value settings journal column (row ∷ local ∷ []) = marks_value (with_local local (marks settings row journal)) column
-stats_value settings journal column index = null
+-- the same of those that a control row has of the protocol with a local index
+abbrev pub stats_value : Counting → Journal → (row local column : ℕ) → Val
+stats_value settings journal row local column = marks_value (with_local local (marks settings row journal)) column
 
 -- protocolDistStats
 abbrev pub stats_table : Counting → Journal → Table
-stats_table settings journal = record {
-  entry = stats_entry;
-  columns = stats_columns;
-  is_row = is_distributed settings journal;
-  value = stats_value settings journal;
-}
+stats_table settings journal = numbered_table stats_entry stats_columns (is_distributed settings journal) (stats_value settings journal)
 
 -- the cells of both
 abbrev pub dist_cells : Counting → Journal → Cells

@@ -35,10 +35,10 @@ idle_marks settings row (act ∷ earlier) idle = rw idle refl
 
 module _ (settings : Counting) (journal : Journal) where
   abbrev is_inner : ℕ → List ℕ → Bool
-  is_inner row index = is_number (λ local. are_some (with_local local (marks settings row journal))) index
+  is_inner row index = is_number (is_distributed settings journal row) index
 
   -- a row that has counted something is active
-  is_active : (row local : ℕ) → are_some (with_local local (marks settings row journal)) ≡ true → is_valid (control_state journal row) ≡ true
+  is_active : (row local : ℕ) → is_distributed settings journal row local ≡ true → is_valid (control_state journal row) ≡ true
   is_active row local is = by_test (is_valid (control_state journal row)) refl
     where
       by_test : (t : Bool) → is_valid (control_state journal row) ≡ t → t ≡ true
@@ -58,11 +58,8 @@ module _ (settings : Counting) (journal : Journal) where
   abbrev counted_of : List (List ℕ)
   counted_of = nested (rows_of dist_control journal) (λ row. locals_of (marks settings row journal))
 
-  in_counted : (index : List ℕ) → is_distributed settings journal index ≡ true → Contains counted_of index
-  in_counted [] is = absurd (cc)
-  in_counted (row ∷ []) is = absurd (cc)
-  in_counted (row ∷ local ∷ []) is = in_nested is_inner (rows_of dist_control journal) (λ row. locals_of (marks settings row journal)) outer inner (row ∷ local ∷ []) is
-  in_counted (row ∷ local ∷ next ∷ more) is = absurd (cc)
+  in_counted : (index : List ℕ) → (stats_table settings journal).is_row index ≡ true → Contains counted_of index
+  in_counted = in_nested is_inner (rows_of dist_control journal) (λ row. locals_of (marks settings row journal)) outer inner
 
 -- the cells of both tables are finitely many
 pub dist_finite : (settings : Counting) (journal : Journal) → AreFinite (dist_cells settings journal)

@@ -1,21 +1,21 @@
 -- The group of the distribution, as a caller sees it.
-use Rattle.std.specs.Prelude.{◌≡◌, ℕ, List, [], ◌∷◌, length, Option, Some}
+use Rattle.std.specs.Prelude.{◌≡◌, ℕ, List, [], ◌∷◌, Option, Some}
 use Rattle.rm_val.specs.Val.{Val}
 use Rattle.rm_val.specs.declared.error.ErrorStatus.{ErrorStatus}
 use Rattle.rm_model.specs.Counting.{Counting}
 use Rattle.rm_model.specs.Journal.{Journal}
 use Rattle.rm_model.specs.ControlRows.{no_rows}
-use Rattle.rm_model.specs.Judgement.{Bindings, IsFirstFault, first_pass, second_pass}
-use Rattle.rm_model.specs.declared.verdict.Verdict.TheVariants.{Fine}
+use Rattle.rm_model.specs.Judgement.{Bindings}
 use Rattle.rm_group.specs.Listed.{ListedTable, alone_beside}
 use Rattle.rm_status.specs.declared.row.Row.{Row}
-use Rattle.rm_status.specs.Rows.{row_in, rows_before}
+use Rattle.rm_status.specs.Fine as rows
+use Rattle.rm_status.specs.Rows.{row_in}
 use Rattle.rm_status.specs.RowsAfter.{AreRowsAfter}
 use Rattle.rm_dist.specs.declared.distribution.Distribution.{Distribution}
 use Rattle.rm_dist.specs.declared.row.DistributionRow.{DistributionRow}
 use Rattle.rm_dist.specs.Columns.{control_columns, stats_columns}
 use Rattle.rm_dist.specs.Control.{control_entry, dist_control}
-use Rattle.rm_dist.specs.ControlColumns.{set_to}
+use Rattle.rm_dist.specs.ControlColumns.{set_to, control_rows}
 use Rattle.rm_dist.specs.DistStats.{stats_entry}
 use Rattle.rm_dist.specs.Standing.{IsTallied, IsTalliedBy, unsifted}
 
@@ -34,9 +34,8 @@ pub record HasBegun (distribution : Distribution) (settings : Counting) (journal
   pub tallies : (i : ℕ) (row : Row DistributionRow) → row_in distribution.rows i ≡ Some row → IsTalliedBy (unsifted settings i journal) journal i row.columns.tally
 
 -- both passes find nothing wrong with a Set, by the rows that are kept
-pub record AreFine (distribution : Distribution) (bindings : Bindings) : Type 0 where
-  pub alone : IsFirstFault (length bindings) (first_pass dist_control bindings) Fine
-  pub together : IsFirstFault (length bindings) (second_pass dist_control (rows_before dist_control set_to distribution.rows) bindings) Fine
+abbrev pub AreFine : Distribution → Bindings → Type 0
+AreFine distribution = rows.AreFine control_rows distribution.rows
 
 -- the tables, as the group lists them
 abbrev pub stats_listed : ListedTable

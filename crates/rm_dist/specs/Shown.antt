@@ -7,7 +7,7 @@ use Rattle.rm_model.specs.Names.{IsLeastAbove}
 use Rattle.rm_status.specs.declared.row.Row.{Row}
 use Rattle.rm_status.specs.Rows.{columns_in, row_number}
 use Rattle.rm_status.specs.RowsShown.{rows_shown}
-use Rattle.rm_nested.specs.InnerTable.{inner_table}
+use Rattle.rm_nested.specs.InnerTable.{numbered_table}
 use Rattle.rm_nested.specs.Nested.{is_number}
 use Rattle.rm_dist.specs.declared.count.Count.{Count}
 use Rattle.rm_dist.specs.declared.row.DistributionRow.{DistributionRow}
@@ -53,13 +53,12 @@ abbrev pub count_value : Option Count → (column : ℕ) → Val
 count_value None column = null
 count_value (Some count) column = gauge (if nat_eq column 1 then count.packets else count.octets)
 
-abbrev pub value_kept : List (Row DistributionRow) → (column : ℕ) → List ℕ → Val
-value_kept rows column (row ∷ local ∷ []) = count_value (count_kept rows row local) column
-value_kept rows column index = null
+abbrev pub value_kept : List (Row DistributionRow) → (row local column : ℕ) → Val
+value_kept rows row local column = count_value (count_kept rows row local) column
 
 -- protocolDistStats
 abbrev pub stats_kept : List (Row DistributionRow) → Table
-stats_kept rows = inner_table stats_entry stats_columns (λ row. is_number (has_count rows row)) (value_kept rows)
+stats_kept rows = numbered_table stats_entry stats_columns (has_count rows) (value_kept rows)
 
 -- the cells of both
 abbrev pub cells_kept : List (Row DistributionRow) → Cells

@@ -3,7 +3,7 @@ use crate::cell::Others;
 use crate::distribution::Distribution;
 use crate::row::{CONTROL_OBJECTS, DistributionRow};
 use crate::stats::{Counted, STATS_OBJECTS};
-use rm_group::{Assigns, Group, Look, NeverDue, Readable, Storeless, TableObjects, Tables};
+use rm_group::{Assigns, Group, Look, Readable, Storeless, TableObjects, Tables};
 use rm_model::Verdict;
 use rm_nested::{cell_of_both, judge_both, next_of_both};
 use rm_val::{Oid, Value};
@@ -33,7 +33,7 @@ impl Group for Distribution {
 
     ghost together = { λ settings journal now readings bindings place. second_pass dist_control (rows_after dist_control no_rows journal) bindings place };
 
-    ghost accepts = { λ s now bindings. AreFine s bindings };
+    ghost accepts = { λ s now. AreFine s };
 
     ghost finite = { λ settings journal now. dist_finite settings journal };
 
@@ -104,8 +104,4 @@ impl Readable for Distribution {
     }
 
     ghost recurring = { λ settings one other journal alike now name. refl };
-}
-
-impl NeverDue for Distribution {
-    ghost always_asked = { λ s moment. tt };
 }

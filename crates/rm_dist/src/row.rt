@@ -5,15 +5,13 @@ ghost use Rattle.rm_dist.specs.ControlColumns.{control_rows};
 use crate::counts::Counts;
 use arrayvec::ArrayVec;
 use rm_columns::{
-    ControlRow, ControlSheet, OneNumber, interface_in, interface_name, put_text, same_text,
+    ControlRow, ControlSheet, MOST_OWNER, OneNumber, interface_in, interface_name, put_text,
+    same_text,
 };
 use rm_group::TableObjects;
 use rm_model::Setting::{Empty, Interface};
 use rm_model::{ColumnKind, StatusKind, column};
 use rm_val::{Oid, Value};
-
-/// How many octets an owner has at most.
-const MOST_OWNER: usize = 127;
 
 /// The number of protocolDistControlStatus.
 const STATUS: u32 = 6;

@@ -4,6 +4,7 @@ ghost use Rattle.std.specs.Option.{option_copied};
 ghost use Rattle.std.proofs.Math.Nat.{le-add_right};
 ghost use Rattle.rm_status.specs.Rows.{columns_in};
 ghost use Rattle.rm_nested.specs.Nested.{is_number};
+ghost use Rattle.rm_nested.specs.InnerTable.{numbered_value};
 ghost use Rattle.rm_dist.specs.Columns.{stats_columns};
 ghost use Rattle.rm_dist.specs.DistStats.{stats_entry};
 ghost use Rattle.rm_dist.specs.Counts.{count_in};
@@ -116,7 +117,7 @@ impl InnerTable for Counted<'_> {
 }
 
 impl<'a> InnerCells<'a> for Counted<'a> {
-    ghost shown = { λ s. value_kept s.rows.now };
+    ghost shown = { λ s. numbered_value (value_kept s.rows.now) };
 
     ghost can_show = { λ s. Unit {0} };
 

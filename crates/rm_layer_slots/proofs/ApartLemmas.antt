@@ -8,10 +8,10 @@ use Rattle.rm_path.specs.declared.protocol.Protocol.{Protocol}
 use Rattle.rm_path.specs.Identifier.{number_of}
 use Rattle.rm_path.specs.Slots.{protocol_in, identifier_in}
 use Rattle.rm_dir.specs.Active.{active_protocol}
+use Rattle.rm_dir.proofs.LocalLaws.{own_locals}
 use Rattle.rm_layers.specs.Applications.{has_slot, AreApart}
 use Rattle.rm_layer_slots.specs.declared.slots.TableKind.{TableKind}
 use Rattle.rm_layer_slots.specs.On.{is_counted, local_on, slots_on}
-use Rattle.rm_layer_slots.proofs.LocalLemmas.{active_apart}
 use Rattle.rm_layer_slots.proofs.OnLemmas.{from_slots}
 
 named : (slots : List (Option Protocol)) (slot : ℕ) (protocol : Protocol) → protocol_in slots slot ≡ Some protocol → identifier_in slots slot ≡ Some protocol.identifier
@@ -28,7 +28,7 @@ module _ (kind : TableKind) (journal : Journal) where
   not_again : (protocol : Protocol) (slots : List (Option Protocol)) → AreKnown (Some protocol ∷ slots) → AreLater (Some protocol ∷ slots) → has_slot protocol.local (slots_on kind slots) ≡ true → ⊥
   not_again protocol slots known later i =
       let has = from_slots kind slots protocol.local i in
-      let same : protocol.identifier ≡ has.protocol.identifier = active_apart journal protocol.identifier has.protocol.identifier protocol has.protocol (known 0 protocol refl) (known (suc has.slot) has.protocol has.here) has.local_is in
+      let same : protocol.identifier ≡ has.protocol.identifier = own_locals journal protocol.identifier has.protocol.identifier protocol has.protocol (known 0 protocol refl) (known (suc has.slot) has.protocol has.here) has.local_is in
       let places : 0 ≡ suc has.slot = later 0 (suc has.slot) protocol.identifier has.protocol.identifier refl (named slots has.slot has.protocol has.here) (ap number_of same) in
       absurd (omega (arith, places))
 

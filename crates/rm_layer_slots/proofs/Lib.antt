@@ -1,7 +1,6 @@
 pub mod NamedLemmas
 pub mod OnLemmas
 pub mod SteadyLemmas
-pub mod LocalLemmas
 pub mod ApartLemmas
 pub mod FillLemmas
 pub mod SettledLemmas

@@ -1,7 +1,7 @@
 -- A protocol that has a row is one of those that a journal names.
-use Rattle.std.proofs.Common.{◌≡◌, ℕ, Bool, true, false, cond, List, [], ◌∷◌, ◌++◌, map, Contains, Option, Some, None, refl, sym, ap, subst, ◌∙◌, inl, inr}
+use Rattle.std.proofs.Common.{◌≡◌, ℕ, Bool, true, false, not, List, [], ◌∷◌, ◌++◌, map, Contains, Option, Some, None, refl, sym, ap, subst, ◌∙◌, inl, inr}
 use Rattle.std.specs.Prelude.{find}
-use Rattle.std.specs.Option.{option_map, option_map_or, is_some}
+use Rattle.std.specs.Option.{option_map, is_some}
 use Rattle.std.specs.Str.{bytes_eq}
 use Rattle.std.proofs.lemmas.Bool.{cases_Bool, true≢false}
 use Rattle.std.proofs.lemmas.List.Elements.{Contains-append_left, Contains-append_right}
@@ -15,11 +15,12 @@ use Rattle.rm_model.specs.declared.row.StatusKind.TheVariants.{RowStatus}
 use Rattle.rm_status.proofs.RowsAfterLemmas.{state_sampled}
 use Rattle.rm_val.specs.Val.{Val}
 use Rattle.rm_path.specs.declared.identifier.ProtocolIdentifier.{ProtocolIdentifier}
-use Rattle.rm_path.specs.Identifier.{is_same, number_of}
+use Rattle.rm_path.specs.Identifier.{is_same}
 use Rattle.rm_path.proofs.Identifiers.{same_is}
 use Rattle.rm_dir.specs.BuiltIn.{BuiltIn, built_in_rows, is_built_in}
-use Rattle.rm_dir.specs.DirectoryIndex.{directory_index, index_with, may_have_row, of_number, protocol_is, protocol_of, row_of}
+use Rattle.rm_dir.specs.DirectoryIndex.{index_with, may_have_row}
 use Rattle.rm_dir.specs.ProtocolDir.{protocol_dir, directory_beginning, directory_entry, directory_state}
+use Rattle.rm_dir.proofs.LocalLaws.{own_protocol, there_first}
 use Rattle.rm_layer_slots.specs.On.{protocols_named, row_named, rows_named, with_named}
 
 -- what passes a test is in the list
@@ -55,27 +56,17 @@ module _ (identifier : ProtocolIdentifier) (may : may_have_row identifier ≡ tr
   abbrev index : List ℕ
   index = index_with identifier
 
-  its_protocol : protocol_of index ≡ Some identifier
-  its_protocol = subst (λ (i : List ℕ). protocol_of i ≡ Some identifier) is_index (protocol_is (number_of identifier) ∙ rw (row_of identifier may, of_number identifier may) refl)
-    where
-      is_index : directory_index (number_of identifier) ≡ index
-      is_index = rw (row_of identifier may, of_number identifier may) refl
-
   -- the status of its row names it
   status_named : row_named (cell_name directory_entry 10 index) ≡ Some identifier
-  status_named = its_protocol
+  status_named = own_protocol identifier may
 
   from_first : is_absent (directory_state [] index) ≡ false → Contains (protocols_named []) identifier
   unfolding protocols_named
   from_first is =
-      let built : is_built_in identifier ≡ true = was_there (is_built_in identifier) (sym (ap (λ o. is_absent (cond (option_map_or is_built_in o false) Valid Absent)) its_protocol) ∙ is) in
+      let built : is_built_in identifier ≡ true = there_first identifier may (ap not is) in
       let found = found_in (λ (row : BuiltIn). is_same row.protocol identifier) built_in_rows built in
       subst (λ (other : ProtocolIdentifier). Contains (map (λ (row : BuiltIn). row.protocol) built_in_rows) other) (same_is found.0.protocol identifier found.2)
       (in_map (λ (row : BuiltIn). row.protocol) built_in_rows found.0 found.1)
-    where
-      was_there : (b : Bool) → is_absent (cond b Valid Absent) ≡ false → b ≡ true
-      was_there true e = refl
-      was_there false e = absurd (true≢false e)
 
   -- a row that a Set makes has its status given a value
   given_status : (values : Assignments) → is_absent (next_state (set_ask protocol_dir values index) Absent) ≡ false → is_some (value_given values (cell_name directory_entry 10 index)) ≡ true

@@ -1,7 +1,7 @@
 -- The protocols that are on, by their slots and by the journal.
 use Rattle.std.proofs.Common.{◌≡◌, ℕ, zero, suc, Bool, true, false, ◌||◌, List, [], ◌∷◌, Contains, nat_eq, Option, Some, None, refl, sym, ap, ◌∙◌, arith, inl, inr}
 use Rattle.std.specs.List.{list_any}
-use Rattle.std.specs.Option.{option_map, is_some}
+use Rattle.std.specs.Option.{is_some}
 use Rattle.std.proofs.lemmas.Bool.{cases_Bool, true≢false}
 use Rattle.std.proofs.lemmas.Bool.Decides.{nat_tests}
 use Rattle.rm_model.specs.Journal.{Journal}
@@ -10,12 +10,13 @@ use Rattle.rm_model.proofs.Members.{each, none_in}
 use Rattle.rm_status.proofs.RowFacts.{valid_there}
 use Rattle.rm_path.specs.declared.identifier.ProtocolIdentifier.{ProtocolIdentifier}
 use Rattle.rm_path.specs.declared.protocol.Protocol.{Protocol}
-use Rattle.rm_path.specs.Slots.{protocol_in, identifier_in, is_active}
-use Rattle.rm_path.proofs.SlotLemmas.{some_slot}
+use Rattle.rm_path.specs.Slots.{protocol_in, is_active}
+use Rattle.rm_path.proofs.SlotLemmas.{some_slot, in_its_slot}
 use Rattle.rm_dir.specs.Active.{active_protocol}
 use Rattle.rm_dir.specs.DirectoryIndex.{index_with, may_have_row}
 use Rattle.rm_dir.specs.Paths.{AreActiveAfter}
 use Rattle.rm_dir.specs.ProtocolDir.{directory_state}
+use Rattle.rm_dir.proofs.LocalLaws.{active_has}
 use Rattle.rm_layers.specs.Applications.{is_in, has_slot}
 use Rattle.rm_layer_slots.specs.declared.slots.TableKind.{TableKind}
 use Rattle.rm_layer_slots.specs.On.{is_counted, local_on, slots_on, with_local, locals_among, protocols_named, is_on}
@@ -32,10 +33,7 @@ itself n = grind (arith, nat_tests)
 module _ (journal : Journal) where
   -- what is active can have a row
   active_row : (identifier : ProtocolIdentifier) (protocol : Protocol) → active_protocol journal identifier ≡ Some protocol → may_have_row identifier ≡ true
-  active_row identifier protocol is = elim (cases_Bool (may_have_row identifier)) [
-    | inl e ↦ e
-    | inr e ↦ let none : None ≡ Some protocol = rw e at is in cc
-  ]
+  active_row identifier protocol is = (active_has journal identifier protocol is).0
 
   -- and has a row
   active_there : (identifier : ProtocolIdentifier) (protocol : Protocol) → active_protocol journal identifier ≡ Some protocol → is_absent (directory_state journal (index_with identifier)) ≡ false
@@ -117,13 +115,6 @@ module _ (kind : TableKind) where
       later : {b : Bool} (a : Bool) → b ≡ true → (a || b) ≡ true
       later true e = refl
       later false e = e
-
-  pub in_its_slot : (slots : List (Option Protocol)) (slot : ℕ) (identifier : ProtocolIdentifier) → identifier_in slots slot ≡ Some identifier → (protocol : Protocol) × (protocol_in slots slot ≡ Some protocol) × (protocol.identifier ≡ identifier)
-  in_its_slot slots slot identifier is = go (protocol_in slots slot) refl is
-    where
-      go : (o : Option Protocol) → protocol_in slots slot ≡ o → option_map (λ protocol. protocol.identifier) o ≡ Some identifier → (protocol : Protocol) × (protocol_in slots slot ≡ Some protocol) × (protocol.identifier ≡ identifier)
-      go None e f = cc
-      go (Some protocol) e f = (protocol, e, cc)
 
   pub tuned_after : (journal : Journal) (slots : List (Option Protocol)) → AreActiveAfter journal slots → (local : ℕ) → has_slot local (slots_on kind slots) ≡ is_on kind local journal
   tuned_after journal slots active local = both_ways (has_slot local (slots_on kind slots)) (is_on kind local journal) to back

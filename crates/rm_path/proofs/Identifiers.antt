@@ -1,37 +1,38 @@
 -- The number of a protocol is that of no other.
-use Rattle.std.proofs.Common.{◌≡◌, ℕ, true, nat_eq, refl, ap, arith}
+use Rattle.std.proofs.Common.{◌≡◌, ℕ, ◌+◌, true, false, nat_eq, nat_lt, refl, sym, ap, ◌∙◌, arith}
 use Rattle.std.proofs.lemmas.Bool.Decides.{nat_tests}
 use Rattle.rm_path.specs.declared.identifier.ProtocolIdentifier.{ProtocolIdentifier}
 use Rattle.rm_path.specs.declared.identifier.ProtocolIdentifier.TheVariants.{Ether2, Ether, Ip, Tcp, Udp}
-use Rattle.rm_path.specs.Identifier.{number_of, IsInRange, is_same}
+use Rattle.rm_path.specs.Identifier.{number_of, identified, IsInRange, is_same}
+
+-- the protocol with the number of one is that one
+pub of_number : (protocol : ProtocolIdentifier) → IsInRange protocol → identified (number_of protocol) ≡ protocol
+of_number Ether2 fits = refl
+of_number (Ether type) fits =
+    let low : nat_lt (65536 + type) 65536 ≡ false = grind (arith, nat_tests) in
+    let high : nat_lt (65536 + type) 131072 ≡ true = grind (arith, nat_tests, fits) in
+    rw (low, high) (ap Ether (omega arith))
+of_number (Ip protocol) fits =
+    let one : nat_lt (131072 + protocol) 65536 ≡ false = grind (arith, nat_tests) in
+    let two : nat_lt (131072 + protocol) 131072 ≡ false = grind (arith, nat_tests) in
+    let three : nat_lt (131072 + protocol) 196608 ≡ true = grind (arith, nat_tests, fits) in
+    rw (one, two, three) (ap Ip (omega arith))
+of_number (Tcp port) fits =
+    let one : nat_lt (196608 + port) 65536 ≡ false = grind (arith, nat_tests) in
+    let two : nat_lt (196608 + port) 131072 ≡ false = grind (arith, nat_tests) in
+    let three : nat_lt (196608 + port) 196608 ≡ false = grind (arith, nat_tests) in
+    let four : nat_lt (196608 + port) 262144 ≡ true = grind (arith, nat_tests, fits) in
+    rw (one, two, three, four) (ap Tcp (omega arith))
+of_number (Udp port) fits =
+    let one : nat_lt (262144 + port) 65536 ≡ false = grind (arith, nat_tests) in
+    let two : nat_lt (262144 + port) 131072 ≡ false = grind (arith, nat_tests) in
+    let three : nat_lt (262144 + port) 196608 ≡ false = grind (arith, nat_tests) in
+    let four : nat_lt (262144 + port) 262144 ≡ false = grind (arith, nat_tests) in
+    rw (one, two, three, four) (ap Udp (omega arith))
 
 -- protocols of one number are one
 pub same_number : (one other : ProtocolIdentifier) → IsInRange one → IsInRange other → number_of one ≡ number_of other → one ≡ other
-same_number Ether2 Ether2 a b same = refl
-same_number (Ether m) (Ether n) a b same = ap Ether (omega (arith, same))
-same_number (Ip m) (Ip n) a b same = ap Ip (omega (arith, same))
-same_number (Tcp m) (Tcp n) a b same = ap Tcp (omega (arith, same))
-same_number (Udp m) (Udp n) a b same = ap Udp (omega (arith, same))
-same_number Ether2 (Ether n) a b same = absurd (omega (arith, same))
-same_number Ether2 (Ip n) a b same = absurd (omega (arith, same))
-same_number Ether2 (Tcp n) a b same = absurd (omega (arith, same))
-same_number Ether2 (Udp n) a b same = absurd (omega (arith, same))
-same_number (Ether m) Ether2 a b same = absurd (omega (arith, same))
-same_number (Ether m) (Ip n) a b same = absurd (omega (arith, same, a))
-same_number (Ether m) (Tcp n) a b same = absurd (omega (arith, same, a))
-same_number (Ether m) (Udp n) a b same = absurd (omega (arith, same, a))
-same_number (Ip m) Ether2 a b same = absurd (omega (arith, same))
-same_number (Ip m) (Ether n) a b same = absurd (omega (arith, same, b))
-same_number (Ip m) (Tcp n) a b same = absurd (omega (arith, same, a))
-same_number (Ip m) (Udp n) a b same = absurd (omega (arith, same, a))
-same_number (Tcp m) Ether2 a b same = absurd (omega (arith, same))
-same_number (Tcp m) (Ether n) a b same = absurd (omega (arith, same, b))
-same_number (Tcp m) (Ip n) a b same = absurd (omega (arith, same, b))
-same_number (Tcp m) (Udp n) a b same = absurd (omega (arith, same, a))
-same_number (Udp m) Ether2 a b same = absurd (omega (arith, same))
-same_number (Udp m) (Ether n) a b same = absurd (omega (arith, same, b))
-same_number (Udp m) (Ip n) a b same = absurd (omega (arith, same, b))
-same_number (Udp m) (Tcp n) a b same = absurd (omega (arith, same, b))
+same_number one other a b same = sym (of_number one a) ∙ ap identified same ∙ of_number other b
 
 equal : (m n : ℕ) → nat_eq m n ≡ true → m ≡ n
 equal m n is = grind (arith, nat_tests)

@@ -2,7 +2,7 @@
 use Rattle.std.proofs.Common.{◌≡◌, ℕ, zero, suc, List, [], ◌∷◌, Bool, true, false, ◌&&◌, ◌||◌, Option, Some, None, option_map, refl, ap}
 use Rattle.rm_path.specs.declared.identifier.ProtocolIdentifier.{ProtocolIdentifier}
 use Rattle.rm_path.specs.declared.protocol.Protocol.{Protocol}
-use Rattle.rm_path.specs.Slots.{identifier_in, is_of, is_active}
+use Rattle.rm_path.specs.Slots.{protocol_in, identifier_in, is_of, is_active}
 use Rattle.rm_path.proofs.Identifiers.{same_is, is_itself}
 
 of_it : (held : Option Protocol) (identifier : ProtocolIdentifier) → option_map (λ protocol. protocol.identifier) held ≡ Some identifier → is_of identifier held ≡ true
@@ -46,3 +46,11 @@ some_slot (first ∷ slots) identifier is = by_test (is_of identifier first) ref
         → (is_active slots identifier ≡ true → (slot : ℕ) × (identifier_in slots slot ≡ Some identifier)) → (slot : ℕ) × (identifier_in (first ∷ slots) slot ≡ Some identifier)
     by_test true here is rest = (0, in_it first identifier here)
     by_test false other is rest = let it = rest is in (suc it.0, it.1)
+
+-- a slot whose protocol is told has one, and it is that
+pub in_its_slot : (slots : List (Option Protocol)) (slot : ℕ) (identifier : ProtocolIdentifier) → identifier_in slots slot ≡ Some identifier → (protocol : Protocol) × (protocol_in slots slot ≡ Some protocol) × (protocol.identifier ≡ identifier)
+in_its_slot slots slot identifier is = by_held (protocol_in slots slot) refl is
+  where
+    by_held : (held : Option Protocol) → protocol_in slots slot ≡ held → option_map (λ protocol. protocol.identifier) held ≡ Some identifier → (protocol : Protocol) × (protocol_in slots slot ≡ Some protocol) × (protocol.identifier ≡ identifier)
+    by_held None e none = cc
+    by_held (Some protocol) e same = (protocol, e, cc)

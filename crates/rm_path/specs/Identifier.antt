@@ -1,5 +1,5 @@
 -- Protocols by what carries them (RFC 2074), and the numbers in which their order is that of the names of their rows.
-use Rattle.std.specs.Prelude.{ℕ, ◌+◌, ◌<◌, Bool, true, false, ◌==◌}
+use Rattle.std.specs.Prelude.{ℕ, ◌+◌, ◌-◌, ◌<◌, Bool, true, false, nat_lt, ◌==◌, if◌then◌else◌}
 use Rattle.rm_path.specs.declared.identifier.ProtocolIdentifier.{ProtocolIdentifier}
 use Rattle.rm_path.specs.declared.identifier.ProtocolIdentifier.TheVariants.{Ether2, Ether, Ip, Tcp, Udp}
 
@@ -10,6 +10,15 @@ number_of (Ether type) = 65536 + type
 number_of (Ip protocol) = 131072 + protocol
 number_of (Tcp port) = 196608 + port
 number_of (Udp port) = 262144 + port
+
+-- the only protocol that can have a number
+abbrev pub identified : ℕ → ProtocolIdentifier
+identified number =
+    if nat_lt number 65536 then Ether2
+    else if nat_lt number 131072 then Ether (number - 65536)
+    else if nat_lt number 196608 then Ip (number - 131072)
+    else if nat_lt number 262144 then Tcp (number - 196608)
+    else Udp (number - 262144)
 
 -- a type of Ethernet and a port have 16 bits, a protocol of IP has 8
 abbrev pub IsInRange : ProtocolIdentifier → Type 0

@@ -30,7 +30,7 @@ invariant_of-self g c =
 pub returns-clause-stands : goal.returns-clause-stands
 returns-clause-stands g c journal values stands gives =
     let bs = g.A.Assigns.bindings c.args.set.now in
-    let fine = all_fine protocol_dir bs c.requires.fine in
+    let fine = all_fine protocol_dir bs c.requires.fine.alone in
     let given = c.settle-settled.ensures.given in
     let made : c.settle-settled.result.given - c.args.self.now.given ≡ count_below (is_fresh_in c.commit.new.self) (2 ^ 32) = omega (arith, given) in
     let changed =

@@ -24,8 +24,7 @@ returns-clause-accepted g c is =
     let locals = subst (λ (verdict : Verdict). IsFirstFault (length bs) (local_fault given before bs) verdict) both.0 c.judge_locals-locals.ensures in
     let alone = fine_alone bs c.requires in
     record {
-      alone = alone;
-      together = subst (λ (verdict : Verdict). IsFirstFault (length bs) (second_pass protocol_dir before bs) verdict) both.1 c.judge_rows-rows.ensures.verdict;
+      fine = record { alone = alone; together = subst (λ (verdict : Verdict). IsFirstFault (length bs) (second_pass protocol_dir before bs) verdict) both.1 c.judge_rows-rows.ensures.verdict };
       indexes = has_indexes c.args.self.now.rows bs alone given c.args.self.now.few locals;
     }
 
