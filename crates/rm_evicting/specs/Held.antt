@@ -92,11 +92,15 @@ module _ {K C : Type 0} (eq : K → K → Bool) where
     last_delete (strays newest gain ∷ earlier) = last_delete earlier
 
 module _ {K C : Type 0} where
+  -- all stamps are so
+  abbrev pub AllStamps : (ℕ → Type 0) → List (Mention K C) → Type 0
+  AllStamps P [] = ⊤
+  AllStamps P (refers key stamp tick gain ∷ earlier) = P stamp × AllStamps P earlier
+  AllStamps P (strays key gain ∷ earlier) = AllStamps P earlier
+
   -- all stamps are below this one
   abbrev pub AllBefore : ℕ → List (Mention K C) → Type 0
-  AllBefore limit [] = ⊤
-  AllBefore limit (refers key stamp tick gain ∷ earlier) = (stamp < limit) × AllBefore limit earlier
-  AllBefore limit (strays key gain ∷ earlier) = AllBefore limit earlier
+  AllBefore limit = AllStamps (λ stamp. stamp < limit)
 
   -- each stamp is above those before it
   abbrev pub Rising : List (Mention K C) → Type 0

@@ -3,7 +3,6 @@ use Rattle.std.proofs.Common.{refl, rules}
 use Rattle.rm_collect.specs.Collection.{IsLawful}
 use Rattle.rm_sourced.specs.Laws.{IsLawful as AreLawful}
 use Rattle.rm_sourced.specs.Lawful.{source_lawful}
-use Rattle.rm_sourced.proofs.Later.{may_take_later}
 use Rattle.rm_hosts.specs.Control.{named_entry}
 use Rattle.rm_hosts.specs.ControlColumns.{control_rows}
 use Rattle.rm_hosts.specs.Tables.{host_sourcing}
@@ -15,8 +14,6 @@ use Rattle.rm_hosts.specs.SameCells.{value_is, address_is, rank_is}
 pub host_laws : AreLawful named_entry host_sourcing by_address by_rank
 host_laws = record {
   exact = exact;
-  entered = λ mentions rows means. means;
-  later = λ stamp next moment now rows. may_take_later stamp next moment now rows.keyed;
   control_fits = Prim.search rules;
   first_below = refl;
   second_below = refl;

@@ -1,9 +1,6 @@
 -- Laws of two tables of inner rows, and of their control table beside them.
-use Rattle.std.proofs.Common.{◌≡◌, ℕ, List, [], ◌∷◌, Bool, true, false, ◌||◌, Option, Some, None, refl, sym, ◌∙◌, inl, inr}
-use Rattle.std.specs.Prelude.{◌⊎◌}
+use Rattle.std.proofs.Common.{◌≡◌, ℕ, List, [], ◌∷◌, Bool, true, false, ◌||◌, refl}
 use Rattle.std.specs.Option.{option_or}
-use Rattle.rm_val.specs.declared.error.ErrorStatus.{ErrorStatus}
-use Rattle.rm_val.specs.declared.error.ErrorStatus.TheVariants.{NotWritable}
 use Rattle.rm_model.specs.Cells.{Table, cells_of, is_of_column}
 use Rattle.rm_model.specs.ControlTable.{ControlTable}
 use Rattle.rm_model.specs.Finite.{AreFinite}
@@ -12,7 +9,7 @@ use Rattle.rm_model.specs.Names.{Below}
 use Rattle.rm_model.proofs.Finite.{both_finite}
 use Rattle.rm_group.specs.Alone.{read_only}
 use Rattle.rm_group.specs.Least.{AreFrom}
-use Rattle.rm_group.specs.Listed.{ListedTable, AreOfObjects, AreRefused, is_listed, is_settable, alone_beside, with_table, of_table, both_refused, beside_listed, read_only_listed}
+use Rattle.rm_group.specs.Listed.{ListedTable, AreOfObjects, AreRefused, is_listed, is_settable, with_table, of_table, beside_listed, further_refused, read_only_listed}
 use Rattle.rm_group.proofs.Leasts.{table_from, from_below, both_from}
 use Rattle.rm_keyed.specs.TwoTables.{cells_of_two, alone_of_two}
 
@@ -42,29 +39,13 @@ joined true b c = refl
 joined false true c = refl
 joined false false c = refl
 
-together : (a b c : Option ErrorStatus) → option_or (option_or a b) c ≡ option_or a (option_or b c)
-together None b c = refl
-together (Some x) b c = refl
-
-or_false : (a : Bool) → a ≡ false → (a || false) ≡ false
-or_false true h = h
-or_false false h = refl
-
-abbrev Refused : Bool → Option ErrorStatus → Type 0
-Refused listed fault = (fault ≡ Some NotWritable) ⊎ ((listed ≡ false) × (fault ≡ None))
-
-moved : (a b : Bool) (fault other : Option ErrorStatus) → a ≡ b → fault ≡ other → Refused a fault → Refused b other
-moved a b fault other same alike (inl is) = inl (sym alike ∙ is)
-moved a b fault other same alike (inr off) = inr (sym same ∙ off.0, sym alike ∙ off.1)
-
 -- a name of the three tables is refused that can't be set
 pub beside_two : (table : ControlTable) (columns : List ℕ) (first second : ListedTable)
     → AreRefused (is_listed (record { entry = table.entry; columns = columns } ∷ first ∷ second ∷ [])) (is_settable table)
     (λ name value. option_or (alone_fault table (place_of table name) value) (alone_of_two first second name value))
-beside_two table columns first second name value none =
-    moved _ _ _ _
-    (joined (is_of_column table.entry columns name) (is_of_column first.entry first.columns name) (is_of_column second.entry second.columns name))
-    (together (alone_fault table (place_of table name) value) (read_only (is_of_column first.entry first.columns) name value) (read_only (is_of_column second.entry second.columns) name value))
-    (both_refused (is_listed (record { entry = table.entry; columns = columns } ∷ first ∷ [])) (is_listed (second ∷ [])) (is_settable table) (λ name. false)
-    (alone_beside table first) (read_only (is_of_column second.entry second.columns)) (beside_listed table columns first) (read_only_listed second)
-    name value (or_false (is_settable table name) none))
+beside_two table columns first second =
+    further_refused (is_listed (record { entry = table.entry; columns = columns } ∷ first ∷ [])) (is_listed (second ∷ []))
+    (is_listed (record { entry = table.entry; columns = columns } ∷ first ∷ second ∷ [])) (is_settable table)
+    (λ name value. alone_fault table (place_of table name) value) (read_only (is_of_column first.entry first.columns)) (read_only (is_of_column second.entry second.columns))
+    (λ name. joined (is_of_column table.entry columns name) (is_of_column first.entry first.columns name) (is_of_column second.entry second.columns name))
+    (beside_listed table columns first) (read_only_listed second)

@@ -4,7 +4,8 @@ ghost use Rattle.rm_keyed.specs.SourceControl.{TableEntry};
 
 use arrayvec::ArrayVec;
 use rm_columns::{
-    ControlRow, ControlSheet, OneNumber, interface_in, interface_name, put_text, same_text,
+    ControlRow, ControlSheet, MOST_OWNER, OneNumber, interface_in, interface_name, put_text,
+    same_text,
 };
 use rm_group::TableObjects;
 use rm_model::Setting::{Empty, Interface};
@@ -12,10 +13,7 @@ use rm_model::{ColumnKind, ColumnSheet, StatusKind, column};
 use rm_val::{Oid, Value};
 use std::marker::PhantomData;
 
-/// How many octets an owner has at most.
-const MOST_OWNER: usize = 127;
-
-/// The numbers of the columns of each table whose rows ask for what frames of a data source enter (`SourceTable`).
+/// The numbers of the columns of each table whose rows ask for the rows that frames of a data source enter (`SourceColumns`).
 pub const SOURCE_NUMBERS: &[u32] = &[1, 2, 3, 4, 5, 6];
 
 /// The columns that can be set: the data source, and the owner.
@@ -24,9 +22,8 @@ const COLUMNS: &[ColumnSheet] = &[
     column!(5, ColumnKind::Text(127), Empty, always),
 ];
 
-/// A control table whose rows ask for the rows that frames of a data source enter, as those of hostControl ask for hosts (RFC 1757,
-/// section 5). All such tables have the same columns: 1 is the index, 2 the data source, 3 how many rows are held, 4 when one last gave way
-/// to another, 5 the owner and 6 the status.
+/// A control table whose rows ask for what frames of a data source enter or name, by the identifier of its entry. Several such tables may
+/// have the same columns.
 pub trait SourceTable {
     /// The identifier of the table's entry.
     ghost entry: { TableEntry };
@@ -36,7 +33,9 @@ pub trait SourceTable {
         ensures { result.now ≡ entry.numbers };
 }
 
-/// The columns of a row of such a table that can be set.
+/// The columns that can be set of a row that asks for the rows that frames of a data source enter, as those of hostControl ask for hosts
+/// (RFC 1757, section 5). All such tables have the same columns: 1 is the index, 2 the data source, 3 how many rows are held, 4 when one last
+/// gave way to another, 5 the owner and 6 the status.
 #[derive(Drop)]
 pub struct SourceColumns<T> {
     /// The number of the interface that the data source names.

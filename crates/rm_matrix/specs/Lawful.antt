@@ -4,7 +4,6 @@ use Rattle.rm_keyed.proofs.Pairs.{exact_pair}
 use Rattle.rm_collect.specs.Collection.{IsLawful}
 use Rattle.rm_sourced.specs.Laws.{IsLawful as AreLawful}
 use Rattle.rm_sourced.specs.Lawful.{source_lawful}
-use Rattle.rm_sourced.proofs.Later.{may_take_later}
 use Rattle.rm_matrix.specs.Control.{named_entry}
 use Rattle.rm_matrix.specs.ControlColumns.{control_rows}
 use Rattle.rm_matrix.specs.Tables.{pair_sourcing}
@@ -15,8 +14,6 @@ use Rattle.rm_matrix.specs.SameCells.{value_is, source_is, destination_is}
 pub matrix_laws : AreLawful named_entry pair_sourcing sources destinations
 matrix_laws = record {
   exact = exact_pair;
-  entered = λ mentions rows means. means;
-  later = λ stamp next moment now rows more later ready. may_take_later stamp next moment now rows.pairs more later ready;
   control_fits = Prim.search rules;
   first_below = refl;
   second_below = refl;

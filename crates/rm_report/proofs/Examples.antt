@@ -1,11 +1,10 @@
 -- What hosts gained since a report began, and which are reported, by the definitions. The table has room for two hosts.
-use Rattle.std.proofs.Common.{◌≡◌, ℕ, List, [], ◌∷◌, ◌++◌, map, refl, Option, Some, None}
-use Rattle.std.specs.Prelude.{pos}
-use Rattle.rm_val.specs.Val.{int}
+use Rattle.std.proofs.Common.{◌≡◌, ℕ, List, [], ◌∷◌, map, refl, Option, Some, None}
 use Rattle.rm_model.specs.Counting.{Counting}
-use Rattle.rm_model.specs.Journal.{Act, Assignment, passes, assigns, Journal}
+use Rattle.rm_model.specs.Journal.{assigns, Journal}
 use Rattle.rm_model.proofs.ExampleSettings.{plain}
 use Rattle.rm_proto.specs.Ethernet.{pair_of}
+use Rattle.rm_sourced.proofs.ExampleFrames.{a, b, c, frame, set_status, begun}
 use Rattle.rm_hosts.specs.Control.{control_entry}
 use Rattle.rm_report.specs.declared.rate_base.RateBase.{RateBase}
 use Rattle.rm_report.specs.declared.rate_base.RateBase.TheVariants.{InPkts, OutPkts, InOctets, OutOctets, OutErrors}
@@ -16,30 +15,9 @@ use Rattle.rm_report.specs.Ranks.{reported_at}
 abbrev settings : Counting
 settings = record plain { hosts = 2 }
 
--- the status of row 1 of hostControl is set to a number
-abbrev set : ℕ → Assignment
-set n = record { name = control_entry ++ 6 ∷ 1 ∷ []; value = int (pos n) }
-
--- three hosts
-abbrev address : ℕ → List ℕ
-address last = 2 ∷ 0 ∷ 0 ∷ 0 ∷ 0 ∷ last ∷ []
-
-abbrev a : List ℕ
-a = address 10
-
-abbrev b : List ℕ
-b = address 11
-
-abbrev c : List ℕ
-c = address 12
-
--- a frame from one host to another, of 60 octets beside the check sequence
-abbrev frame : (moment : ℕ) (source dest : List ℕ) → Act
-frame moment source dest = passes (record { interface = 1; moment = moment; number = 1; octets = dest ++ source; original = 60 })
-
 -- Row 1 becomes valid at 2000. A report begins by a Set at 4000, before which a frame of the same moment passed, and another one.
 abbrev before : Journal
-before = assigns 2000 (set 1 ∷ []) ∷ assigns 1100 (set 2 ∷ []) ∷ []
+before = begun control_entry
 
 abbrev from : Journal
 from = assigns 4000 [] ∷ frame 4000 a b ∷ frame 3000 a b ∷ before
@@ -94,13 +72,13 @@ more_places = refl
 
 -- a row that was made valid anew after the beginning has only seen frames after that
 abbrev again : Journal
-again = frame 9000 a b ∷ assigns 8000 (set 1 ∷ []) ∷ assigns 7500 (set 3 ∷ []) ∷ more
+again = frame 9000 a b ∷ set_status control_entry 8000 1 ∷ set_status control_entry 7500 3 ∷ more
 
 again_rates : rate from again OutPkts a ∷ rate from again InPkts a ∷ rate from again InPkts b ∷ [] ≡ 1 ∷ 0 ∷ 1 ∷ []
 unfolding pair_of
 again_rates = refl
 
 -- and under creation it has none to report
-gone : places from (assigns 7500 (set 3 ∷ []) ∷ more) InPkts 10 ≡ None ∷ None ∷ None ∷ None ∷ []
+gone : places from (set_status control_entry 7500 3 ∷ more) InPkts 10 ≡ None ∷ None ∷ None ∷ None ∷ []
 unfolding pair_of
 gone = refl

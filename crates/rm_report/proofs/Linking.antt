@@ -15,7 +15,7 @@ use Rattle.rm_proto.specs.declared.known.Facts.{Facts}
 use Rattle.rm_proto.specs.declared.ethernet.Pair.{Pair}
 use Rattle.rm_acts.specs.Seen.{Seen, seen_since}
 use Rattle.rm_evicting.specs.Mention.{refers, strays}
-use Rattle.rm_evicting.specs.Held.{AllBefore}
+use Rattle.rm_evicting.specs.Held.{AllStamps, AllBefore}
 use Rattle.rm_hosts.specs.Control.{host_control, control_set}
 use Rattle.rm_hosts.specs.Counts.{gain_in, gain_out}
 use Rattle.rm_hosts.specs.Mentions.{HostMention, mentioned, mentioned_by, mentions_of}
@@ -25,35 +25,22 @@ use Rattle.rm_report.proofs.Persist.{AllFrom}
 use Rattle.rm_report.proofs.Gained.{Goes, goes_on, begins_anew}
 use Rattle.rm_report.proofs.SeenLaws.{IsEarlier, after, all_after, none_after, seen_earlier}
 
-from_both : (least : ℕ) (one other : List HostMention) → AllFrom least one → AllFrom least other → AllFrom least (one ++ other)
-from_both least [] other a b = b
-from_both least (refers key stamp tick gain ∷ one) other a b = (a.0, from_both least one other a.1 b)
-from_both least (strays key gain ∷ one) other a b = from_both least one other a b
-
-before_both : (limit : ℕ) (one other : List HostMention) → AllBefore limit one → AllBefore limit other → AllBefore limit (one ++ other)
-before_both limit [] other a b = b
-before_both limit (refers key stamp tick gain ∷ one) other a b = (a.0, before_both limit one other a.1 b)
-before_both limit (strays key gain ∷ one) other a b = before_both limit one other a b
+stamps_both : (P : ℕ → Type 0) (one other : List HostMention) → AllStamps P one → AllStamps P other → AllStamps P (one ++ other)
+stamps_both P [] other a b = b
+stamps_both P (refers key stamp tick gain ∷ one) other a b = (a.0, stamps_both P one other a.1 b)
+stamps_both P (strays key gain ∷ one) other a b = stamps_both P one other a b
 
 module _ (settings : Counting) where
   -- the mentions of frames of a data source
   abbrev mentions_in : Val → List Seen → List HostMention
   mentions_in source seen = flat_map (mentioned settings) (filter (λ one. is_interface source one.frame.interface) seen)
 
-  from_one : (n m tick : ℕ) (facts : Facts) (pair : Option Pair) → n ≤ m → AllFrom (2 * n) (mentioned_by (2 * m) tick facts pair)
-  from_one n m tick facts None le = tt
-  from_one n m tick facts (Some pair) le = go facts.good
+  stamps_one : (P : ℕ → Type 0) (stamp tick : ℕ) (facts : Facts) (pair : Option Pair) → P stamp → P (stamp + 1) → AllStamps P (mentioned_by stamp tick facts pair)
+  stamps_one P stamp tick facts None first second = tt
+  stamps_one P stamp tick facts (Some pair) first second = go facts.good
     where
-      go : (good : Bool) → AllFrom (2 * n) (cond good (refers pair.dest (2 * m + 1) tick (gain_in facts) ∷ refers pair.source (2 * m) tick (gain_out facts) ∷ []) (strays pair.source (gain_out facts) ∷ []))
-      go true = (omega arith, (omega arith, tt))
-      go false = tt
-
-  before_one : (n m tick : ℕ) (facts : Facts) (pair : Option Pair) → m < n → AllBefore (2 * n) (mentioned_by (2 * m) tick facts pair)
-  before_one n m tick facts None lt = tt
-  before_one n m tick facts (Some pair) lt = go facts.good
-    where
-      go : (good : Bool) → AllBefore (2 * n) (cond good (refers pair.dest (2 * m + 1) tick (gain_in facts) ∷ refers pair.source (2 * m) tick (gain_out facts) ∷ []) (strays pair.source (gain_out facts) ∷ []))
-      go true = (omega arith, (omega arith, tt))
+      go : (good : Bool) → AllStamps P (cond good (refers pair.dest (stamp + 1) tick (gain_in facts) ∷ refers pair.source stamp tick (gain_out facts) ∷ []) (strays pair.source (gain_out facts) ∷ []))
+      go true = (second, (first, tt))
       go false = tt
 
   -- what is so of no mentions, of those of two runs and of those of each frame is so of those of all frames of a data source
@@ -73,17 +60,17 @@ module _ (settings : Counting) where
 
     from_seen : (source : Val) (seen : List Seen) → AreLater from seen → AllFrom least (mentions_in source seen)
     from_seen =
-        of_seen (AllFrom least) tt (from_both least) (λ one. (length from ≤ length one.before) × (length (frames_in from) ≤ length (frames_in one.before)))
+        of_seen (AllFrom least) tt (stamps_both (λ stamp. least ≤ stamp)) (λ one. (length from ≤ length one.before) × (length (frames_in from) ≤ length (frames_in one.before)))
         (λ one later.
         let facts = frame_facts settings one.frame in
-        from_one (length (frames_in from)) (length (frames_in one.before)) (one.frame.moment / 10) facts facts.pair later.1)
+        stamps_one (λ stamp. least ≤ stamp) (2 * length (frames_in one.before)) (one.frame.moment / 10) facts facts.pair (omega (arith, later.1)) (omega (arith, later.1)))
 
     before_seen : (source : Val) (seen : List Seen) → AllByRecursion (IsEarlier from) seen → AllBefore least (mentions_in source seen)
     before_seen =
-        of_seen (AllBefore least) tt (before_both least) (IsEarlier from)
+        of_seen (AllBefore least) tt (stamps_both (λ stamp. stamp < least)) (IsEarlier from)
         (λ one earlier.
         let facts = frame_facts settings one.frame in
-        before_one (length (frames_in from)) (length (frames_in one.before)) (one.frame.moment / 10) facts facts.pair earlier.1)
+        stamps_one (λ stamp. stamp < least) (2 * length (frames_in one.before)) (one.frame.moment / 10) facts facts.pair (omega (arith, earlier.1)) (omega (arith, earlier.1)))
 
   mentions_both : (source : Val) (one other : List Seen) → mentions_in source (one ++ other) ≡ mentions_in source one ++ mentions_in source other
   mentions_both source one other =

@@ -3,15 +3,13 @@ use Rattle.std.proofs.Common.{◌≡◌, ℕ, ◌≤◌, zero, suc, Bool, true, 
 use Rattle.std.specs.List.{list_any}
 use Rattle.std.proofs.lemmas.Bool.{cases_Bool, true≢false}
 use Rattle.rm_evicting.specs.Mention.{Mention, refers, strays, keys}
-use Rattle.rm_evicting.specs.Held.{IsExact, distinct, held, is_arrival, entry, since_entry}
+use Rattle.rm_evicting.specs.Held.{IsExact, distinct, held, is_arrival, entry, since_entry, AllStamps}
 use Rattle.rm_evicting.proofs.Recency.{held_first, absent_sooner, distinct-apart, first-out, first-in}
 
 module _ {K C : Type 0} where
   -- no stamp is below this one
   abbrev pub AllFrom : ℕ → List (Mention K C) → Type 0
-  AllFrom least [] = Unit {0}
-  AllFrom least (refers key stamp tick gain ∷ earlier) = (least ≤ stamp) × AllFrom least earlier
-  AllFrom least (strays key gain ∷ earlier) = AllFrom least earlier
+  AllFrom least = AllStamps (λ stamp. least ≤ stamp)
 
 module _ {K : Type 0} (eq : K → K → Bool) (exact : IsExact eq) where
   -- what is among the first keys is among more of them

@@ -1,5 +1,4 @@
 mod Leasts
-pub mod Later
 pub mod Counting
 pub mod Ranks
 pub mod ExampleFrames

@@ -15,7 +15,7 @@ use Rattle.rm_keyed.specs.TwoTables.{cells_of_two, alone_of_two}
 use Rattle.rm_collect.specs.Collection.{Collection}
 use Rattle.rm_collect.specs.declared.sampled_tables.SampledTables.TheVariants.{AllTables}
 use Rattle.rm_sourced.specs.declared.sourced.Sourced.{Sourced}
-use Rattle.rm_sourced.specs.Sourcing.{Sourcing, Takes, IsSourced, control_table}
+use Rattle.rm_sourced.specs.Sourcing.{Sourcing, IsReady, Takes, IsSourced, control_table}
 use Rattle.rm_sourced.specs.Shown.{ShownTable, kept_table, table_after}
 
 -- what the columns of the control table show beside the index that can't be set, by the parts
@@ -37,7 +37,7 @@ module _ (entry : TableEntry) {K C R : Type 0} (sourcing : Sourcing K C R) (firs
     suits = λ shared settings journal. sourcing.room settings ≡ room_in shared;
     in_range = λ columns. Unit {0};
     in_range_prop = λ columns one other d. tt;
-    fits = λ last frames part. sourcing.is_ready (2 * frames) last part.rows;
+    fits = λ last frames part. IsReady sourcing (2 * frames) last part.rows;
     is_of = IsSourced entry sourcing;
     has_begun = λ settings act earlier. IsSourced entry sourcing settings (act ∷ earlier);
     judges = λ settings journal frame judged. Unit {0};

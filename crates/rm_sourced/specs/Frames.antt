@@ -14,7 +14,7 @@ use Rattle.rm_keyed.specs.SourceControl.{TableEntry, source_control}
 use Rattle.rm_keyed.proofs.MentionLaws.{mentions_passed}
 use Rattle.rm_collect.specs.Rows.{GoesOn}
 use Rattle.rm_sourced.specs.declared.sourced.Sourced.{Sourced}
-use Rattle.rm_sourced.specs.Sourcing.{Sourcing, Takes, IsSourced, mentions_of, seen_mentions, taken_from}
+use Rattle.rm_sourced.specs.Sourcing.{Sourcing, Means, Takes, IsSourced, mentions_of, seen_mentions, taken_from}
 
 module _ (entry : TableEntry) {K C R : Type 0} (sourcing : Sourcing K C R) where
   -- a frame
@@ -39,7 +39,7 @@ module _ (entry : TableEntry) {K C R : Type 0} (sourcing : Sourcing K C R) where
     one_frame takes = record {
       source = ap (λ n. name (interface_name n)) takes.source ∙ is.source;
       capacity = takes.capacity ∙ is.capacity;
-      means = subst (λ (mentions : List (Mention K C)). sourcing.means mentions new.rows) (sym says_more) (takes.means (mentions_of entry sourcing settings journal row) is.means);
+      means = subst (λ (mentions : List (Mention K C)). Means sourcing mentions new.rows) (sym says_more) (takes.means (mentions_of entry sourcing settings journal row) is.means);
     }
 
   -- an act that is no frame
@@ -47,7 +47,7 @@ module _ (entry : TableEntry) {K C R : Type 0} (sourcing : Sourcing K C R) where
   goes_on settings earlier later row part going is = record {
     source = is.source ∙ sym (going.set 2 refl refl);
     capacity = is.capacity;
-    means = subst (λ (mentions : List (Mention K C)). sourcing.means mentions part.rows) (sym same) is.means;
+    means = subst (λ (mentions : List (Mention K C)). Means sourcing mentions part.rows) (sym same) is.means;
   }
     where
       same : mentions_of entry sourcing settings later row ≡ mentions_of entry sourcing settings earlier row

@@ -1,5 +1,5 @@
 -- The laws of what the valid rows of such a control table collect.
-use Rattle.std.proofs.Common.{◌≡◌, ℕ, ◌+◌, ◌*◌, List, [], ◌∷◌, cond, Option, Some, None, refl, subst, nat_eq, option_map, arith}
+use Rattle.std.proofs.Common.{◌≡◌, ℕ, ◌+◌, ◌*◌, List, [], ◌∷◌, cond, Option, Some, None, refl, nat_eq, option_map, arith}
 use Rattle.std.specs.Prelude.{pos}
 use Rattle.std.specs.Option.{option_or}
 use Rattle.std.proofs.Math.Nat.{le_refl}
@@ -18,7 +18,6 @@ use Rattle.rm_status.specs.RowsAfter.{AreRowsAfter}
 use Rattle.rm_status.specs.RowsShown.{with_index, rows_shown}
 use Rattle.rm_status.proofs.RowFacts.{row_there}
 use Rattle.rm_status.proofs.KeptCellsLaws.{same_control_cells}
-use Rattle.rm_evicting.specs.Mention.{Mention}
 use Rattle.rm_pool.specs.declared.slot.Slot.{Slot}
 use Rattle.rm_pool.specs.Slots.{part_in}
 use Rattle.rm_collect.specs.Passed.{Passed}
@@ -26,13 +25,13 @@ use Rattle.rm_collect.specs.Rows.{IsKept}
 use Rattle.rm_collect.specs.Collection.{IsLawful as IsCollectionLawful, kept}
 use Rattle.rm_collect.specs.Turned.{IsByItself}
 use Rattle.rm_keyed.specs.declared.source_columns.SourceColumns.{SourceColumns}
-use Rattle.rm_keyed.specs.Entered.{IsOf}
 use Rattle.rm_keyed.specs.SourceControl.{TableEntry, set_to, source_columns, source_control, source_rows}
 use Rattle.rm_keyed.proofs.MentionLaws.{mentions_idle}
 use Rattle.rm_keyed.proofs.SourceLaws.{AreRowsOf, source_same}
 use Rattle.rm_keyed.proofs.TwoLaws.{all_finite, all_listed, beside_two}
 use Rattle.rm_sourced.specs.declared.sourced.Sourced.{Sourced}
-use Rattle.rm_sourced.specs.Sourcing.{Sourcing, IsSourced, control_other, control_table, mentions_of, seen_mentions}
+use Rattle.rm_sourced.specs.Sourcing.{Sourcing, IsReady, IsSourced, control_other, control_table, mentions_of, seen_mentions}
+use Rattle.rm_sourced.specs.Ready.{may_take_later}
 use Rattle.rm_sourced.specs.Shown.{ShownTable, table_after}
 use Rattle.rm_sourced.specs.Collection.{kept_other, source_tables, source_cells, source_collection}
 use Rattle.rm_sourced.specs.Laws.{AreSourced, IsLawful}
@@ -43,17 +42,14 @@ module _ (entry : TableEntry) {K C R : Type 0} (sourcing : Sourcing K C R) where
   control_finite : (settings : Counting) (journal : Journal) → AreFinite (cells_of (control_table entry sourcing settings journal))
   control_finite settings journal = table_finite (control_table entry sourcing settings journal) (rows_of (source_control entry) journal) (in_rows (source_control entry) journal)
 
-  ready_again : (moment frames : ℕ) (new : R) → sourcing.is_ready (2 * frames + 2) moment new → sourcing.is_ready (2 * (frames + 1)) moment new
-  ready_again moment frames new ready =
-      let same : 2 * frames + 2 ≡ 2 * (frames + 1) = omega arith in
-      subst (λ stamp. sourcing.is_ready stamp moment new) same ready
+  ready_again : (moment frames : ℕ) (new : R) → IsReady sourcing (2 * frames + 2) moment new → IsReady sourcing (2 * (frames + 1)) moment new
+  ready_again moment frames new = may_take_later (2 * frames + 2) (2 * (frames + 1)) moment moment (sourcing.entered new) (omega arith) (le_refl moment)
 
-  module _ (entered : (mentions : List (Mention K C)) (rows : R) → sourcing.means mentions rows → IsOf sourcing.eq sourcing.blank sourcing.plus mentions (sourcing.entered rows))
-      (settings : Counting) (journal : Journal) (parts : List (Slot (Sourced K R))) (are : AreSourced entry sourcing settings journal parts) where
+  module _ (settings : Counting) (journal : Journal) (parts : List (Slot (Sourced K R))) (are : AreSourced entry sourcing settings journal parts) where
     rows_are : (row : ℕ) (o : Option (Sourced K R)) → IsKept (source_control entry) (IsSourced entry sourcing) settings journal row o
         → AreRowsOf sourcing.eq sourcing.blank sourcing.plus (sourcing.room settings) (mentions_of entry sourcing settings journal row) (option_map (λ part. sourcing.entered part.rows) o)
     rows_are row None idle = mentions_idle (source_control entry) (seen_mentions sourcing.mentioned settings) journal row idle
-    rows_are row (Some part) is = (entered (mentions_of entry sourcing settings journal row) part.rows is.1.means, is.1.capacity)
+    rows_are row (Some part) is = (is.1.means, is.1.capacity)
 
     module _ {T : Type 0} (rows : List (Row (SourceColumns T))) (held : AreControlRows (source_control entry) rows) (is : AreRowsAfter (source_control entry) no_rows set_to rows journal) where
       same_other : (column i : ℕ) (row : Row (SourceColumns T)) → row_in rows i ≡ Some row → with_index (kept_other sourcing parts) column (i ∷ []) ≡ with_index (control_other entry sourcing settings journal) column (i ∷ [])
@@ -73,7 +69,7 @@ module _ (entry : TableEntry) {K C R : Type 0} (sourcing : Sourcing K C R) where
         (now : ℕ) (rows : List (Row (SourceColumns T))) (held : AreControlRows (source_control entry) rows) (is : AreRowsAfter (source_control entry) no_rows set_to rows journal) where
       same_cells : (name : List ℕ) → kept (source_rows entry) (source_collection entry sourcing first second room_in) rows parts now name ≡ source_cells entry sourcing first second settings journal name
       unfolding source_rows source_collection
-      same_cells name = λ d. option_or (same_control laws.entered settings journal parts are rows held is name d) (option_or (same_table_after entry sourcing laws.exact first laws.is_first settings journal parts are now name d) (same_table_after entry sourcing laws.exact second laws.is_second settings journal parts are now name d))
+      same_cells name = λ d. option_or (same_control settings journal parts are rows held is name d) (option_or (same_table_after entry sourcing laws.exact first laws.is_first settings journal parts are now name d) (same_table_after entry sourcing laws.exact second laws.is_second settings journal parts are now name d))
 
     shows_listed : (settings : Counting) (journal : Journal) → AreOfObjects (is_listed (source_tables entry sourcing first second)) (source_cells entry sourcing first second settings journal)
     shows_listed settings journal = all_listed (table_after first entry sourcing settings journal) (table_after second entry sourcing settings journal) (control_table entry sourcing settings journal)
@@ -83,7 +79,7 @@ module _ (entry : TableEntry) {K C R : Type 0} (sourcing : Sourcing K C R) where
     source_lawful room_in = record {
       blank_in_range = λ index. tt;
       put_in_range = λ columns column value takes in_range. tt;
-      fits_later = λ last now frames part later. laws.later (2 * frames) (2 * frames) last now part.rows (le_refl (2 * frames)) later;
+      fits_later = λ last now frames part later. may_take_later (2 * frames) (2 * frames) last now (sourcing.entered part.rows) (le_refl (2 * frames)) later;
       fits_taken = λ judged seen frames part new ready takes. ready_again seen.moment frames new.rows takes.ready;
       is_of_taken = λ settings journal row frame judged part new valid judges ready. one_frame entry sourcing settings journal row frame part new valid;
       is_of_sampled = λ settings journal moment alarm reading row part valid. goes_on entry sourcing settings journal (samples moment alarm reading ∷ journal) row part;

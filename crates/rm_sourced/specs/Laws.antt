@@ -4,11 +4,10 @@ use Rattle.rm_model.specs.Counting.{Counting}
 use Rattle.rm_model.specs.Journal.{Journal}
 use Rattle.rm_model.specs.Names.{Below}
 use Rattle.rm_acts.specs.Recurring.{ReadBefore}
-use Rattle.rm_evicting.specs.Mention.{Mention, keys}
+use Rattle.rm_evicting.specs.Mention.{keys}
 use Rattle.rm_evicting.specs.Held.{IsExact, held}
 use Rattle.rm_pool.specs.declared.slot.Slot.{Slot}
 use Rattle.rm_pool.specs.Slots.{part_in}
-use Rattle.rm_keyed.specs.Entered.{IsOf}
 use Rattle.rm_keyed.specs.SourceControl.{TableEntry, source_control}
 use Rattle.rm_collect.specs.Rows.{IsKept}
 use Rattle.rm_sourced.specs.declared.sourced.Sourced.{Sourced}
@@ -32,10 +31,8 @@ module _ (entry : TableEntry) {K C R : Type 0} (sourcing : Sourcing K C R) where
         → (column : ℕ) → table.value_of row part.rows key column ≡ table.value settings journal row key column
 
   pub record IsLawful (first second : ShownTable K R) : Type 0 where
-    -- keys are told apart, the rows are those of the mentions, and a frame may be taken later too
+    -- keys are told apart
     pub exact : IsExact sourcing.eq
-    pub entered : (mentions : List (Mention K C)) (rows : R) → sourcing.means mentions rows → IsOf sourcing.eq sourcing.blank sourcing.plus mentions (sourcing.entered rows)
-    pub later : (stamp next moment now : ℕ) (rows : R) → stamp ≤ next → moment ≤ now → sourcing.is_ready stamp moment rows → sourcing.is_ready next now rows
     -- the tables stand in the order of their entries, and show the rows
     pub control_fits : length entry.numbers ≤ 128
     pub first_below : Below entry.numbers first.listed.entry

@@ -1,7 +1,7 @@
+pub mod Ready
 pub mod Sourcing
 pub mod Held
 pub mod Shown
-pub mod Ready
 pub mod Counters
 pub mod Collection
 pub mod Laws

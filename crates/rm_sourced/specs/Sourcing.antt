@@ -13,9 +13,10 @@ use Rattle.rm_acts.specs.Seen.{Seen}
 use Rattle.rm_status.specs.Rows.{row_number}
 use Rattle.rm_status.specs.RowsShown.{with_index}
 use Rattle.rm_evicting.specs.Mention.{Mention}
-use Rattle.rm_keyed.specs.Entered.{Entered}
+use Rattle.rm_keyed.specs.Entered.{Entered, IsOf}
 use Rattle.rm_keyed.specs.Mentions.{mentions_since}
 use Rattle.rm_sourced.specs.declared.sourced.Sourced.{Sourced}
+use Rattle.rm_sourced.specs.Ready.{MayTake}
 use Rattle.rm_keyed.specs.SourceControl.{TableEntry, source_columns, source_control, source_other}
 
 -- What a frame that was seen mentions, by what a frame mentions with its stamp, its tick and its facts. It has two stamps for each frame
@@ -37,22 +38,26 @@ pub record Sourcing (K C R : Type 0) : Type 1 where
   pub mentioned : (stamp tick : ℕ) → Facts → List (Mention K C)
   -- the rows by their keys
   pub entered : R → Entered K C
-  -- these are the mentions so far, the newest first
-  pub means : List (Mention K C) → R → Type 0
-  -- a frame may be taken that passes at a moment, and whose first reference has that stamp
-  pub is_ready : (stamp moment : ℕ) → R → Type 0
 
 module _ {K C R : Type 0} (sourcing : Sourcing K C R) where
+  -- these are the mentions so far, the newest first
+  abbrev pub Means : List (Mention K C) → R → Type 0
+  Means mentions rows = IsOf sourcing.eq sourcing.blank sourcing.plus mentions (sourcing.entered rows)
+
+  -- a frame may be taken that passes at a moment, and whose first reference has that stamp
+  abbrev pub IsReady : (stamp moment : ℕ) → R → Type 0
+  IsReady stamp moment rows = MayTake stamp moment (sourcing.entered rows)
+
   -- what a frame mentions to the row whose data source is that interface
   abbrev pub taken_from : (source stamp tick : ℕ) → Facts → List (Mention K C)
   taken_from source stamp tick facts = if nat_eq source facts.interface then sourcing.mentioned stamp tick facts else []
 
   -- the rows of a data source took a frame
   pub record Takes (facts : Facts) (stamp moment : ℕ) (part new : Sourced K R) : Type 0 where
-    pub means : (mentions : List (Mention K C)) → sourcing.means mentions part.rows → sourcing.means (taken_from part.source stamp (moment / 10) facts ++ mentions) new.rows
+    pub means : (mentions : List (Mention K C)) → Means mentions part.rows → Means (taken_from part.source stamp (moment / 10) facts ++ mentions) new.rows
     pub source : new.source ≡ part.source
     pub capacity : (sourcing.entered new.rows).rows.capacity ≡ (sourcing.entered part.rows).rows.capacity
-    pub ready : sourcing.is_ready (stamp + 2) moment new.rows
+    pub ready : IsReady (stamp + 2) moment new.rows
 
 -- for the control table with an entry
 module _ (entry : TableEntry) {K C R : Type 0} (sourcing : Sourcing K C R) where
@@ -64,7 +69,7 @@ module _ (entry : TableEntry) {K C R : Type 0} (sourcing : Sourcing K C R) where
   pub record IsSourced (settings : Counting) (journal : Journal) (row : ℕ) (part : Sourced K R) : Type 0 where
     pub source : name (interface_name part.source) ≡ value_of (source_control entry) no_rows journal (row ∷ []) 2
     pub capacity : (sourcing.entered part.rows).rows.capacity ≡ sourcing.room settings
-    pub means : sourcing.means (mentions_of settings journal row) part.rows
+    pub means : Means sourcing (mentions_of settings journal row) part.rows
 
   -- what the columns of the control table show beside the index that can't be set: how many rows are held, and when one last gave way to
   -- another; 0 in a row that isn't valid

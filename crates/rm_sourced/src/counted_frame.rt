@@ -20,9 +20,9 @@ pub(crate) struct CountedFrame<'a> {
 }
 
 impl<K: Key, R: SourceRows<K>> Change<Sourced<K, R>> for CountedFrame<'_> {
-    ghost use Rattle.rm_sourced.specs.Sourcing.{Takes};
+    ghost use Rattle.rm_sourced.specs.Sourcing.{IsReady, Takes};
 
-    ghost allows = { λ s row part. R.sourcing.is_ready s.stamp s.moment part.rows };
+    ghost allows = { λ s row part. IsReady R.sourcing s.stamp s.moment part.rows };
 
     ghost makes = { λ s row part new. Takes R.sourcing s.facts.now s.stamp s.moment part new };
 

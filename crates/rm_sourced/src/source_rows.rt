@@ -5,7 +5,7 @@ ghost use Rattle.rm_model.specs.Counting.{Counting};
 ghost use Rattle.rm_model.specs.Journal.{Journal};
 ghost use Rattle.rm_group.specs.Listed.{tables_of};
 ghost use Rattle.rm_evicting.specs.Mention.{Mention};
-ghost use Rattle.rm_sourced.specs.Sourcing.{Sourcing};
+ghost use Rattle.rm_sourced.specs.Sourcing.{Sourcing, Means, IsReady};
 ghost use Rattle.rm_sourced.specs.Shown.{shown_by};
 ghost use Rattle.rm_sourced.specs.Collection.{source_tables};
 ghost use Rattle.rm_sourced.specs.Laws.{IsLawful};
@@ -46,18 +46,18 @@ pub trait SourceRows<K: Key>: SourceTable + Part {
 
     /// Begins anew, without rows.
     fn begin(&mut self, room: &Self::Room)
-        ensures nothing { sourcing.means [] self.new }
+        ensures nothing { Means sourcing [] self.new }
         ensures capacity { (sourcing.entered self.new).rows.capacity ≡ room_in room.now }
-        ensures ready { (stamp moment : ℕ) → sourcing.is_ready stamp moment self.new };
+        ensures ready { (stamp moment : ℕ) → IsReady sourcing stamp moment self.new };
 
     /// Takes a frame of the data source that passed at a moment in milliseconds. Its first reference has this stamp, and a second one the next.
     fn take(&mut self, facts: &Facts, moment: u32, stamp: u64)
-        requires ready { sourcing.is_ready stamp moment self.old }
+        requires ready { IsReady sourcing stamp moment self.old }
         requires fits { stamp + 2 < 2 ^ 64 }
-        ensures means { (mentions : List (Mention K Self.Counts)) → sourcing.means mentions self.old
-            → sourcing.means (sourcing.mentioned stamp (moment / 10) facts.now ++ mentions) self.new }
+        ensures means { (mentions : List (Mention K Self.Counts)) → Means sourcing mentions self.old
+            → Means sourcing (sourcing.mentioned stamp (moment / 10) facts.now ++ mentions) self.new }
         ensures capacity { (sourcing.entered self.new).rows.capacity ≡ (sourcing.entered self.old).rows.capacity }
-        ensures ready { sourcing.is_ready (stamp + 2) moment self.new };
+        ensures ready { IsReady sourcing (stamp + 2) moment self.new };
 
     /// The rows by their keys.
     fn entered(&self) -> &Keyed<K, Self::Counts>

@@ -1,7 +1,7 @@
 // What is kept of a control row that asks for what frames of a data source enter.
 ghost use Rattle.std.specs.Prelude.{◌≡◌, ◌+◌, ◌/◌, ◌<◌, ◌^◌, List, ◌++◌};
 ghost use Rattle.rm_evicting.specs.Mention.{Mention};
-ghost use Rattle.rm_sourced.specs.Sourcing.{taken_from};
+ghost use Rattle.rm_sourced.specs.Sourcing.{Means, IsReady, taken_from};
 
 use crate::source_rows::SourceRows;
 use rm_evicting::Key;
@@ -37,13 +37,13 @@ impl<K: Key, R: SourceRows<K>> Sourced<K, R> {
     /// Takes a frame that passed at a moment in milliseconds, where it is of the interface. Its first reference has this stamp, and a second
     /// one the next.
     pub fn take(&mut self, facts: &Facts, moment: u32, stamp: u64)
-        requires ready { R.sourcing.is_ready stamp moment self.old.rows }
+        requires ready { IsReady R.sourcing stamp moment self.old.rows }
         requires fits { stamp + 2 < 2 ^ 64 }
-        ensures means { (mentions : List (Mention K R.Counts)) → R.sourcing.means mentions self.old.rows
-            → R.sourcing.means (taken_from R.sourcing self.old.source stamp (moment / 10) facts.now ++ mentions) self.new.rows }
+        ensures means { (mentions : List (Mention K R.Counts)) → Means R.sourcing mentions self.old.rows
+            → Means R.sourcing (taken_from R.sourcing self.old.source stamp (moment / 10) facts.now ++ mentions) self.new.rows }
         ensures source { self.new.source ≡ self.old.source }
         ensures capacity { (R.sourcing.entered self.new.rows).rows.capacity ≡ (R.sourcing.entered self.old.rows).rows.capacity }
-        ensures ready { R.sourcing.is_ready (stamp + 2) moment self.new.rows }
+        ensures ready { IsReady R.sourcing (stamp + 2) moment self.new.rows }
     {
         if facts.interface == self.source {
             self.rows.take(facts, moment, stamp);

@@ -1,21 +1,11 @@
-use Rattle.std.proofs.Common.{◌≡◌, ℕ, List, true, Option, Some, None, option_map}
-use Rattle.std.specs.Prelude.{is_some}
+use Rattle.std.proofs.Common.{◌≡◌, true}
 use Rattle.std.specs.Ordering.{nat_cmp, is_lt}
 use Rattle.std.specs.Cmp.Lexicographic.{slice_cmp}
-use Rattle.std.specs.Option.{option_or}
-use Rattle.rm_val.specs.Val.{Val, val_of}
-use Rattle.rm_model.specs.Names.{Below}
-use Rattle.rm_model.specs.Cells.{Cells, IsNext, cells_of}
+use Rattle.rm_val.specs.Val.{val_of}
+use Rattle.rm_model.specs.Cells.{cells_of}
 use Rattle.rm_nested.specs.InnerTable.{inner_table}
-use Rattle.rm_group.specs.Least.{AreFrom}
-use Rattle.rm_group.proofs.Leasts.{is_below, first_before, table_from}
+use Rattle.rm_group.proofs.Leasts.{is_below, found_first, table_from}
 use Rattle.rm_keyed.proofs.two_tables.next_of_two.Goals as goal
-
-found_first : {A : Type 0} (shown : A → Val) (cells others : Cells) (asked found least : List ℕ) (value : Option A) → true ≡ is_some value
-    → IsNext cells asked (option_map shown value) found → Below found least → AreFrom least others
-    → IsNext (λ name. option_or (cells name) (others name)) asked (option_map shown value) found
-found_first shown cells others asked found least None there next under from = absurd (cc)
-found_first shown cells others asked found least (Some value) there next under from = first_before cells others asked found least (shown value) next under from
 
 pub returns-then-is_lt-clause-next : goal.returns-then-is_lt-clause-next
 returns-then-is_lt-clause-next g c =

@@ -6,8 +6,9 @@ use Rattle.rm_keyed.specs.declared.address_pair.AddressPair.{AddressPair}
 use Rattle.rm_keyed.specs.Addresses.{pair_eq, reversed}
 use Rattle.rm_keyed.proofs.Pairs.{exact_pair}
 use Rattle.rm_keyed.proofs.ReversedKeys.{members_reversed, found_reversed}
+use Rattle.rm_keyed.specs.Entered.{IsOf}
+use Rattle.rm_matrix.specs.Counts.{no_counts, with_gain}
 use Rattle.rm_matrix.specs.Mentions.{PairMention}
-use Rattle.rm_matrix.specs.Tables.{Means}
 use Rattle.rm_matrix.proofs.Taking.{good_taken, bad_taken}
 use Rattle.rm_matrix.proofs.matrix_rows.MatrixRowsSourceRowsAddressPair.take.Goals as goal
 
@@ -35,13 +36,13 @@ invariant_of-self c =
 pub returns-then-facts-clause-means : goal.returns-then-facts-clause-means
 returns-then-facts-clause-means c mentions means =
     let facts = c.args.facts.now in
-    subst (λ (said : List PairMention). Means said c.refer-touch.new.self)
+    subst (λ (said : List PairMention). IsOf pair_eq no_counts with_gain said c.refer-touch.new.self)
     (good_taken c.args.stamp (c.args.moment / 10) facts c.in-Some.addresses c.in-Some.is c.new-pair.result c.new-pair.ensures c.of-gain.result c.of-gain.ensures mentions c.if-facts.true)
     (c.refer-touch.ensures.means mentions means)
 
 pub returns-else-facts-clause-means : goal.returns-else-facts-clause-means
 returns-else-facts-clause-means c mentions means =
     let facts = c.args.facts.now in
-    subst (λ (said : List PairMention). Means said c.stray.new.self)
+    subst (λ (said : List PairMention). IsOf pair_eq no_counts with_gain said c.stray.new.self)
     (bad_taken c.args.stamp (c.args.moment / 10) facts c.in-Some.addresses c.in-Some.is c.new-pair.result c.new-pair.ensures c.of-gain.result c.of-gain.ensures mentions c.if-facts.false)
     (c.stray.ensures.means mentions means)
