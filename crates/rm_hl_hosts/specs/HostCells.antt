@@ -8,9 +8,7 @@ use Rattle.rm_model.specs.Cells.{Cells, Table, cells_of}
 use Rattle.rm_keyed.specs.TwoTables.{cells_of_two}
 use Rattle.rm_layer_tables.specs.Addresses.{address_form}
 use Rattle.rm_layer_tables.specs.ControlCells.{control_table as layer_table}
-use Rattle.rm_layer_tables.specs.Held.{network_rows, application_rows}
-use Rattle.rm_layer_tables.specs.Indexes.{network_place, application_place}
-use Rattle.rm_layer_tables.specs.Tables.{marked_table}
+use Rattle.rm_layer_tables.specs.Tables.{networks_after, applications_after}
 use Rattle.rm_hl_hosts.specs.Hosts.{host_layer, nl_host, al_host}
 
 -- hlHostControl after a journal
@@ -19,10 +17,10 @@ control_table settings journal = layer_table host_layer bytes_eq settings journa
 
 -- nlHost, and alHost, at a moment in milliseconds
 abbrev pub network_table : Counting → Journal → (now : ℕ) → Table
-network_table settings journal now = marked_table nl_host (network_place address_form) (network_rows host_layer bytes_eq settings journal) now
+network_table settings journal now = networks_after host_layer bytes_eq address_form nl_host settings journal now
 
 abbrev pub application_table : Counting → Journal → (now : ℕ) → Table
-application_table settings journal now = marked_table al_host (application_place address_form) (application_rows host_layer bytes_eq settings journal) now
+application_table settings journal now = applications_after host_layer bytes_eq address_form al_host settings journal now
 
 -- and all three tables
 abbrev pub host_cells : Counting → Journal → (now : ℕ) → Cells

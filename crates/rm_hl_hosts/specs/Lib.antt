@@ -4,6 +4,5 @@ pub mod Hosts
 pub mod HostCells
 pub mod HostLaws
 pub mod Collection
-pub mod Going
 pub mod SameCells
 pub mod Lawful

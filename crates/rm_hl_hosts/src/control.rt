@@ -1,7 +1,8 @@
 // hlHostControl.
 
 use rm_group::TableObjects;
-use rm_layer_tables::{LAYER_NUMBERS, LayerColumns, LayerControl};
+use rm_keyed::SourceTable;
+use rm_layer_tables::{LAYER_NUMBERS, LayerColumns};
 
 /// The objects of hlHostControl.
 pub(crate) const CONTROL_OBJECTS: TableObjects = TableObjects {
@@ -16,7 +17,7 @@ pub struct HostControl;
 /// The columns of a row of hlHostControl that can be set.
 pub type HostColumns = LayerColumns<HostControl>;
 
-impl LayerControl for HostControl {
+impl SourceTable for HostControl {
     ghost use Rattle.rm_hl_hosts.specs.Control.{named_entry};
 
     ghost entry = { named_entry };

@@ -3,7 +3,6 @@
 
 mod control;
 mod counted_frame;
-mod frames;
 mod hosts;
 mod part;
 mod view;

@@ -4,7 +4,6 @@ pub mod Pairs
 pub mod PairCells
 pub mod PairLaws
 pub mod Collection
-pub mod Going
 pub mod SameCells
 pub mod Listing
 pub mod Lawful

@@ -1,15 +1,12 @@
 -- Each cell of the tables of pairs has a name that begins with an object of theirs, and what can't be set is notWritable.
-use Rattle.std.proofs.Common.{◌≡◌, ℕ, [], ◌∷◌, Bool, true, false, ◌||◌, Option, Some, None, refl, sym, ◌∙◌, inl, inr}
-use Rattle.std.specs.Prelude.{◌⊎◌}
+use Rattle.std.proofs.Common.{◌≡◌, ℕ, [], ◌∷◌, Bool, true, false, ◌||◌, refl, sym, ◌∙◌}
 use Rattle.std.specs.Option.{option_or}
-use Rattle.rm_val.specs.declared.error.ErrorStatus.{ErrorStatus}
-use Rattle.rm_val.specs.declared.error.ErrorStatus.TheVariants.{NotWritable}
 use Rattle.rm_model.specs.Counting.{Counting}
 use Rattle.rm_model.specs.Journal.{Journal}
 use Rattle.rm_model.specs.Cells.{cells_of, is_of_column}
 use Rattle.rm_model.specs.Judgement.{alone_fault, place_of}
 use Rattle.rm_group.specs.Alone.{read_only}
-use Rattle.rm_group.specs.Listed.{AreOfObjects, AreRefused, is_listed, is_settable, with_table, of_table, both_of_objects, both_refused, read_only_listed}
+use Rattle.rm_group.specs.Listed.{AreOfObjects, AreRefused, is_listed, is_settable, with_table, of_table, both_of_objects, both_refused, further_refused, read_only_listed}
 use Rattle.rm_keyed.specs.TwoTables.{alone_of_two}
 use Rattle.rm_keyed.proofs.TwoLaws.{beside_two}
 use Rattle.rm_layer_tables.specs.Columns.{control_columns}
@@ -49,27 +46,12 @@ module _ (settings : Counting) (journal : Journal) (now : ℕ) where
       with_table (control_table settings journal) (listed nl_matrix_sd ∷ listed nl_matrix_ds ∷ listed al_matrix_sd ∷ listed al_matrix_ds ∷ [])
       (λ name. option_or (network_cells settings journal now name) (application_cells settings journal now name)) inner_listed
 
-abbrev Refused : Bool → Option ErrorStatus → Type 0
-Refused listed fault = (fault ≡ Some NotWritable) ⊎ ((listed ≡ false) × (fault ≡ None))
-
-moved : (a b : Bool) (fault other : Option ErrorStatus) → a ≡ b → fault ≡ other → Refused a fault → Refused b other
-moved a b fault other same alike (inl is) = inl (sym alike ∙ is)
-moved a b fault other same alike (inr off) = inr (sym same ∙ off.0, sym alike ∙ off.1)
-
 all_joined : (a b c d e : Bool) → ((a || (b || (c || false))) || ((d || false) || (e || false))) ≡ (a || (b || (c || (d || (e || false)))))
 all_joined true b c d e = refl
 all_joined false true c d e = refl
 all_joined false false true d e = refl
 all_joined false false false true e = refl
 all_joined false false false false e = refl
-
-together : (a b c : Option ErrorStatus) → option_or (option_or a b) c ≡ option_or a (option_or b c)
-together None b c = refl
-together (Some x) b c = refl
-
-or_false : (a : Bool) → a ≡ false → (a || false) ≡ false
-or_false true h = h
-or_false false h = refl
 
 applications_refused : AreRefused (λ name. is_listed (listed al_matrix_sd ∷ []) name || is_listed (listed al_matrix_ds ∷ []) name) (λ name. false) (alone_of_two (listed al_matrix_sd) (listed al_matrix_ds))
 applications_refused =
@@ -79,15 +61,11 @@ applications_refused =
 
 pub all_refused : AreRefused (is_listed pair_tables) (is_settable (layer_control control_entry))
     (λ name value. option_or (alone_fault (layer_control control_entry) (place_of (layer_control control_entry) name) value) (inner_alone name value))
-all_refused name value none =
-    moved _ _ _ _
-    (all_joined (is_of_column control_entry control_columns name) (is_of_column nl_matrix_sd.entry nl_matrix_sd.columns name) (is_of_column nl_matrix_ds.entry nl_matrix_ds.columns name)
+all_refused =
+    further_refused (is_listed (record { entry = control_entry; columns = control_columns } ∷ listed nl_matrix_sd ∷ listed nl_matrix_ds ∷ []))
+    (λ name. is_listed (listed al_matrix_sd ∷ []) name || is_listed (listed al_matrix_ds ∷ []) name) (is_listed pair_tables) (is_settable (layer_control control_entry))
+    (λ name value. alone_fault (layer_control control_entry) (place_of (layer_control control_entry) name) value)
+    (alone_of_two (listed nl_matrix_sd) (listed nl_matrix_ds)) (alone_of_two (listed al_matrix_sd) (listed al_matrix_ds))
+    (λ name. all_joined (is_of_column control_entry control_columns name) (is_of_column nl_matrix_sd.entry nl_matrix_sd.columns name) (is_of_column nl_matrix_ds.entry nl_matrix_ds.columns name)
     (is_of_column al_matrix_sd.entry al_matrix_sd.columns name) (is_of_column al_matrix_ds.entry al_matrix_ds.columns name))
-    (together (alone_fault (layer_control control_entry) (place_of (layer_control control_entry) name) value) (alone_of_two (listed nl_matrix_sd) (listed nl_matrix_ds) name value)
-    (alone_of_two (listed al_matrix_sd) (listed al_matrix_ds) name value))
-    (both_refused (is_listed (record { entry = control_entry; columns = control_columns } ∷ listed nl_matrix_sd ∷ listed nl_matrix_ds ∷ []))
-    (λ name. is_listed (listed al_matrix_sd ∷ []) name || is_listed (listed al_matrix_ds ∷ []) name) (is_settable (layer_control control_entry)) (λ name. false)
-    (λ name value. option_or (alone_fault (layer_control control_entry) (place_of (layer_control control_entry) name) value) (alone_of_two (listed nl_matrix_sd) (listed nl_matrix_ds) name value))
-    (alone_of_two (listed al_matrix_sd) (listed al_matrix_ds))
     (beside_two (layer_control control_entry) control_columns (listed nl_matrix_sd) (listed nl_matrix_ds)) applications_refused
-    name value (or_false (is_settable (layer_control control_entry) name) none))

@@ -10,10 +10,8 @@ use Rattle.rm_layer_matrices.specs.AddressPairs.{pair_eq}
 use Rattle.rm_layer_matrices.specs.declared.pair_counts.PairCounts.{PairCounts}
 use Rattle.rm_layer_tables.specs.Addresses.{pair_form}
 use Rattle.rm_layer_tables.specs.ControlCells.{control_table as layer_table}
-use Rattle.rm_layer_tables.specs.Held.{network_rows, application_rows}
-use Rattle.rm_layer_tables.specs.Indexes.{network_place, application_place}
 use Rattle.rm_layer_tables.specs.Layer.{Layer}
-use Rattle.rm_layer_tables.specs.Tables.{MarkedTable, marked_table}
+use Rattle.rm_layer_tables.specs.Tables.{MarkedTable, networks_after, applications_after}
 use Rattle.rm_hl_matrices.specs.Pairs.{Pair, source_layer, destination_layer, nl_matrix_sd, nl_matrix_ds, al_matrix_sd, al_matrix_ds}
 
 -- whether two pairs of addresses are one
@@ -26,10 +24,10 @@ control_table settings journal = layer_table source_layer same_pair settings jou
 
 -- a table of pairs, and one of their protocols, at a moment in milliseconds
 abbrev pub pairs_table : Layer Pair PairCounts → MarkedTable PairCounts → Counting → Journal → (now : ℕ) → Table
-pairs_table layer table settings journal now = marked_table table (network_place pair_form) (network_rows layer same_pair settings journal) now
+pairs_table layer table settings journal now = networks_after layer same_pair pair_form table settings journal now
 
 abbrev pub protocols_table : Layer Pair PairCounts → MarkedTable PairCounts → Counting → Journal → (now : ℕ) → Table
-protocols_table layer table settings journal now = marked_table table (application_place pair_form) (application_rows layer same_pair settings journal) now
+protocols_table layer table settings journal now = applications_after layer same_pair pair_form table settings journal now
 
 -- the cells of the network layer, and of the application layer
 abbrev pub network_cells : Counting → Journal → (now : ℕ) → Cells

@@ -30,28 +30,23 @@ source_layer = record { control = control_entry; kind = Matrices; named = source
 abbrev pub destination_layer : Layer Pair PairCounts
 destination_layer = record { control = control_entry; kind = Matrices; named = destination_first }
 
--- the tables of pairs
-abbrev pub nl_source_entry : List ℕ
-nl_source_entry = 1 ∷ 3 ∷ 6 ∷ 1 ∷ 2 ∷ 1 ∷ 16 ∷ 15 ∷ 2 ∷ 1 ∷ []
+-- a table of pairs, and one of the protocols above ip that they use, by its entry
+abbrev pub table_of_pairs : (entry : List ℕ) → MarkedTable PairCounts
+table_of_pairs entry = record { entry = entry; columns = network_columns; created = 6; count = network_count }
 
+abbrev pub table_of_protocols : (entry : List ℕ) → MarkedTable PairCounts
+table_of_protocols entry = record { entry = entry; columns = application_columns; created = 4; count = application_count }
+
+-- by source and destination
 abbrev pub nl_matrix_sd : MarkedTable PairCounts
-nl_matrix_sd = record { entry = nl_source_entry; columns = network_columns; created = 6; count = network_count }
-
-abbrev pub nl_destination_entry : List ℕ
-nl_destination_entry = 1 ∷ 3 ∷ 6 ∷ 1 ∷ 2 ∷ 1 ∷ 16 ∷ 15 ∷ 3 ∷ 1 ∷ []
-
-abbrev pub nl_matrix_ds : MarkedTable PairCounts
-nl_matrix_ds = record { entry = nl_destination_entry; columns = network_columns; created = 6; count = network_count }
-
--- and those of the protocols above ip that they use
-abbrev pub al_source_entry : List ℕ
-al_source_entry = 1 ∷ 3 ∷ 6 ∷ 1 ∷ 2 ∷ 1 ∷ 16 ∷ 17 ∷ 1 ∷ 1 ∷ []
+nl_matrix_sd = table_of_pairs (1 ∷ 3 ∷ 6 ∷ 1 ∷ 2 ∷ 1 ∷ 16 ∷ 15 ∷ 2 ∷ 1 ∷ [])
 
 abbrev pub al_matrix_sd : MarkedTable PairCounts
-al_matrix_sd = record { entry = al_source_entry; columns = application_columns; created = 4; count = application_count }
+al_matrix_sd = table_of_protocols (1 ∷ 3 ∷ 6 ∷ 1 ∷ 2 ∷ 1 ∷ 16 ∷ 17 ∷ 1 ∷ 1 ∷ [])
 
-abbrev pub al_destination_entry : List ℕ
-al_destination_entry = 1 ∷ 3 ∷ 6 ∷ 1 ∷ 2 ∷ 1 ∷ 16 ∷ 17 ∷ 2 ∷ 1 ∷ []
+-- and by destination and source
+abbrev pub nl_matrix_ds : MarkedTable PairCounts
+nl_matrix_ds = table_of_pairs (1 ∷ 3 ∷ 6 ∷ 1 ∷ 2 ∷ 1 ∷ 16 ∷ 15 ∷ 3 ∷ 1 ∷ [])
 
 abbrev pub al_matrix_ds : MarkedTable PairCounts
-al_matrix_ds = record { entry = al_destination_entry; columns = application_columns; created = 4; count = application_count }
+al_matrix_ds = table_of_protocols (1 ∷ 3 ∷ 6 ∷ 1 ∷ 2 ∷ 1 ∷ 16 ∷ 17 ∷ 2 ∷ 1 ∷ [])

@@ -21,6 +21,7 @@ use Rattle.rm_layer_tables.specs.Addresses.{pair_form}
 use Rattle.rm_layer_tables.specs.Control.{layer_control}
 use Rattle.rm_layer_tables.specs.ControlColumns.{set_to, layer_rows}
 use Rattle.rm_layer_tables.specs.Finite.{control_finite, networks_finite, applications_finite}
+use Rattle.rm_layer_tables.specs.Parts.{IsPart}
 use Rattle.rm_layer_tables.specs.SameCells.{same_control, same_networks, same_applications}
 use Rattle.rm_hl_matrices.specs.declared.control.MatrixControl.{MatrixControl}
 use Rattle.rm_hl_matrices.specs.declared.part.PairPart.{PairPart}
@@ -29,24 +30,24 @@ use Rattle.rm_hl_matrices.specs.Control.{control_entry, control_rows}
 use Rattle.rm_hl_matrices.specs.Pairs.{source_layer, destination_layer, nl_matrix_sd, nl_matrix_ds, al_matrix_sd, al_matrix_ds}
 use Rattle.rm_hl_matrices.specs.PairCells.{same_pair, control_table, pairs_table, protocols_table, network_cells, application_cells, pair_cells}
 use Rattle.rm_hl_matrices.specs.PairLaws.{source_named, destination_named, exact, destinations_held, networks_add, applications_add}
-use Rattle.rm_hl_matrices.specs.Collection.{IsPart, by_source, by_destination, networks_shown, applications_shown, pair_collection}
+use Rattle.rm_hl_matrices.specs.Collection.{by_source, by_destination, pair_parts, networks_shown, applications_shown, pair_collection}
 
-module _ (parts : List (Slot PairPart)) (settings : Counting) (journal : Journal) (are : (row : ℕ) → IsKept (layer_control control_entry) IsPart settings journal row (part_in parts row)) (now : ℕ) where
+module _ (parts : List (Slot PairPart)) (settings : Counting) (journal : Journal) (are : (row : ℕ) → IsKept (layer_control control_entry) (IsPart pair_parts) settings journal row (part_in parts row)) (now : ℕ) where
   same_pairs : (name : List ℕ) → networks_shown parts now name ≡ network_cells settings journal now name
   same_pairs name = λ d. option_or
-      (same_networks source_layer source_named pair_tally same_pair exact pair_form by_source IsPart settings journal (λ row part of. of.pairs) parts are nl_matrix_sd network_count networks_add now name d)
-      (same_networks destination_layer destination_named pair_tally same_pair exact pair_form by_destination IsPart settings journal (λ row part of. destinations_held settings journal row part.pairs of.pairs) parts are nl_matrix_ds network_count networks_add now name d)
+      (same_networks source_layer source_named pair_tally same_pair exact pair_form by_source (IsPart pair_parts) settings journal (λ row part of. of.held) parts are nl_matrix_sd network_count networks_add now name d)
+      (same_networks destination_layer destination_named pair_tally same_pair exact pair_form by_destination (IsPart pair_parts) settings journal (λ row part of. destinations_held settings journal row part.pairs of.held) parts are nl_matrix_ds network_count networks_add now name d)
 
   same_protocols : (name : List ℕ) → applications_shown parts now name ≡ application_cells settings journal now name
   same_protocols name = λ d. option_or
-      (same_applications source_layer source_named pair_tally same_pair exact pair_form by_source IsPart settings journal (λ row part of. of.pairs) parts are al_matrix_sd application_count applications_add now name d)
-      (same_applications destination_layer destination_named pair_tally same_pair exact pair_form by_destination IsPart settings journal (λ row part of. destinations_held settings journal row part.pairs of.pairs) parts are al_matrix_ds application_count applications_add now name d)
+      (same_applications source_layer source_named pair_tally same_pair exact pair_form by_source (IsPart pair_parts) settings journal (λ row part of. of.held) parts are al_matrix_sd application_count applications_add now name d)
+      (same_applications destination_layer destination_named pair_tally same_pair exact pair_form by_destination (IsPart pair_parts) settings journal (λ row part of. destinations_held settings journal row part.pairs of.held) parts are al_matrix_ds application_count applications_add now name d)
 
   module _ (rows : List (Row (LayerColumns MatrixControl))) (held : AreControlRows (layer_control control_entry) rows) (is : AreRowsAfter (layer_control control_entry) no_rows set_to rows journal) where
     pub same_cells : (name : List ℕ) → kept control_rows pair_collection rows parts now name ≡ pair_cells settings journal now name
     unfolding pair_collection layer_rows
     same_cells name = λ d. option_or
-        (same_control source_layer source_named pair_tally same_pair exact pair_form by_source IsPart settings journal (λ row part of. of.pairs) parts are rows held is name d)
+        (same_control source_layer source_named pair_tally same_pair exact pair_form by_source (IsPart pair_parts) settings journal (λ row part of. of.held) parts are rows held is name d)
         (option_or (same_pairs name d) (same_protocols name d))
 
 pub all_finite : (settings : Counting) (journal : Journal) (now : ℕ) → AreFinite (pair_cells settings journal now)

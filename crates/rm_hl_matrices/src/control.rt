@@ -1,7 +1,8 @@
 // hlMatrixControl.
 
 use rm_group::TableObjects;
-use rm_layer_tables::{LAYER_NUMBERS, LayerColumns, LayerControl};
+use rm_keyed::SourceTable;
+use rm_layer_tables::{LAYER_NUMBERS, LayerColumns};
 
 /// The objects of hlMatrixControl.
 pub(crate) const CONTROL_OBJECTS: TableObjects = TableObjects {
@@ -16,7 +17,7 @@ pub struct MatrixControl;
 /// The columns of a row of hlMatrixControl that can be set.
 pub type MatrixColumns = LayerColumns<MatrixControl>;
 
-impl LayerControl for MatrixControl {
+impl SourceTable for MatrixControl {
     ghost use Rattle.rm_hl_matrices.specs.Control.{named_entry};
 
     ghost entry = { named_entry };

@@ -4,7 +4,6 @@
 
 mod control;
 mod counted_frame;
-mod frames;
 mod pairs;
 mod part;
 mod views;

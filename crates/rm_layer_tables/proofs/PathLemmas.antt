@@ -1,10 +1,9 @@
 -- The protocols above ip on a path, by their slots and by the journal.
-use Rattle.std.proofs.Common.{◌≡◌, ℕ, zero, suc, ◌+◌, ◌<◌, ◌≤◌, List, [], ◌∷◌, ◌++◌, length, map, filter, take, cond, nat_eq, ◌||◌, Option, Some, None, option_map, refl, sym, ap, ◌∙◌, arith, inl, inr}
+use Rattle.std.proofs.Common.{◌≡◌, ℕ, zero, suc, ◌+◌, ◌<◌, ◌≤◌, List, [], ◌∷◌, ◌++◌, length, map, filter, take, cond, nat_eq, ◌||◌, Option, Some, None, refl, sym, ap, ◌∙◌, arith, inl, inr}
 use Rattle.std.specs.Prelude.{slice_index}
 use Rattle.std.specs.List.{list_any}
 use Rattle.std.proofs.lemmas.Bool.{cases_Bool}
 use Rattle.std.proofs.lemmas.Bool.Decides.{nat_tests}
-use Rattle.std.proofs.lemmas.Option.{none-some, same_Some}
 use Rattle.rm_model.specs.Journal.{Journal}
 use Rattle.rm_path.specs.declared.identifier.ProtocolIdentifier.{ProtocolIdentifier}
 use Rattle.rm_path.specs.declared.protocol.Protocol.{Protocol}
@@ -13,7 +12,7 @@ use Rattle.rm_path.specs.Slots.{protocol_in, identifier_in}
 use Rattle.rm_dir.specs.DirectoryIndex.{index_with}
 use Rattle.rm_dir.specs.LocalIndexes.{local_index}
 use Rattle.rm_dir.specs.Paths.{AreActiveAfter}
-use Rattle.rm_dir.proofs.LocalLaws.{active_local}
+use Rattle.rm_dir.proofs.LocalLaws.{held_is}
 use Rattle.rm_upper.specs.Kept.{is_among}
 use Rattle.rm_layer_slots.specs.On.{with_local}
 use Rattle.rm_layer_tables.specs.Paths.{local_above, locals_in}
@@ -62,12 +61,9 @@ module _ (journal : Journal) (slots : List (Option Protocol)) (are : AreActiveAf
   above identifier = cond (is_above_ip identifier) (Some (local_of identifier)) None
 
   local_is : (slot : ℕ) (identifier : ProtocolIdentifier) → identifier_in slots slot ≡ Some identifier → local_above (protocol_in slots slot) ≡ above identifier
-  local_is slot identifier here = by_held (protocol_in slots slot) refl here
-    where
-      by_held : (held : Option Protocol) → protocol_in slots slot ≡ held → option_map (λ one. one.identifier) held ≡ Some identifier → local_above held ≡ above identifier
-      by_held None e none = absurd (none-some identifier none)
-      by_held (Some protocol) e named =
-          ap (λ n. cond (is_above_ip protocol.identifier) (Some n) None) (active_local journal protocol.identifier protocol (are.known slot protocol e)) ∙ ap above (same_Some _ _ named)
+  local_is slot identifier here =
+      let it = held_is journal slots are slot identifier here in
+      ap local_above it.1 ∙ (λ d. cond (is_above_ip (it.2 d)) (Some (it.3 d)) None)
 
   filtered : (identifier : ProtocolIdentifier) (protocols : List ProtocolIdentifier) → with_local (above identifier) (map local_of (filter is_above_ip protocols)) ≡ map local_of (filter is_above_ip (identifier ∷ protocols))
   filtered identifier protocols = elim (cases_Bool (is_above_ip identifier)) [ inl e ↦ rw e refl | inr e ↦ rw e refl ]

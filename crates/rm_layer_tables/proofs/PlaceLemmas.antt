@@ -4,7 +4,7 @@ use Rattle.std.specs.Prelude.{slice_index}
 use Rattle.std.proofs.lemmas.Bool.Decides.{nat_tests}
 use Rattle.std.specs.List.{list_all}
 use Rattle.std.proofs.lemmas.Bool.{and_parts}
-use Rattle.std.proofs.lemmas.List.{length-drop, drop-drop, take_all, drop_all, take-append-le, drop-append-le}
+use Rattle.std.proofs.lemmas.List.{length-drop, drop-drop, drop-take, take-take, take_all, drop_all, take-append-le, drop-append-le}
 use Rattle.rm_layer_tables.specs.Indexes.{ip_local, is_address, address_numbers, address_of, KeyForm, with_protocol, application_place}
 use Rattle.rm_layer_tables.specs.Addresses.{pair_of, pair_form}
 
@@ -61,28 +61,13 @@ module _ {K : Type 0} (form : KeyForm K) where
       by_test true e = let same : protocol ≡ ip_local = grind (arith, nat_tests, e) in absurd (other same)
       by_test false e = rw e refl
 
--- ten numbers are five and five
-first_five : (numbers : List ℕ) → take 5 (take 10 numbers) ≡ take 5 numbers
-first_five [] = refl
-first_five (a ∷ []) = refl
-first_five (a ∷ b ∷ []) = refl
-first_five (a ∷ b ∷ c ∷ []) = refl
-first_five (a ∷ b ∷ c ∷ d ∷ []) = refl
-first_five (a ∷ b ∷ c ∷ d ∷ e ∷ more) = refl
-
-next_five : (numbers : List ℕ) → drop 5 (take 10 numbers) ≡ take 5 (drop 5 numbers)
-next_five [] = refl
-next_five (a ∷ []) = refl
-next_five (a ∷ b ∷ []) = refl
-next_five (a ∷ b ∷ c ∷ []) = refl
-next_five (a ∷ b ∷ c ∷ d ∷ []) = refl
-next_five (a ∷ b ∷ c ∷ d ∷ e ∷ more) = refl
-
 -- the pair whose numbers stand in an index from a place on
 pub pair_from : (index : List ℕ) (from : ℕ)
     → pair_form.key_of (take 10 (drop from index)) ≡ pair_of (address_of (take 5 (drop from index))) (address_of (take 5 (drop (from + 5) index)))
 pair_from index from =
-    λ d. pair_of (address_of (first_five (drop from index) d)) (address_of ((next_five (drop from index) ∙ ap (take 5) (drop-drop 5 from index)) d))
+    let first : take 5 (take 10 (drop from index)) ≡ take 5 (drop from index) = take-take 5 10 (drop from index) (omega arith) in
+    let second : drop 5 (take 10 (drop from index)) ≡ take 5 (drop (from + 5) index) = drop-take 5 5 (drop from index) ∙ ap (take 5) (drop-drop 5 from index) in
+    λ d. pair_of (address_of (first d)) (address_of (second d))
 
 -- the numbers of two addresses are those of the pair of them
 pub pair_named : (first second : List ℕ) → is_address first ≡ true → is_address second ≡ true

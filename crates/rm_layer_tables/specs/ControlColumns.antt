@@ -1,5 +1,6 @@
 -- What is kept of a row of hlHostControl, or of hlMatrixControl.
 use Rattle.std.specs.Prelude.{◌≡◌, ℕ, negsuc, [], ◌≤◌, nat_eq, if◌then◌else◌, Option, None, IfSome, refl}
+use Rattle.std.proofs.Props.{props}
 use Rattle.rm_val.specs.Val.{Val, int}
 use Rattle.rm_model.specs.ControlTable.{source_column, owner_column, no_rules}
 use Rattle.rm_model.specs.Indexing.{one_number}
@@ -55,6 +56,9 @@ module _ {T : Type 0} where
   pub record IsInRange (row : LayerColumns T) : Type 0 where
     pub network : IfSome (bound_of (int row.network)) (λ most. 1 ≤ most)
     pub application : IfSome (bound_of (int row.application)) (λ most. 32 ≤ most)
+
+  pub in_range_prop : (row : LayerColumns T) → IsProp (IsInRange row)
+  in_range_prop row = hlevel props
 
 -- they go by one number, and are all alike
 pub layer_keyed : (T : Type 0) (entry : TableEntry) → ((layer_rows {T = T} entry).table.indexing ≡ one_number) × ((layer_rows {T = T} entry).table.rules ≡ no_rules)

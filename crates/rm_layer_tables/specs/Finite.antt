@@ -24,11 +24,11 @@ use Rattle.rm_walk_places.specs.Numbers.{lists_within, in_lists}
 use Rattle.rm_walk_places.proofs.WithinLaws.{test}
 use Rattle.rm_layer_tables.specs.Control.{layer_control, control_state, is_active}
 use Rattle.rm_layer_tables.specs.ControlCells.{control_table}
-use Rattle.rm_layer_tables.specs.Held.{is_active_now, room, seen_events, stands_at, has_row, network_rows, application_rows}
+use Rattle.rm_layer_tables.specs.Held.{MarkedRows, is_active_now, room, seen_events, stands_at, has_row, network_rows, application_rows}
 use Rattle.rm_layer_tables.specs.Indexes.{ip_bounds, KeyForm, IsForm, network_place, application_place}
 use Rattle.rm_layer_tables.specs.Layer.{Layer}
 use Rattle.rm_layer_tables.specs.PlaceLaws.{key_named, protocol_named}
-use Rattle.rm_layer_tables.specs.Tables.{MarkedTable, is_index, marked_table}
+use Rattle.rm_layer_tables.specs.Tables.{MarkedTable, is_index, marked_table, networks_after, applications_after}
 
 module _ {K G : Type 0} where
   -- a number that no tick of some references is above
@@ -95,6 +95,18 @@ joined [] more (number ∷ numbers) others first second = absurd first
 joined (bound ∷ bounds) more [] others first second = absurd first
 joined (bound ∷ bounds) more (number ∷ numbers) others first second = (first.0, first.1, joined bounds more numbers others first.2 second)
 
+-- The cells of a table are finitely many, where each index is that of some control row, with numbers within bounds behind it.
+module _ {X G : Type 0} (place_of : List ℕ → Option (ℕ × X)) (rows : (row : ℕ) → MarkedRows X G) (now : ℕ) (controls : List (List ℕ)) (bounds : (row : ℕ) → List Bounds)
+    (within : (row : ℕ) (numbers : List ℕ) (o : Option (ℕ × X)) → place_of numbers ≡ o → option_map_or (λ place. has_row (rows row) now place.0 place.1) o false ≡ true
+    → Contains controls (row ∷ []) × AreWithin (bounds row) numbers) where
+  marked_finite : (table : MarkedTable G) → AreFinite (cells_of (marked_table table place_of rows now))
+  marked_finite table =
+      table_finite (marked_table table place_of rows now) (nested controls (λ row. lists_within (bounds row)))
+      (λ index is. in_nested (is_index table place_of rows now) controls (λ row. lists_within (bounds row))
+      (λ row numbers has. (within row numbers (place_of numbers) refl has).0)
+      (λ row numbers has. in_lists (bounds row) numbers (test (bounds row) numbers (within row numbers (place_of numbers) refl has).1))
+      index is)
+
 module _ {K G : Type 0} (layer : Layer K G) (eq : K → K → Bool) (settings : Counting) (journal : Journal) where
   abbrev outer : List (List ℕ)
   outer = rows_of (layer_control layer.control) journal
@@ -135,13 +147,8 @@ module _ {K G : Type 0} (layer : Layer K G) (eq : K → K → Bool) (settings : 
         let it = key_named form numbers place e in
         let mark : place.0 ≤ last_mark row = marked_within now place.0 ((network_rows layer eq settings journal row).last place.1) (last_mark row) there.1 (last_within eq place.1 (span (seen_events layer eq settings journal row))) in (row_of row active.0, subst (AreWithin (network_bounds row)) (sym it.named) (omega arith, mark, (omega arith, omega arith, laws.within it.rest place.1 it.is)))
 
-    pub networks_finite : (table : MarkedTable G) → AreFinite (cells_of (marked_table table (network_place form) (network_rows layer eq settings journal) now))
-    networks_finite table =
-        table_finite (marked_table table (network_place form) (network_rows layer eq settings journal) now) (nested outer (λ row. lists_within (network_bounds row)))
-        (λ index is. in_nested (is_index table (network_place form) (network_rows layer eq settings journal) now) outer (λ row. lists_within (network_bounds row))
-        (λ row numbers has. (network_in row numbers (network_place form numbers) refl has).0)
-        (λ row numbers has. in_lists (network_bounds row) numbers (test (network_bounds row) numbers (network_in row numbers (network_place form numbers) refl has).1))
-        index is)
+    pub networks_finite : (table : MarkedTable G) → AreFinite (cells_of (networks_after layer eq form table settings journal now))
+    networks_finite table = marked_finite (network_place form) (network_rows layer eq settings journal) now outer network_bounds network_in table
 
     -- application rows
     abbrev application_bounds : ℕ → List Bounds
@@ -165,10 +172,5 @@ module _ {K G : Type 0} (layer : Layer K G) (eq : K → K → Bool) (settings : 
               (omega arith, mark, (omega arith, omega arith, joined form.bounds (up_to (last_local row) ∷ []) it.rest (place.1.1 ∷ []) (laws.within it.rest place.1.0 it.is) (omega arith, low, tt))),
         )
 
-    pub applications_finite : (table : MarkedTable G) → AreFinite (cells_of (marked_table table (application_place form) (application_rows layer eq settings journal) now))
-    applications_finite table =
-        table_finite (marked_table table (application_place form) (application_rows layer eq settings journal) now) (nested outer (λ row. lists_within (application_bounds row)))
-        (λ index is. in_nested (is_index table (application_place form) (application_rows layer eq settings journal) now) outer (λ row. lists_within (application_bounds row))
-        (λ row numbers has. (application_in row numbers (application_place form numbers) refl has).0)
-        (λ row numbers has. in_lists (application_bounds row) numbers (test (application_bounds row) numbers (application_in row numbers (application_place form numbers) refl has).1))
-        index is)
+    pub applications_finite : (table : MarkedTable G) → AreFinite (cells_of (applications_after layer eq form table settings journal now))
+    applications_finite table = marked_finite (application_place form) (application_rows layer eq settings journal) now outer application_bounds application_in table

@@ -67,6 +67,6 @@ module _ {P K N A : Type 0} (form : KeyForm K) (eq : K → K → Bool) (table_of
       parts_table (row_with (application_place form) (λ part. application_counted eq (table_of part)))
       (kept_value (application_place form) (λ part. application_counted eq (table_of part)) (column_of table counted_in)) (is_up now) table.entry table.columns parts
 
-  -- what the columns of the control table show that can't be set, the index left out
-  abbrev pub kept_other : (column : ℕ) → List ℕ → Val
-  kept_other column index = counter (option_map_or (λ part. kept_counter eq (table_of part) column) (part_in parts (row_number index)) 0 % 2 ^ 32)
+-- what the columns of the control table show that can't be set, the index left out
+abbrev pub kept_other : {P K N A : Type 0} → (K → K → Bool) → (P → LayerTable K N A) → List (Slot P) → (column : ℕ) → List ℕ → Val
+kept_other eq table_of parts column index = counter (option_map_or (λ part. kept_counter eq (table_of part) column) (part_in parts (row_number index)) 0 % 2 ^ 32)

@@ -1,5 +1,5 @@
 -- What the frames of a data source name to a row of hlHostControl, or of hlMatrixControl.
-use Rattle.std.specs.Prelude.{ℕ, ◌/◌, ◌≤◌, List, [], length, ◌&&◌, filter, map, if◌then◌else◌, Option, Some, None}
+use Rattle.std.specs.Prelude.{ℕ, ◌/◌, ◌≤◌, List, [], length, ◌&&◌, nat_eq, filter, map, if◌then◌else◌, Option, Some, None}
 use Rattle.rm_model.specs.Counting.{Counting}
 use Rattle.rm_model.specs.Journal.{Frame, Journal}
 use Rattle.rm_model.specs.FrameFacts.{frame_facts}
@@ -25,6 +25,10 @@ pub record Layer (K G : Type 0) : Type 0 where
 -- the local indexes of the protocols above ip on the path of a frame with these facts, which passes after a journal
 abbrev pub locals_above_ip : Journal → Facts → List ℕ
 locals_above_ip journal facts = map (λ protocol. local_index journal (index_with protocol)) (filter is_above_ip (path_after journal facts))
+
+-- the addresses by which a frame counts for a control row whose data source is an interface: those of a good frame of that interface
+abbrev pub ends_for : (source : ℕ) → Facts → Option IpPair
+ends_for source facts = if facts.good && nat_eq source facts.interface then facts.ip else None
 
 module _ {K G : Type 0} where
   -- each key that was named, with this path at this tick

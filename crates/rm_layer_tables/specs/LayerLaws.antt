@@ -1,7 +1,6 @@
 -- What a row sees of a journal goes by the directory, and what a frame is to it.
 use Rattle.std.proofs.Common.{◌≡◌, ℕ, ◌/◌, ◌≤◌, Bool, true, false, cond, ◌&&◌, nat_eq, List, [], length, Option, Some, None, refl, sym, ap, ◌∙◌, arith}
 use Rattle.std.proofs.Math.Bool.{and-true}
-use Rattle.std.proofs.lemmas.Bool.Decides.{nat_tests}
 use Rattle.std.proofs.lemmas.List.{length-map}
 use Rattle.rm_val.specs.Val.{Val, name}
 use Rattle.rm_proto.specs.declared.datagram.IpPair.{IpPair}
@@ -14,7 +13,7 @@ use Rattle.rm_layer_events.specs.Side.{IsSide, Reference}
 use Rattle.rm_layer_slots.specs.On.{CountsBy}
 use Rattle.rm_layer_slots.proofs.SideOn.{is_side}
 use Rattle.rm_layer_tables.specs.Control.{control_set}
-use Rattle.rm_layer_tables.specs.Layer.{Layer, NamesFew, references_to, locals_above_ip, named_by, names_of, side_of}
+use Rattle.rm_layer_tables.specs.Layer.{Layer, NamesFew, references_to, locals_above_ip, ends_for, named_by, names_of, side_of}
 
 module _ {K G : Type 0} (layer : Layer K G) (few : NamesFew layer) where
   few_by : (facts : Facts) (pair : Option IpPair) → length (named_by layer facts pair) ≤ 2
@@ -51,14 +50,14 @@ module _ {K G : Type 0} (layer : Layer K G) (settings : Counting) (row : ℕ) (f
       ∙ ap (λ (value : Val). if_so (facts.good && is_interface value facts.interface)) (sym of_row)
       ∙ ap (λ b. if_so (facts.good && b)) (and-true (nat_eq source facts.interface))
 
-  -- one that counts names what its addresses say
-  pub named_of : facts.good ≡ true → source ≡ facts.interface → (ip : Option IpPair) → facts.ip ≡ ip
-      → names_of layer settings row frame journal ≡ references_to (frame.moment / 10) (locals_above_ip journal facts) (named_by layer facts ip)
-  named_of good same ip is =
-      names_are
-      ∙ ap if_so (let both : (facts.good && nat_eq source facts.interface) ≡ true = rw good (grind (arith, nat_tests, same)) in both)
-      ∙ ap (λ o. references_to (frame.moment / 10) (locals_above_ip journal facts) (named_by layer facts o)) is
+  by_ends : (counts : Bool) → if_so counts ≡ references_to (frame.moment / 10) (locals_above_ip journal facts) (named_by layer facts (cond counts facts.ip None))
+  by_ends true = refl
+  by_ends false = refl
 
-  -- and one that doesn't names nothing
-  pub none_of : (facts.good && nat_eq source facts.interface) ≡ false → names_of layer settings row frame journal ≡ []
-  none_of off = names_are ∙ ap if_so off
+  -- it is what the addresses name by which the frame counts for the row
+  pub named_of : (moment : ℕ) (path : List ℕ) (ends : Option IpPair) → moment ≡ frame.moment → path ≡ locals_above_ip journal facts → ends ≡ ends_for source facts
+      → names_of layer settings row frame journal ≡ references_to (moment / 10) path (named_by layer facts ends)
+  named_of moment path ends moment_is path_is ends_are =
+      names_are
+      ∙ by_ends (facts.good && nat_eq source facts.interface)
+      ∙ (λ d. references_to (sym moment_is d / 10) (sym path_is d) (named_by layer facts (sym ends_are d)))

@@ -28,4 +28,7 @@ pub mod RangeLaws
 pub mod Going
 pub mod Ready
 pub mod ReadyLaws
+pub mod Parts
+pub mod Collection
+pub mod Lawful
 pub mod Reversing

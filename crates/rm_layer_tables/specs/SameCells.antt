@@ -32,7 +32,7 @@ use Rattle.rm_layer_tables.specs.Layer.{Layer, NamesFew}
 use Rattle.rm_layer_tables.specs.SameRows.{IsShown, same_rows}
 use Rattle.rm_layer_tables.specs.Shown.{column_of, AddsUp}
 use Rattle.rm_layer_tables.specs.Standing.{IsHeld}
-use Rattle.rm_layer_tables.specs.Tables.{MarkedTable, marked_table}
+use Rattle.rm_layer_tables.specs.Tables.{MarkedTable, networks_after, applications_after}
 use Rattle.rm_layer_tables.specs.declared.layer_columns.LayerColumns.{LayerColumns}
 
 -- Parts whose tables are those of a journal, and none for a control row that isn't active.
@@ -48,7 +48,7 @@ module _ {P K N A : Type 0} (layer : Layer K N) (few : NamesFew layer) (tally : 
     networks_shown row (Some part) is =
         λ mark key column. network_shows layer few tally eq exact settings journal row (table_of part) (ap is_valid is.0) (holds row part is.1) table counted_in adds now mark key column
 
-    pub same_networks : (name : List ℕ) → cells_of (kept_networks form eq table_of parts table counted_in now) name ≡ cells_of (marked_table table (network_place form) (network_rows layer eq settings journal) now) name
+    pub same_networks : (name : List ℕ) → cells_of (kept_networks form eq table_of parts table counted_in now) name ≡ cells_of (networks_after layer eq form table settings journal now) name
     same_networks =
         same_rows (network_place form) (λ part. network_counted eq (table_of part)) (column_of table counted_in) table (network_rows layer eq settings journal) now parts
         (λ row. networks_shown row (part_in parts row) (are row))
@@ -61,8 +61,7 @@ module _ {P K N A : Type 0} (layer : Layer K N) (few : NamesFew layer) (tally : 
     applications_shown row (Some part) is =
         λ mark x column. application_shows layer few tally eq exact settings journal row (table_of part) (ap is_valid is.0) (holds row part is.1) table counted_in adds now mark x column
 
-    pub same_applications : (name : List ℕ)
-        → cells_of (kept_applications form eq table_of parts table counted_in now) name ≡ cells_of (marked_table table (application_place form) (application_rows layer eq settings journal) now) name
+    pub same_applications : (name : List ℕ) → cells_of (kept_applications form eq table_of parts table counted_in now) name ≡ cells_of (applications_after layer eq form table settings journal now) name
     same_applications =
         same_rows (application_place form) (λ part. application_counted eq (table_of part)) (column_of table counted_in) table (application_rows layer eq settings journal) now parts
         (λ row. applications_shown row (part_in parts row) (are row))
@@ -75,11 +74,11 @@ module _ {P K N A : Type 0} (layer : Layer K N) (few : NamesFew layer) (tally : 
 
   module _ {T : Type 0} (rows : List (Row (LayerColumns T))) (held : AreControlRows (layer_control layer.control) rows) (is : AreRowsAfter (layer_control layer.control) no_rows set_to rows journal) where
     same_other : (column i : ℕ) (row : Row (LayerColumns T)) → row_in rows i ≡ Some row
-        → with_index (kept_other form eq table_of parts) column (i ∷ []) ≡ with_index (control_other layer eq settings journal) column (i ∷ [])
+        → with_index (kept_other eq table_of parts) column (i ∷ []) ≡ with_index (control_other layer eq settings journal) column (i ∷ [])
     same_other column i row here = λ d. cond (nat_eq column 1) (int (pos i)) (counter (counts_are i column (part_in parts i) (are i) d % 2 ^ 32))
 
     pub same_control : (name : List ℕ)
-        → cells_of (kept_cells (layer_control layer.control) set_to control_columns (with_index (kept_other form eq table_of parts)) rows) name ≡ cells_of (control_table layer eq settings journal) name
+        → cells_of (kept_cells (layer_control layer.control) set_to control_columns (with_index (kept_other eq table_of parts)) rows) name ≡ cells_of (control_table layer eq settings journal) name
     same_control =
-        same_control_cells (layer_control layer.control) no_rows set_to rows held journal is control_columns (with_index (kept_other form eq table_of parts)) (with_index (control_other layer eq settings journal))
+        same_control_cells (layer_control layer.control) no_rows set_to rows held journal is control_columns (with_index (kept_other eq table_of parts)) (with_index (control_other layer eq settings journal))
         (λ i row here. row_there (layer_control layer.control) rows i row held here) same_other

@@ -2,12 +2,16 @@
 use Rattle.std.specs.Prelude.{ℕ, ◌+◌, ◌≤◌, ◌%◌, ◌^◌, List, [], ◌∷◌, length, Bool, false, nat_eq, if◌then◌else◌, Option, IsTrue}
 use Rattle.std.specs.Option.{option_map_or}
 use Rattle.rm_val.specs.Val.{Val, gauge, ticks, null}
+use Rattle.rm_model.specs.Counting.{Counting}
+use Rattle.rm_model.specs.Journal.{Journal}
 use Rattle.rm_model.specs.Cells.{Table}
 use Rattle.rm_group.specs.Listed.{ListedTable}
 use Rattle.rm_group.specs.Search.{are_rising}
 use Rattle.rm_columns.specs.RowForm.{can_name}
 use Rattle.rm_nested.specs.InnerTable.{inner_table}
-use Rattle.rm_layer_tables.specs.Held.{MarkedRows, has_row, sum_of}
+use Rattle.rm_layer_tables.specs.Held.{MarkedRows, has_row, sum_of, network_rows, application_rows}
+use Rattle.rm_layer_tables.specs.Indexes.{KeyForm, network_place, application_place}
+use Rattle.rm_layer_tables.specs.Layer.{Layer}
 
 -- A table: the identifier of its entry and its columns. One shows when a row was made, and each other one a count of what has come to it.
 pub record MarkedTable (G : Type 0) : Type 0 where
@@ -45,3 +49,11 @@ module _ {X G : Type 0} (table : MarkedTable G) (place_of : List ℕ → Option 
   -- the table at a moment in milliseconds
   abbrev pub marked_table : (now : ℕ) → Table
   marked_table now = inner_table table.entry table.columns (is_index now) value_at
+
+-- a table of network rows after a journal, and one of application rows, by how keys stand in indexes
+module _ {K G : Type 0} (layer : Layer K G) (eq : K → K → Bool) (form : KeyForm K) (table : MarkedTable G) (settings : Counting) (journal : Journal) where
+  abbrev pub networks_after : (now : ℕ) → Table
+  networks_after = marked_table table (network_place form) (network_rows layer eq settings journal)
+
+  abbrev pub applications_after : (now : ℕ) → Table
+  applications_after = marked_table table (application_place form) (application_rows layer eq settings journal)

@@ -1,7 +1,7 @@
 // A frame that the rows of a control table count.
-ghost use Rattle.std.specs.Prelude.{◌+◌, ◌<◌, ◌^◌};
+ghost use Rattle.std.specs.Prelude.{◌≡◌, ◌+◌, ◌<◌, ◌^◌};
 
-use rm_proto::Facts;
+use rm_proto::{Facts, IpPair};
 
 /// A frame that each active control row counts. It has two stamps, since it may name two keys.
 #[derive(Drop)]
@@ -15,4 +15,20 @@ pub struct CountedFrame<'a> {
     /// The first of its two stamps.
     pub stamp: u64,
     ghost fits: { stamp + 1 < 2 ^ 58 },
+}
+
+impl CountedFrame<'_> {
+    ghost use Rattle.rm_layer_tables.specs.Layer.{ends_for};
+
+    /// The addresses by which it counts for a control row whose data source is the interface with a number: those of a good frame of that
+    /// interface. None where it doesn't count.
+    pub fn ends_for(&self, source: u32) -> Option<IpPair>
+        ensures { result ≡ ends_for source self.now.facts.now }
+    {
+        if self.facts.good && source == self.facts.interface {
+            self.facts.ip
+        } else {
+            None
+        }
+    }
 }

@@ -1,24 +1,21 @@
 // The columns of hlHostControl and of hlMatrixControl.
 ghost use Rattle.std.specs.Prelude.{◌≡◌, ◌<◌, ◌≤◌};
 ghost use Rattle.rm_val.specs.Val.{int};
-ghost use Rattle.rm_keyed.specs.SourceControl.{TableEntry};
 ghost use Rattle.rm_layers.specs.Capacity.{bounded};
 ghost use Rattle.rm_layer_tables.specs.Control.{bound_of};
 ghost use Rattle.rm_layer_tables.specs.ControlColumns.{room_of, IsInRange};
 
 use arrayvec::ArrayVec;
 use rm_columns::{
-    ControlRow, ControlSheet, OneNumber, interface_in, interface_name, number_in, put_text,
-    same_text,
+    ControlRow, ControlSheet, MOST_OWNER, OneNumber, interface_in, interface_name, number_in,
+    put_text, same_text,
 };
 use rm_group::TableObjects;
+use rm_keyed::SourceTable;
 use rm_model::Setting::{Empty, Interface, Number};
 use rm_model::{ColumnKind, ColumnSheet, Span, StatusKind, column};
 use rm_val::{Oid, Value};
 use std::marker::PhantomData;
-
-/// How many octets an owner has at most.
-const MOST_OWNER: usize = 127;
 
 /// The number of the status.
 const STATUS: u32 = 12;
@@ -56,20 +53,9 @@ const COLUMNS: &[ColumnSheet] = &[
     column!(11, ColumnKind::Text(127), Empty, always),
 ];
 
-/// A control table whose rows ask for what the frames of a data source name, in the network and application layer: hlHostControl or
-/// hlMatrixControl (RFC 2021, section 6). Both have the same columns: 1 is the index, which isn't answered, 2 the data source, 3 to 5 the
-/// dropped frames and the network rows that were entered and are gone, 6 the most network rows, 7 to 10 the same of application rows, 11 the
-/// owner and 12 the status.
-pub trait LayerControl {
-    /// The identifier of the table's entry.
-    ghost entry: { TableEntry };
-
-    /// The identifier of the table's entry.
-    fn entry() -> &'static [u32]
-        ensures { result.now ≡ entry.numbers };
-}
-
-/// The columns of a row of hlHostControl, or of hlMatrixControl, that can be set (RFC 2021, section 6).
+/// The columns of a row of hlHostControl, or of hlMatrixControl, that can be set (RFC 2021, section 6). Both tables have the same columns: 1
+/// is the index, which isn't answered, 2 the data source, 3 to 5 the dropped frames and the network rows that were entered and are gone, 6 the
+/// most network rows, 7 to 10 the same of application rows, 11 the owner and 12 the status.
 #[derive(Drop)]
 pub struct LayerColumns<T> {
     /// The number of the interface whose frames the row counts.
@@ -117,7 +103,7 @@ impl<T> LayerColumns<T> {
 }
 
 #[tactic(auto, unfolding(crate::specs::ControlColumns::layer_rows))]
-impl<T: LayerControl> ControlRow for LayerColumns<T> {
+impl<T: SourceTable> ControlRow for LayerColumns<T> {
     ghost use Rattle.rm_layer_tables.specs.ControlColumns.{layer_rows, layer_keyed};
 
     type Keys = OneNumber;

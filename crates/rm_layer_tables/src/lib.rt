@@ -28,7 +28,7 @@ pub use by_application::ByApplication;
 pub use by_network::ByNetwork;
 pub use counted_frame::CountedFrame;
 pub use held_table::HeldTable;
-pub use layer_columns::{LAYER_NUMBERS, LayerColumns, LayerControl};
+pub use layer_columns::{LAYER_NUMBERS, LayerColumns};
 pub use layer_key::LayerKey;
 pub use layer_rows::LayerRows;
 pub use layer_view::{LayerView, MarkedObjects};

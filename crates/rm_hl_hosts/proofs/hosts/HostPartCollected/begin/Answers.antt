@@ -8,5 +8,5 @@ pub returns-clause-begun : goal.returns-clause-begun
 unfolding host_collection layer_rows
 returns-clause-begun c settings values earlier row shared idle valid fresh = record {
   source = fresh.columns_are.0.shown;
-  hosts = c.begin.ensures.begun host_layer settings row (assigns c.args._now values) earlier shared fresh.columns_are.1.0.shown fresh.columns_are.1.1.0.shown idle valid;
+  held = c.begin.ensures.begun host_layer settings row (assigns c.args._now values) earlier shared fresh.columns_are.1.0.shown fresh.columns_are.1.1.0.shown idle valid;
 }

@@ -8,5 +8,5 @@ pub returns-clause-turned : goal.returns-clause-turned
 unfolding host_collection
 returns-clause-turned c settings moment values earlier row given shared begun = record {
   source = begun.source;
-  hosts = c.turn.ensures.turned host_layer settings row moment values earlier names_few (rw c.from-stamp.ensures (ap (λ frames. 2 * frames) (sym given))) shared begun.hosts;
+  held = c.turn.ensures.turned host_layer settings row moment values earlier names_few (rw c.from-stamp.ensures (ap (λ frames. 2 * frames) (sym given))) shared begun.held;
 }

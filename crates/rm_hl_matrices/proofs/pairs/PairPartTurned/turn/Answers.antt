@@ -8,5 +8,5 @@ pub returns-clause-turned : goal.returns-clause-turned
 unfolding pair_collection
 returns-clause-turned c settings moment values earlier row given shared begun = record {
   source = begun.source;
-  pairs = c.turn.ensures.turned source_layer settings row moment values earlier source_named (rw c.from.ensures (ap (λ frames. 2 * frames) (sym given))) shared begun.pairs;
+  held = c.turn.ensures.turned source_layer settings row moment values earlier source_named (rw c.from.ensures (ap (λ frames. 2 * frames) (sym given))) shared begun.held;
 }

@@ -13,7 +13,7 @@ use Rattle.rm_layer_tables.specs.Tuned.{tuned_for}
 use Rattle.rm_layer_tables.proofs.PathLemmas.{on_path}
 use Rattle.rm_hl_matrices.specs.Pairs.{Pair}
 use Rattle.rm_hl_matrices.specs.PairCells.{same_pair}
-use Rattle.rm_hl_matrices.proofs.frames.take_pair.Goals as goal
+use Rattle.rm_hl_matrices.proofs.counted_frame.take_pair.Goals as goal
 
 pub returns-clause-stands : goal.returns-clause-stands
 returns-clause-stands c = λ layer settings row journal frame few refs at is.
