@@ -6,13 +6,12 @@ use Rattle.std.proofs.lemmas.Bool.{cases_lt}
 use Rattle.std.proofs.lemmas.Option.{same_Some}
 use borrow.Author.Tests.{eqb-true}
 use Rattle.rm_model.specs.Journal.{Journal, samples}
-use Rattle.rm_model.specs.ControlRows.{no_rows, is_absent, is_valid}
+use Rattle.rm_model.specs.ControlRows.{no_rows, is_valid}
 use Rattle.rm_acts.specs.Alarms.{alarm_table, alarm_state, interval_of, due_of, IsNextDue}
-use Rattle.rm_model.specs.declared.row.State.{State}
-use Rattle.rm_model.specs.declared.row.State.TheVariants.{Absent}
 use Rattle.rm_model.proofs.Members.{none_in, each}
 use Rattle.rm_model.specs.Indexes.{indexes_of}
 use Rattle.rm_model.proofs.Rows.{row_listed}
+use Rattle.rm_status.proofs.RowFacts.{valid_there}
 use Rattle.rm_alarm.specs.Group.{nothing_begins}
 use Rattle.rm_alarm.specs.Left.{sum_below, span_to}
 use Rattle.rm_alarm.specs.Watched.{number_read}
@@ -86,15 +85,11 @@ head_within (first ∷ more) index within =
 abbrev bound_of : Journal → ℕ
 bound_of journal = sum_of_heads (indexes_of alarm_table [] journal)
 
-is_there : (s : State) → is_valid s ≡ true → not (is_absent s) ≡ true
-is_there Absent h = absurd (cc)
-is_there s h = refl
-
 none_above : (journal : Journal) (i : ℕ) → bound_of journal ≤ i → due_of journal i ≡ None
 none_above journal i above =
     elim (is_valid (alarm_state journal i)) as (λ v. is_valid (alarm_state journal i) ≡ v → due_of journal i ≡ None) [
       | true ↦ λ e.
-          let listed = row_listed alarm_table no_rows [] nothing_begins journal (i ∷ []) (is_there (alarm_state journal i) e) in
+          let listed = row_listed alarm_table no_rows [] nothing_begins journal (i ∷ []) (ap not (valid_there (alarm_state journal i) e)) in
           let within : suc i ≤ bound_of journal = head_within (indexes_of alarm_table [] journal) (i ∷ []) listed in
           absurd (omega arith)
       | false ↦ λ e. not_due journal i e

@@ -1,7 +1,5 @@
 // The samples of alarms, and their firings.
 ghost use Rattle.std.specs.Prelude.{◌≡◌, ℕ, ◌≤◌, ◌<◌, max, true, Some, is_some};
-ghost use Rattle.rm_val.specs.Val.{int};
-ghost use Rattle.rm_val.specs.Contents.{natural_in};
 ghost use Rattle.rm_model.specs.Counting.{Counting};
 ghost use Rattle.rm_model.specs.Journal.{Journal, last_moment};
 ghost use Rattle.rm_model.specs.ControlRows.{is_valid};
@@ -18,9 +16,8 @@ use crate::firing::fire_by;
 use crate::groups::{Groups, alarms, end_by, events, sample};
 use rm_acts::Firing;
 use rm_alarm::{Alarms, Sampled};
-use rm_columns::natural_in;
+use rm_columns::natural;
 use rm_event::Fired;
-use rm_val::Value;
 
 /// What a sample came to, the event that it asked for, which is 0 for none, and what became of that event.
 #[derive(Drop)]
@@ -69,15 +66,8 @@ fn event_asked(alarms: &Alarms, index: u32, comes: Sampled) -> u32
         return 0;
     };
     match comes {
-        Sampled::Rising => event_in(row.rising_event),
-        Sampled::Falling => event_in(row.falling_event),
+        Sampled::Rising => natural(row.rising_event),
+        Sampled::Falling => natural(row.falling_event),
         Sampled::Quiet | Sampled::Gone => 0,
     }
-}
-
-// The event with the number that a column has: 0, which is none, where it is negative.
-fn event_in(number: i32) -> u32
-    ensures { result ≡ natural_in (int number) }
-{
-    natural_in(&Value::Int(number))
 }

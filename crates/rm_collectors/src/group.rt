@@ -1,9 +1,10 @@
-// The control tables whose valid rows collect, as one group of objects. Where more than one had a variable of a name, the first one's would count.
+// The control tables whose valid rows collect, as one group of objects. Where more than one had a variable of a name, the first one's
+// would count.
 use crate::collectors::Collectors;
-use rm_four::{lowest_verdict, nearer_in};
+use rm_four::{least_of, lowest_verdict};
 use rm_group::{
     Assigns, Beside, Commits, Denied, Due, FallsDue, Group, Look, Objects, Passing, Readable,
-    Stores, Unfired, Unsampled,
+    Stores, Unfired, Unsampled, cell_in, nearer_in,
 };
 use rm_history::History;
 use rm_hosts::Hosts;
@@ -37,22 +38,19 @@ impl Group for Collectors {
     ghost finite = { all_finite };
 
     fn least() -> &'static [u32] {
-        let of_two = History::least().min(Matrix::least());
-        let of_three = of_two.min(Hosts::least());
-        of_three.min(Reports::least())
+        least_of(
+            History::least(),
+            Matrix::least(),
+            Hosts::least(),
+            Reports::least(),
+        )
     }
 
     fn cell(&self, name: &Oid, now: u32) -> Option<Value<'_>> {
-        if let Some(value) = self.history.cell(name, now) {
-            return Some(value);
-        }
-        if let Some(value) = self.matrix.cell(name, now) {
-            return Some(value);
-        }
-        if let Some(value) = self.hosts.cell(name, now) {
-            return Some(value);
-        }
-        self.reports.cell(name, now)
+        let history = self.history.cell(name, now);
+        let of_two = cell_in(history, &self.matrix, name, now);
+        let of_three = cell_in(of_two, &self.hosts, name, now);
+        cell_in(of_three, &self.reports, name, now)
     }
 
     fn after(&self, name: &Oid, now: u32, out: &mut Oid) -> Option<Value<'_>> {

@@ -1,12 +1,13 @@
-// The directory and the tables that count by it, as one group of objects. Where more than one had a variable of a name, the first one's would count.
+// The directory and the tables that count by it, as one group of objects. Where more than one had a variable of a name, the first one's
+// would count.
 use crate::protocol_tables::ProtocolTables;
 use rm_collect::{Collecting, complete};
 use rm_dir::Directory;
 use rm_dist::Distribution;
-use rm_four::{lowest_verdict, nearer_in};
+use rm_four::{least_of, lowest_verdict};
 use rm_group::{
-    Assigns, Commits, Denied, Group, Look, NeverDue, Objects, Passing, Readable, Steps, Stores,
-    Unfired,
+    Assigns, Commits, Denied, Group, Look, Objects, Passing, Readable, Steps, Stores, Unfired,
+    cell_in, nearer_in,
 };
 use rm_hl_hosts::HostPart;
 use rm_hl_matrices::PairPart;
@@ -39,22 +40,19 @@ impl Group for ProtocolTables {
     ghost finite = { all_finite };
 
     fn least() -> &'static [u32] {
-        let protocols = Directory::least().min(Distribution::least());
-        let with_hosts = protocols.min(Collecting::<HostPart>::least());
-        with_hosts.min(Collecting::<PairPart>::least())
+        least_of(
+            Directory::least(),
+            Distribution::least(),
+            Collecting::<HostPart>::least(),
+            Collecting::<PairPart>::least(),
+        )
     }
 
     fn cell(&self, name: &Oid, now: u32) -> Option<Value<'_>> {
-        if let Some(value) = self.directory.cell(name, now) {
-            return Some(value);
-        }
-        if let Some(value) = self.distribution.cell(name, now) {
-            return Some(value);
-        }
-        if let Some(value) = self.hosts.cell(name, now) {
-            return Some(value);
-        }
-        self.pairs.cell(name, now)
+        let directory = self.directory.cell(name, now);
+        let protocols = cell_in(directory, &self.distribution, name, now);
+        let with_hosts = cell_in(protocols, &self.hosts, name, now);
+        cell_in(with_hosts, &self.pairs, name, now)
     }
 
     fn after(&self, name: &Oid, now: u32, out: &mut Oid) -> Option<Value<'_>> {
@@ -103,7 +101,7 @@ impl Stores for ProtocolTables {
         self.hosts.prepare(alloc, set, now, look)?;
         let pairs = self.pairs.prepare(alloc, set, now, look);
         if pairs.is_err() {
-            self.hosts.discard();
+            self.discard();
         }
         pairs
     }
@@ -181,8 +179,4 @@ impl Unfired for ProtocolTables {
         self.hosts.take_judged(path, passing);
         self.pairs.take_judged(path, passing);
     }
-}
-
-impl NeverDue for ProtocolTables {
-    ghost always_asked = { λ s moment. tt };
 }

@@ -18,10 +18,10 @@ pub returns-in-Rising : goal.returns-in-Rising
 returns-in-Rising c settings journal stands valid =
     let shown = c.in-Some.ensures.shown settings journal stands (valid (ap (λ (s : Sampled). is_some (trap_of s)) c.in-Rising.is)) in
     let fits : FitsSigned w32 c.in-Some.row.now.rising_event = search rules in
-    c.event_in.ensures ∙ ap (λ z. natural_in (int z)) (to_z-of_z w32 c.in-Some.row.now.rising_event fits) ∙ ap natural_in (sym shown.rising_event) ∙ sym (ap (event_asked journal c.args.index) c.in-Rising.is)
+    c.natural.ensures.value ∙ ap (λ z. natural_in (int z)) (to_z-of_z w32 c.in-Some.row.now.rising_event fits) ∙ ap natural_in (sym shown.rising_event) ∙ sym (ap (event_asked journal c.args.index) c.in-Rising.is)
 
 pub returns-in-Falling : goal.returns-in-Falling
 returns-in-Falling c settings journal stands valid =
     let shown = c.in-Some.ensures.shown settings journal stands (valid (ap (λ (s : Sampled). is_some (trap_of s)) c.in-Falling.is)) in
     let fits : FitsSigned w32 c.in-Some.row.now.falling_event = search rules in
-    c.event_in-in-Falling.ensures ∙ ap (λ z. natural_in (int z)) (to_z-of_z w32 c.in-Some.row.now.falling_event fits) ∙ ap natural_in (sym shown.falling_event) ∙ sym (ap (event_asked journal c.args.index) c.in-Falling.is)
+    c.natural-in-Falling.ensures.value ∙ ap (λ z. natural_in (int z)) (to_z-of_z w32 c.in-Some.row.now.falling_event fits) ∙ ap natural_in (sym shown.falling_event) ∙ sym (ap (event_asked journal c.args.index) c.in-Falling.is)
