@@ -9,6 +9,8 @@ use Rattle.std.proofs.lemmas.List.Sums.{AllPass-from_list_all}
 use Rattle.hex.specs.Hex.{decode_of, is_hex_digit}
 use Rattle.hex.proofs.HexLemmas.{decode_of-digits}
 use Rattle.rm_words.specs.Grammar.{Command, Options, decode, load, StandFor, for_decode, for_load, is_hex, number_within}
+use Rattle.rm_words.specs.Told.{options_of}
+use Rattle.rm_words.specs.declared.options.RunOptions.{RunOptions}
 use Rattle.rm_edge.specs.Outside.{Rose}
 use Rattle.rm_edge.specs.Uses.{SinkUse, HasPutFault}
 use Rattle.rm_pcap.specs.declared.fault.PcapFault.{PcapFault}
@@ -19,12 +21,16 @@ use Rattle.rm_probe.specs.declared.status.Status.TheVariants.{Done, Usage, BadCa
 use Rattle.rm_load.specs.Ends.{Ends as LoadEnds}
 use Rattle.rm_load.specs.declared.entry.LoadFault.{LoadFault}
 use Rattle.rm_load.specs.declared.entry.LoadFault.TheVariants as load_fault
-use Rattle.rm_cmd.specs.Commands.{Decodes, LoadsWith, status_of_load}
+use Rattle.rm_cmd.specs.Commands.{AreSet, Decodes, LoadsWith, status_of_load}
 
 -- what holds of one command that the words stand for holds of each
 pub of_each : ((words : List (List ℕ)) (one other : Command) → StandFor words one → StandFor words other → one ≡ other)
     → (words : List (List ℕ)) (known : Command) (P : Command → Type 0) → StandFor words known → P known → (command : Command) → StandFor words command → P command
 of_each one words known P stands here command is = subst P (one words known command stands is) here
+
+-- a probe is set to its options
+pub are_set : (options : RunOptions) → AreSet options.settings (options_of options)
+are_set options = record { hosts = refl; pairs = refl; upper = refl; keep_short = refl; read = refl; write = refl }
 
 -- `decode` without a failed put is done, or found no memory
 pub done_or_none : (octets : List ℕ) (writes writes' : ℕ) (old new : Option (List ℕ)) (result : Status) → Decodes octets writes writes' old new result

@@ -23,10 +23,10 @@ use Rattle.rm_probe.specs.Said.{Response}
 use Rattle.rm_probe.specs.Text.{IsAnswered, dropped, replied}
 use Rattle.rm_probe.specs.declared.probe.Probe.{Probe}
 use Rattle.rm_load.specs.Acts.{rows_made}
-use Rattle.rm_load.specs.Sets.{first_set, second_set, set_request}
+use Rattle.rm_load.specs.Sets.{first_statuses, first_set, second_statuses, second_set, set_request}
 use Rattle.rm_load.specs.Steps.{HasAnswered}
 use Rattle.rm_load.proofs.QuietLemmas.{none_at_first, quiet}
-use Rattle.rm_load.proofs.RequestLemmas.{first_fits, second_fits}
+use Rattle.rm_load.proofs.RequestLemmas.{statuses_fit}
 use Rattle.rm_load.proofs.SetLemmas.{first_made, first_alone, first_together, first_reserves_none, second_alone, second_together, second_reserves_none}
 use Rattle.rm_load.proofs.WritableLemmas.{first_parse, second_parse}
 
@@ -110,7 +110,7 @@ module _ (settings : Settings)
       let told_of = subst (λ (journal : Journal). IsAnswered settings journal 100 (message_octets (first_message settings)) is.response is.after) ready is.answered in
       let after =
       one_after settings [] first_made 100 (first_message settings) one_parse one_reply (first_parse settings.write.items short adds numbers reads_back) refl first_reserves_none
-      (returning (first_message settings) NoError 0) (first_accepts settings (first_fits adds numbers (returning (first_message settings) NoError 128) short refl)) is.response is.after told_of in
+      (returning (first_message settings) NoError 0) (first_accepts settings (statuses_fit adds numbers first_statuses (omega arith) (returning (first_message settings) NoError 128) short refl)) is.response is.after told_of in
       subst (Stands probe) after is.stands
 
   pub second_taken : (probe : Probe) → HasAnswered settings first_made 200 (second_message settings) probe → Stands probe rows_made
@@ -119,5 +119,5 @@ module _ (settings : Settings)
       let told_of = subst (λ (journal : Journal). IsAnswered settings journal 200 (message_octets (second_message settings)) is.response is.after) ready is.answered in
       let after =
       one_after settings first_made rows_made 200 (second_message settings) one_parse one_reply (second_parse settings.write.items short adds numbers reads_back) refl second_reserves_none
-      (returning (second_message settings) NoError 0) (second_accepts settings (second_fits adds numbers (returning (second_message settings) NoError 128) short refl)) is.response is.after told_of in
+      (returning (second_message settings) NoError 0) (second_accepts settings (statuses_fit adds numbers second_statuses (omega arith) (returning (second_message settings) NoError 128) short refl)) is.response is.after told_of in
       subst (Stands probe) after is.stands

@@ -3,11 +3,11 @@ use Rattle.std.proofs.Common.{◌≡◌, ◌⊎◌, inl, inr, ℕ, zero, suc, �
 use Rattle.std.specs.Option.{option_or}
 use Rattle.rm_val.specs.declared.error.ErrorStatus.{ErrorStatus}
 use Rattle.rm_model.specs.Accepted.{assignments_of}
-use Rattle.rm_model.specs.ControlRows.{Beginning, no_rows, is_valid}
+use Rattle.rm_model.specs.ControlRows.{Beginning, no_rows}
 use Rattle.rm_model.specs.ControlTable.{ControlTable}
 use Rattle.rm_model.specs.Journal.{Journal, assigns}
-use Rattle.rm_model.specs.Judgement.{is_held_or_made, is_crowded, row_fault, rows_after}
-use Rattle.rm_model.specs.Reserves.{Reserves as ReservesRow, activates, state_after}
+use Rattle.rm_model.specs.Judgement.{is_crowded, row_fault, rows_after}
+use Rattle.rm_model.specs.Reserves.{Reserves as ReservesRow, activates}
 use Rattle.rm_model.specs.declared.row.Ask.{Ask}
 use Rattle.rm_model.specs.declared.row.Ask.TheVariants.{Create, CreateValid}
 use Rattle.rm_model.specs.declared.row.State.TheVariants.{Absent}
@@ -34,7 +34,7 @@ use Rattle.rm_protocols.specs.Group.{protocol_objects, protocol_alone, protocol_
 use Rattle.rm_sources.specs.Group.{source_objects, source_alone, source_together, SourceReserves}
 use Rattle.rm_agent.specs.Groups.{objects, alone, together, Reserves}
 use Rattle.rm_load.specs.Sets.{first_set, second_set}
-use Rattle.rm_load.proofs.OnceLemmas.{by_row, not_crowded, reserves_none, reserves_none_of_one}
+use Rattle.rm_load.proofs.OnceLemmas.{not_crowded, reserves_none, reserves_none_of_one}
 
 -- after the first Set
 abbrev pub first_made : Journal
@@ -56,34 +56,30 @@ second_alone zero within = refl
 second_alone (suc zero) within = refl
 second_alone (suc (suc n)) within = absurd (omega (arith, within))
 
--- The first Set makes row 1 of each of four tables, which are empty before, and so isn't crowded.
-
+-- what a table has before each Set
 abbrev before_first : ControlTable → Beginning
 before_first table = rows_after table no_rows []
 
+abbrev before_second : ControlTable → Beginning
+before_second table = rows_after table no_rows first_made
+
+-- The first Set makes row 1 of each of four tables, which are empty before, and so isn't crowded.
+
 hosts_fit : is_crowded host_rows.table (before_first host_rows.table) first_set ≡ false
 unfolding source_rows
-hosts_fit =
-    not_crowded host_rows.table (before_first host_rows.table) first_set (omega arith)
-    (by_row (λ row. is_held_or_made host_rows.table (before_first host_rows.table) first_set (row ∷ [])) refl (λ row other. rw other refl))
+hosts_fit = not_crowded host_rows.table (before_first host_rows.table) first_set (omega arith) refl (λ row other. rw other refl)
 
 pairs_fit : is_crowded matrix_rows.table (before_first matrix_rows.table) first_set ≡ false
 unfolding source_rows
-pairs_fit =
-    not_crowded matrix_rows.table (before_first matrix_rows.table) first_set (omega arith)
-    (by_row (λ row. is_held_or_made matrix_rows.table (before_first matrix_rows.table) first_set (row ∷ [])) refl (λ row other. rw other refl))
+pairs_fit = not_crowded matrix_rows.table (before_first matrix_rows.table) first_set (omega arith) refl (λ row other. rw other refl)
 
 hl_hosts_fit : is_crowded hl_host_rows.table (before_first hl_host_rows.table) first_set ≡ false
 unfolding layer_rows
-hl_hosts_fit =
-    not_crowded hl_host_rows.table (before_first hl_host_rows.table) first_set (omega arith)
-    (by_row (λ row. is_held_or_made hl_host_rows.table (before_first hl_host_rows.table) first_set (row ∷ [])) refl (λ row other. rw other refl))
+hl_hosts_fit = not_crowded hl_host_rows.table (before_first hl_host_rows.table) first_set (omega arith) refl (λ row other. rw other refl)
 
 hl_pairs_fit : is_crowded hl_matrix_rows.table (before_first hl_matrix_rows.table) first_set ≡ false
 unfolding layer_rows
-hl_pairs_fit =
-    not_crowded hl_matrix_rows.table (before_first hl_matrix_rows.table) first_set (omega arith)
-    (by_row (λ row. is_held_or_made hl_matrix_rows.table (before_first hl_matrix_rows.table) first_set (row ∷ [])) refl (λ row other. rw other refl))
+hl_pairs_fit = not_crowded hl_matrix_rows.table (before_first hl_matrix_rows.table) first_set (omega arith) refl (λ row other. rw other refl)
 
 -- what is wrong with the status of row 1 where it is made, by whether the table is crowded
 abbrev made_fault : ControlTable → Ask → (crowded : Bool) → Option ErrorStatus
@@ -126,11 +122,11 @@ module _ (index : ℕ) where
       at_place (suc (suc (suc zero))) within = d
       at_place (suc (suc (suc (suc n)))) within = absurd (omega (arith, within))
 
-  second_inactive : (table : ControlTable) → activates table (rows_after table no_rows first_made) second_set 0 ≡ false → activates table (rows_after table no_rows first_made) second_set 1 ≡ false
-      → ReservesRow table (rows_after table no_rows first_made) second_set index → ⊥
-  second_inactive table a b = reserves_none table (rows_after table no_rows first_made) second_set index at_place
+  second_inactive : (table : ControlTable) → activates table (before_second table) second_set 0 ≡ false → activates table (before_second table) second_set 1 ≡ false
+      → ReservesRow table (before_second table) second_set index → ⊥
+  second_inactive table a b = reserves_none table (before_second table) second_set index at_place
     where
-      at_place : (place : ℕ) → place < length second_set → activates table (rows_after table no_rows first_made) second_set place ≡ false
+      at_place : (place : ℕ) → place < length second_set → activates table (before_second table) second_set place ≡ false
       at_place zero within = a
       at_place (suc zero) within = b
       at_place (suc (suc n)) within = absurd (omega (arith, within))
@@ -138,27 +134,19 @@ module _ (index : ℕ) where
   -- nor of one of which row 1 alone does
   first_hl_hosts : ReservesRow hl_host_rows.table (before_first hl_host_rows.table) first_set index → ⊥
   unfolding layer_rows
-  first_hl_hosts =
-      reserves_none_of_one hl_host_rows.table (before_first hl_host_rows.table) first_set index
-      (by_row (λ row. is_valid (state_after hl_host_rows.table (before_first hl_host_rows.table) first_set (row ∷ []))) refl (λ row other. rw other refl))
+  first_hl_hosts = reserves_none_of_one hl_host_rows.table (before_first hl_host_rows.table) first_set index refl (λ row other. rw other refl)
 
   first_hl_pairs : ReservesRow hl_matrix_rows.table (before_first hl_matrix_rows.table) first_set index → ⊥
   unfolding layer_rows
-  first_hl_pairs =
-      reserves_none_of_one hl_matrix_rows.table (before_first hl_matrix_rows.table) first_set index
-      (by_row (λ row. is_valid (state_after hl_matrix_rows.table (before_first hl_matrix_rows.table) first_set (row ∷ []))) refl (λ row other. rw other refl))
+  first_hl_pairs = reserves_none_of_one hl_matrix_rows.table (before_first hl_matrix_rows.table) first_set index refl (λ row other. rw other refl)
 
-  second_hosts : ReservesRow host_rows.table (rows_after host_rows.table no_rows first_made) second_set index → ⊥
+  second_hosts : ReservesRow host_rows.table (before_second host_rows.table) second_set index → ⊥
   unfolding source_rows
-  second_hosts =
-      reserves_none_of_one host_rows.table (rows_after host_rows.table no_rows first_made) second_set index
-      (by_row (λ row. is_valid (state_after host_rows.table (rows_after host_rows.table no_rows first_made) second_set (row ∷ []))) refl (λ row other. rw other refl))
+  second_hosts = reserves_none_of_one host_rows.table (before_second host_rows.table) second_set index refl (λ row other. rw other refl)
 
-  second_pairs : ReservesRow matrix_rows.table (rows_after matrix_rows.table no_rows first_made) second_set index → ⊥
+  second_pairs : ReservesRow matrix_rows.table (before_second matrix_rows.table) second_set index → ⊥
   unfolding source_rows
-  second_pairs =
-      reserves_none_of_one matrix_rows.table (rows_after matrix_rows.table no_rows first_made) second_set index
-      (by_row (λ row. is_valid (state_after matrix_rows.table (rows_after matrix_rows.table no_rows first_made) second_set (row ∷ []))) refl (λ row other. rw other refl))
+  second_pairs = reserves_none_of_one matrix_rows.table (before_second matrix_rows.table) second_set index refl (λ row other. rw other refl)
 
   pub first_reserves_none : Reserves [] first_set index → ⊥
   unfolding source_rows SourceReserves CollectedReserves ProtocolReserves

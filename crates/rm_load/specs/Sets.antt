@@ -11,16 +11,28 @@ use Rattle.rm_load.specs.declared.table.Table.TheVariants.{HostControl, MatrixCo
 use Rattle.rm_load.specs.Names.{name_in, status_column}
 
 -- row 1 of a table is given a status
-abbrev pub with_status : Table → ℕ → Assignment
-with_status table status = record { name = name_in table (status_column table); value = int (pos status) }
+abbrev pub with_status : Table × ℕ → Assignment
+with_status one = record { name = name_in one.0 (status_column one.0); value = int (pos one.1) }
 
--- the first makes all four rows (createRequest of RFC 1757, and createAndGo of RFC 1903 where it is a RowStatus)
+-- the Set by which row 1 of each of some tables is given a status
+abbrev pub with_statuses : List (Table × ℕ) → Bindings
+with_statuses statuses = map with_status statuses
+
+-- the statuses by which all four rows are made (createRequest of RFC 1757, and createAndGo of RFC 1903 where it is a RowStatus)
+abbrev pub first_statuses : List (Table × ℕ)
+first_statuses = (HostControl, 2) ∷ (MatrixControl, 2) ∷ (HlHostControl, 4) ∷ (HlMatrixControl, 4) ∷ []
+
+-- the first Set gives these
 abbrev pub first_set : Bindings
-first_set = with_status HostControl 2 ∷ with_status MatrixControl 2 ∷ with_status HlHostControl 4 ∷ with_status HlMatrixControl 4 ∷ []
+first_set = with_statuses first_statuses
 
--- the second makes those valid that aren't active yet
+-- the statuses by which those rows become valid that aren't active yet
+abbrev pub second_statuses : List (Table × ℕ)
+second_statuses = (HostControl, 1) ∷ (MatrixControl, 1) ∷ []
+
+-- the second Set gives these
 abbrev pub second_set : Bindings
-second_set = with_status HostControl 1 ∷ with_status MatrixControl 1 ∷ []
+second_set = with_statuses second_statuses
 
 abbrev pub binding_for : Assignment → Binding
 binding_for assignment = binding_of assignment.name assignment.value

@@ -1,5 +1,5 @@
-use Rattle.std.proofs.Common.{refl}
+use Rattle.rm_cmd.proofs.CommandLemmas.{are_set}
 use Rattle.rm_cmd.proofs.entry.run_serve.Goals as goal
 
 pub returns-clause-serves : goal.returns-clause-serves
-returns-clause-serves g c = record { settings = c.args.options.settings; set = record { hosts = refl; pairs = refl; upper = refl; keep_short = refl; read = refl; write = refl }; serves = c.serve.ensures.serves }
+returns-clause-serves g c = record { settings = c.args.options.settings; set = are_set c.args.options; serves = c.serve.ensures.serves }
