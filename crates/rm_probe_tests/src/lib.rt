@@ -1,5 +1,0 @@
-//! Tests of rm_probe.
-#![tactic(auto)]
-
-#[cfg(test)]
-mod tests;
