@@ -1,5 +1,0 @@
-//! Tests of rm_agent.
-#![tactic(auto)]
-
-#[cfg(test)]
-mod tests;
