@@ -1,2 +1,0 @@
-mod cmd;
-mod load;
