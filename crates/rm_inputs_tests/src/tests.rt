@@ -1,4 +1,0 @@
-mod pcap;
-mod requests;
-mod window;
-mod words;
