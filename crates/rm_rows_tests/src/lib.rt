@@ -1,5 +1,0 @@
-//! Tests of rm_rows and rm_upper.
-#![tactic(auto)]
-
-#[cfg(test)]
-mod tests;
