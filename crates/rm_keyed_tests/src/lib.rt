@@ -1,5 +1,0 @@
-//! Tests of rm_keyed.
-#![tactic(auto)]
-
-#[cfg(test)]
-mod tests;
