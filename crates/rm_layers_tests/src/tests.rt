@@ -1,3 +1,0 @@
-mod layer_matrices;
-mod layer_slots;
-mod walk_places;
