@@ -1,5 +1,0 @@
-//! Tests of rm_hosts.
-#![tactic(auto)]
-
-#[cfg(test)]
-mod tests;
