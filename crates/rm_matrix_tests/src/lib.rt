@@ -1,5 +1,0 @@
-//! Tests of rm_matrix.
-#![tactic(auto)]
-
-#[cfg(test)]
-mod tests;
