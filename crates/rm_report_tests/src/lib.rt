@@ -1,5 +1,0 @@
-//! Tests of rm_report.
-#![tactic(auto)]
-
-#[cfg(test)]
-mod tests;
