@@ -1,5 +1,0 @@
-//! Tests of rm_topn.
-#![tactic(auto)]
-
-#[cfg(test)]
-mod tests;
