@@ -1,5 +1,0 @@
-use Rattle.std.proofs.Common.{◌≡◌, ℕ, List, ◌∷◌}
-use Rattle.rm_dir_tests.proofs.tests.name_of.Given as goal
-
-abbrev pub invariant-loop-number : goal.invariant-loop-number
-invariant-loop-number l = (rest : List ℕ) × (l.name ≡ 1 ∷ 3 ∷ rest)

@@ -1,5 +1,0 @@
-//! Tests of rm_dir.
-#![tactic(auto)]
-
-#[cfg(test)]
-mod tests;
