@@ -1,5 +1,0 @@
-//! Tests of rm_dist.
-#![tactic(auto)]
-
-#[cfg(test)]
-mod tests;
