@@ -1,5 +1,0 @@
-//! Tests of rm_ber.
-#![tactic(auto)]
-
-#[cfg(test)]
-mod tests;
