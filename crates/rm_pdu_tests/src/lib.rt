@@ -1,5 +1,0 @@
-//! Tests of rm_pdu.
-#![tactic(auto)]
-
-#[cfg(test)]
-mod tests;

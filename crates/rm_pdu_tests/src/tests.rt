@@ -1,3 +1,0 @@
-mod draft;
-mod kind;
-mod message;
