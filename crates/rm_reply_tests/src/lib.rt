@@ -1,5 +1,0 @@
-//! Tests of rm_reply.
-#![tactic(auto)]
-
-#[cfg(test)]
-mod tests;
