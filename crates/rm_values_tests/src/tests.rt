@@ -1,3 +1,0 @@
-mod path;
-mod proto;
-mod val;
