@@ -1,5 +1,0 @@
-//! Tests of rm_group.
-#![tactic(auto)]
-
-#[cfg(test)]
-mod tests;
