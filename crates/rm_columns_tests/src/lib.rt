@@ -1,5 +1,0 @@
-//! Tests of rm_columns.
-#![tactic(auto)]
-
-#[cfg(test)]
-mod tests;
