@@ -1,5 +1,0 @@
-//! Tests of rm_status.
-#![tactic(auto)]
-
-#[cfg(test)]
-mod tests;
