@@ -1,5 +1,0 @@
-//! Tests of rm_pool.
-#![tactic(auto)]
-
-#[cfg(test)]
-mod tests;
