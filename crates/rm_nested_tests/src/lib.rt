@@ -1,5 +1,0 @@
-//! Tests of rm_nested.
-#![tactic(auto)]
-
-#[cfg(test)]
-mod tests;
