@@ -1,2 +1,0 @@
-pub mod MadeUp
-pub mod MadeUpLaws

@@ -1,5 +1,0 @@
-//! Tests of rm_collect.
-#![tactic(auto)]
-
-#[cfg(test)]
-mod tests;
