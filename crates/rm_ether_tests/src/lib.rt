@@ -1,5 +1,0 @@
-//! Tests of rm_ether.
-#![tactic(auto)]
-
-#[cfg(test)]
-mod tests;
