@@ -1,5 +1,0 @@
-//! Tests of rm_history.
-#![tactic(auto)]
-
-#[cfg(test)]
-mod tests;
