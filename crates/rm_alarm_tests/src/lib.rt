@@ -1,5 +1,0 @@
-//! Tests of rm_alarm.
-#![tactic(auto)]
-
-#[cfg(test)]
-mod tests;
