@@ -1,5 +1,0 @@
-//! Tests of rm_event.
-#![tactic(auto)]
-
-#[cfg(test)]
-mod tests;
