@@ -1,5 +1,0 @@
-//! Tests of rm_filter.
-#![tactic(auto)]
-
-#[cfg(test)]
-mod tests;
