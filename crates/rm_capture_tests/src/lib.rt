@@ -1,5 +1,0 @@
-//! Tests of rm_capture.
-#![tactic(auto)]
-
-#[cfg(test)]
-mod tests;
