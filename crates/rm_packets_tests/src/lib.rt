@@ -1,5 +1,0 @@
-//! Tests of rm_match and rm_ring.
-#![tactic(auto)]
-
-#[cfg(test)]
-mod tests;

@@ -1,2 +1,0 @@
-mod bit_tests;
-mod ring;
