@@ -4,14 +4,16 @@ use Rattle.std.specs.Prelude.{pos}
 use Rattle.rm_val.specs.Val.{Val, int, counter, octets, ticks}
 use Rattle.rm_model.specs.Counting.{Counting}
 use Rattle.rm_model.specs.Journal.{Journal}
-use Rattle.rm_model.specs.Cells.{cells_of}
+use Rattle.rm_model.specs.Cells.{Cells}
 use Rattle.rm_model.proofs.ExampleSettings.{plain}
 use Rattle.rm_proto.specs.Ethernet.{pair_of, is_broadcast, is_group}
+use Rattle.rm_sourced.specs.Collection.{source_cells}
 use Rattle.rm_sourced.proofs.ExampleFrames.{a, b, c, sized, frame, set_status, begun}
-use Rattle.rm_hosts.specs.Control.{control_entry}
-use Rattle.rm_hosts.specs.HostControl.{control_table}
-use Rattle.rm_hosts.specs.Host.{host_entry, host_table}
-use Rattle.rm_hosts.specs.HostTime.{time_entry, time_table}
+use Rattle.rm_hosts.specs.Control.{control_entry, named_entry}
+use Rattle.rm_hosts.specs.Host.{host_entry}
+use Rattle.rm_hosts.specs.HostTime.{time_entry}
+use Rattle.rm_hosts.specs.Shown.{by_address, by_rank}
+use Rattle.rm_hosts.specs.Tables.{host_sourcing}
 
 -- tables with room for two hosts
 abbrev settings : Counting
@@ -32,15 +34,19 @@ two = frame 4000 c b ∷ frame 3000 a b ∷ before
 abbrev three : Journal
 three = frame 5000 a b ∷ two
 
+-- the cells of hostControl, host and hostTime, as the collection has them
+abbrev cells : Journal → Cells
+cells = source_cells named_entry host_sourcing by_address by_rank settings
+
 -- what a column of row 1 of the control table shows, of a host by its address, and of one by its rank
 abbrev control : Journal → (column : ℕ) → Option Val
-control journal column = cells_of (control_table settings journal) (control_entry ++ column ∷ 1 ∷ [])
+control journal column = cells journal (control_entry ++ column ∷ 1 ∷ [])
 
 abbrev host : Journal → List ℕ → (column : ℕ) → Option Val
-host journal address column = cells_of (host_table settings journal) (host_entry ++ column ∷ 1 ∷ 6 ∷ address)
+host journal address column = cells journal (host_entry ++ column ∷ 1 ∷ 6 ∷ address)
 
 abbrev ranked : Journal → (rank column : ℕ) → Option Val
-ranked journal rank column = cells_of (time_table settings journal) (time_entry ++ column ∷ 1 ∷ rank ∷ [])
+ranked journal rank column = cells journal (time_entry ++ column ∷ 1 ∷ rank ∷ [])
 
 -- its size and when a host last gave way; the order, InPkts and OutPkts of a host
 abbrev size_and_deleted : Journal → List (Option Val)

@@ -3,21 +3,12 @@ use Rattle.std.specs.Prelude.{ℕ, pos, ◌%◌, ◌^◌, List, [], ◌∷◌, n
 use Rattle.rm_val.specs.Val.{Val, int, counter, octets}
 use Rattle.rm_model.specs.Counting.{Counting}
 use Rattle.rm_model.specs.Journal.{Journal}
-use Rattle.rm_model.specs.Cells.{Table}
-use Rattle.rm_group.specs.Listed.{ListedTable}
-use Rattle.rm_sourced.specs.Held.{held_table}
-use Rattle.rm_hosts.specs.Columns.{host_columns, counter_in}
-use Rattle.rm_hosts.specs.Control.{named_entry}
+use Rattle.rm_hosts.specs.Columns.{counter_in}
 use Rattle.rm_hosts.specs.Held.{rank_of, sum_of}
-use Rattle.rm_hosts.specs.Tables.{host_sourcing}
 
 -- the identifier of hostEntry
 abbrev pub host_entry : List ℕ
 host_entry = 1 ∷ 3 ∷ 6 ∷ 1 ∷ 2 ∷ 1 ∷ 16 ∷ 4 ∷ 2 ∷ 1 ∷ []
-
--- host, as the group lists it
-abbrev pub host_listed : ListedTable
-host_listed = record { entry = host_entry; columns = host_columns }
 
 -- the index of a host: its address as a text, the number of its octets, 6, and then these (RFC 1902, section 7.7)
 abbrev pub host_index : Counting → Journal → (row : ℕ) → (address : List ℕ) → List ℕ
@@ -31,7 +22,3 @@ host_value settings journal row address column =
     else if nat_eq column 2 then int (pos (rank_of settings journal row address))
     else if nat_eq column 3 then int (pos row)
     else counter (sum_of settings journal row (counter_in column) address % 2 ^ 32)
-
--- the table after a journal
-abbrev pub host_table : Counting → Journal → Table
-host_table = held_table named_entry host_sourcing host_index host_value host_listed

@@ -4,7 +4,6 @@ pub mod Counts
 pub mod Mentions
 pub mod Held
 pub mod Tables
-pub mod HostControl
 pub mod Host
 pub mod HostTime
 pub mod ControlColumns

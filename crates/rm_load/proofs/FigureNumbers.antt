@@ -5,9 +5,12 @@ use Rattle.rm_model.specs.Counting.{Counting}
 use Rattle.rm_model.specs.Journal.{Journal}
 use Rattle.rm_ether.specs.EtherStats.{ether_table}
 use Rattle.rm_history.specs.Collection.{history_collection}
+use Rattle.rm_sourced.specs.Sourcing.{control_table}
 use Rattle.rm_sourced.specs.Collection.{source_collection}
-use Rattle.rm_hosts.specs.HostControl.{control_table as host_table}
-use Rattle.rm_matrix.specs.MatrixControl.{control_table as matrix_table}
+use Rattle.rm_hosts.specs.Control.{named_entry as host_entry}
+use Rattle.rm_hosts.specs.Tables.{host_sourcing}
+use Rattle.rm_matrix.specs.Control.{named_entry as matrix_entry}
+use Rattle.rm_matrix.specs.Tables.{pair_sourcing}
 use Rattle.rm_hl_hosts.specs.Collection.{host_collection as hl_host_collection}
 use Rattle.rm_hl_hosts.specs.HostCells.{control_table as hl_host_table}
 use Rattle.rm_hl_matrices.specs.Collection.{pair_collection}
@@ -40,11 +43,11 @@ module _ (settings : Settings) (start count now : ℕ) where
   in_ether : InRow (ether_table counting)
   in_ether = in_row (ether_table counting) refl (λ frame earlier. refl) start count
 
-  in_hosts : InRow (host_table counting)
-  in_hosts = in_row (host_table counting) refl (λ frame earlier. refl) start count
+  in_hosts : InRow (control_table host_entry host_sourcing counting)
+  in_hosts = in_row (control_table host_entry host_sourcing counting) refl (λ frame earlier. refl) start count
 
-  in_matrix : InRow (matrix_table counting)
-  in_matrix = in_row (matrix_table counting) refl (λ frame earlier. refl) start count
+  in_matrix : InRow (control_table matrix_entry pair_sourcing counting)
+  in_matrix = in_row (control_table matrix_entry pair_sourcing counting) refl (λ frame earlier. refl) start count
 
   in_hl_hosts : InRow (hl_host_table counting)
   in_hl_hosts = in_row (hl_host_table counting) refl (λ frame earlier. refl) start count

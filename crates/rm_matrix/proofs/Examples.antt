@@ -4,14 +4,16 @@ use Rattle.std.specs.Prelude.{pos}
 use Rattle.rm_val.specs.Val.{Val, int, counter, octets, ticks}
 use Rattle.rm_model.specs.Counting.{Counting}
 use Rattle.rm_model.specs.Journal.{Journal}
-use Rattle.rm_model.specs.Cells.{cells_of}
+use Rattle.rm_model.specs.Cells.{Cells}
 use Rattle.rm_model.proofs.ExampleSettings.{plain}
 use Rattle.rm_proto.specs.Ethernet.{pair_of}
+use Rattle.rm_sourced.specs.Collection.{source_cells}
 use Rattle.rm_sourced.proofs.ExampleFrames.{a, b, c, sized, frame, set_status, begun}
-use Rattle.rm_matrix.specs.Control.{control_entry}
-use Rattle.rm_matrix.specs.MatrixControl.{control_table}
-use Rattle.rm_matrix.specs.SourceDestination.{source_entry, source_table}
-use Rattle.rm_matrix.specs.DestinationSource.{destination_entry, destination_table}
+use Rattle.rm_matrix.specs.Control.{control_entry, named_entry}
+use Rattle.rm_matrix.specs.SourceDestination.{source_entry}
+use Rattle.rm_matrix.specs.DestinationSource.{destination_entry}
+use Rattle.rm_matrix.specs.Shown.{sources, destinations}
+use Rattle.rm_matrix.specs.Tables.{pair_sourcing}
 
 -- tables with room for two pairs
 abbrev settings : Counting
@@ -28,15 +30,19 @@ two = frame 4000 b a ∷ frame 3000 a b ∷ before
 abbrev three : Journal
 three = frame 5000 a c ∷ two
 
+-- the cells of matrixControl, matrixSD and matrixDS, as the collection has them
+abbrev cells : Journal → Cells
+cells = source_cells named_entry pair_sourcing sources destinations settings
+
 -- what a column of row 1 of the control table shows, and of a pair, by its source and by its destination
 abbrev control : Journal → (column : ℕ) → Option Val
-control journal column = cells_of (control_table settings journal) (control_entry ++ column ∷ 1 ∷ [])
+control journal column = cells journal (control_entry ++ column ∷ 1 ∷ [])
 
 abbrev by_source : Journal → (source dest : List ℕ) (column : ℕ) → Option Val
-by_source journal source dest column = cells_of (source_table settings journal) (source_entry ++ column ∷ 1 ∷ (6 ∷ source) ++ (6 ∷ dest))
+by_source journal source dest column = cells journal (source_entry ++ column ∷ 1 ∷ (6 ∷ source) ++ (6 ∷ dest))
 
 abbrev by_destination : Journal → (source dest : List ℕ) (column : ℕ) → Option Val
-by_destination journal source dest column = cells_of (destination_table settings journal) (destination_entry ++ column ∷ 1 ∷ (6 ∷ dest) ++ (6 ∷ source))
+by_destination journal source dest column = cells journal (destination_entry ++ column ∷ 1 ∷ (6 ∷ dest) ++ (6 ∷ source))
 
 -- its size and when a pair last gave way; the addresses, the row and the counts of a pair
 abbrev size_and_deleted : Journal → List (Option Val)

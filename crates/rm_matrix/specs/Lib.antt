@@ -4,7 +4,6 @@ pub mod Counts
 pub mod Mentions
 pub mod Held
 pub mod Tables
-pub mod MatrixControl
 pub mod Pairs
 pub mod SourceDestination
 pub mod DestinationSource

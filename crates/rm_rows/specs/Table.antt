@@ -50,12 +50,6 @@ module _ {K V : Type 0} where
   key_at zero rows = None
   key_at (suc i) rows = option_map key_of (slice_get rows i)
 
-  -- rows with the value at a place set
-  abbrev pub with_value_at : List (Row K V) → ℕ → V → List (Row K V)
-  with_value_at [] k w = []
-  with_value_at (row ∷ rows) zero w = record row { value = w } ∷ rows
-  with_value_at (row ∷ rows) (suc k) w = row ∷ with_value_at rows k w
-
 module _ {K V : Type 0} (eq : K → K → Bool) where
   abbrev pub row_of : K → List (Row K V) → Option (Row K V)
   row_of h rows = find (λ row. eq h row.key) rows
