@@ -1,6 +1,6 @@
 -- What the columns of a row of bufferControlTable say of its buffer, where they are those after a journal.
-use Rattle.std.proofs.Common.{◌≡◌, ℕ, ◌+◌, ◌≤◌, Bool, true, false, cond, ◌||◌, Option, Some, None, refl, sym, ap, ◌∙◌, subst, nat_eq, nat_le, arith}
-use Rattle.std.specs.Prelude.{pos, negsuc, unwrap_or, ℤ}
+use Rattle.std.proofs.Common.{◌≡◌, ℕ, ◌≤◌, Bool, true, false, cond, ◌||◌, Option, Some, None, refl, sym, ap, ◌∙◌, subst, nat_eq, nat_le, arith}
+use Rattle.std.specs.Prelude.{pos, unwrap_or, ℤ}
 use Rattle.std.proofs.lemmas.Bool.{and_parts, leb-true, eqb-true}
 use Rattle.rm_val.specs.Val.{Val, int}
 use Rattle.rm_val.specs.Contents.{natural_in}
@@ -9,7 +9,7 @@ use Rattle.rm_model.specs.Alike.{HasSameColumns}
 use Rattle.rm_model.specs.ControlTable.{number, up_from, default_of}
 use Rattle.rm_model.specs.Judgement.{column_kind, value_fault, unless}
 use Rattle.rm_columns.specs.Kinds.{numbers, needed_numbers}
-use Rattle.rm_acts.specs.Buffers.{buffer_table, all_or, granted_for}
+use Rattle.rm_acts.specs.Buffers.{buffer_table, granted_for}
 use Rattle.rm_capture.specs.declared.buffer_row.BufferRow.{BufferRow}
 use Rattle.rm_capture.specs.declared.full_action.FullAction.{FullAction}
 use Rattle.rm_capture.specs.declared.full_action.FullAction.TheVariants.{Lock, Wrap}
@@ -47,18 +47,6 @@ module _ (row : BufferRow) (other : ℕ → Option Val) (same : HasSameColumns b
 
   pub granted_is : granted_for (slice_kept row) (int row.requested) ≡ granted_for (natural_in (shown 5)) (shown 8)
   granted_is = λ d. granted_for (slice_is d) (same.1.1.1.1.1.0.shown d)
-
--- so many octets are granted that one packet fits, and no more than there is storage for
-slice_some : (size : ℕ) → size ≤ 262144 → all_or 262144 size ≤ 262144
-slice_some size few =
-    elim (nat_eq size 0) as (λ t. cond t 262144 size ≤ 262144) [
-      | true ↦ omega arith
-      | false ↦ few
-    ]
-
-pub granted_fits : (size : ℕ) (requested : ℤ) → size ≤ 262144 → (all_or 262144 size + 32 ≤ granted_for size (int requested)) × (granted_for size (int requested) ≤ 1048576)
-granted_fits size (pos n) few = let slice = slice_some size few in (omega arith, omega (arith, slice))
-granted_fits size (negsuc n) few = let slice = slice_some size few in (omega (arith, slice), omega arith)
 
 -- the size of a slice stays in range
 

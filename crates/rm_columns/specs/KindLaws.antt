@@ -1,8 +1,7 @@
 -- What a typed column shows after it was set, by the kind of its values.
-use Rattle.std.proofs.Common.{◌≡◌, ℕ, zero, suc, ◌≤◌, nat_eq, List, [], ◌∷◌, length, Bool, true, false, cond, ◌&&◌, ◌||◌, Option, Some, None, refl, sym, ap, subst, nat_le, arith}
+use Rattle.std.proofs.Common.{◌≡◌, ℕ, zero, suc, ◌≤◌, nat_eq, List, [], ◌∷◌, length, Bool, true, false, cond, ◌&&◌, ◌||◌, Some, None, refl, sym, ap, subst, nat_le, arith}
 use Rattle.std.specs.Prelude.{ℤ, pos, negsuc, int_le, find, unwrap_or}
 use Rattle.std.specs.List.{list_all, list_any}
-use Rattle.std.specs.Option.{option_map}
 use borrow.Author.Tests.{eqb-true}
 use Rattle.std.proofs.lemmas.Bool.Decides.{nat_tests}
 use Rattle.std.proofs.lemmas.Slice.Eq.{bytes_eq-Decides}
@@ -96,23 +95,6 @@ source_shows kind value holds fine = absurd (cc)
 pub natural_within : (least greatest : ℕ) (n : ℤ) → int_le (pos least) n ≡ true → int_le n (pos greatest) ≡ true → Some (int (pos (natural_in (int n)))) ≡ Some (int n)
 natural_within least greatest (pos n) low high = refl
 natural_within least greatest (negsuc n) low high = absurd (cc)
-
--- what a column of such numbers takes fits where the greatest one does
-pub natural_fits : (least greatest : ℕ) (value : Val) → value_fault (Some (number (record { least = pos least; greatest = pos greatest } ∷ []))) value ≡ None → natural_in value ≤ greatest
-natural_fits least greatest value fine =
-    let it = number_is (record { least = pos least; greatest = pos greatest } ∷ []) value fine in subst (λ v. natural_in v ≤ greatest) (sym it.1) (fit it.0 it.2)
-  where
-    second : (a b : Bool) → ((a && b) || false) ≡ true → b ≡ true
-    second true true is = refl
-    second true false is = absurd (cc)
-    second false b is = absurd (cc)
-
-    small : (n : ℕ) → nat_le n greatest ≡ true → n ≤ greatest
-    small n few = grind (arith, nat_tests)
-
-    fit : (n : ℤ) → is_in (record { least = pos least; greatest = pos greatest } ∷ []) n ≡ true → natural_in (int n) ≤ greatest
-    fit (pos n) is = small n (second (nat_le least n) (nat_le n greatest) is)
-    fit (negsuc n) is = omega arith
 
 one_of_them : (P : ℕ → Type 0) (greatest n : ℕ) → UpTo greatest P → 1 ≤ n → n ≤ greatest → P n
 one_of_them P zero n all some few = absurd (omega arith)

@@ -32,10 +32,6 @@ naturals least greatest = record {
   shows = of_within (λ value. Some (int (pos (natural_in value))) ≡ Some value) (pos least) (pos greatest) (natural_within least greatest);
 }
 
--- a name
-abbrev pub names : FieldOf (List ℕ)
-names = record { holds = holds_names; shown = λ numbers. Some (name numbers); taken = name_of; shows = name_shows }
-
 -- a data source, by the number of its interface
 abbrev pub sources : FieldOf ℕ
 sources = record {

@@ -31,10 +31,6 @@ blank_row = record {
   owner = record { items = [] };
 }
 
--- whatever its index
-abbrev pub new_row : ℕ → EventRow
-new_row index = blank_row
-
 -- a row with one of its columns set
 abbrev pub with_column : EventRow → ℕ → Val → EventRow
 with_column row n value = record {

@@ -8,7 +8,7 @@ use Rattle.rm_model.specs.ControlRows.{no_rows, is_valid, stays_valid}
 use Rattle.rm_status.specs.RowsAfter.{AreRowsAfter}
 use Rattle.rm_status.specs.declared.row.Row.{Row}
 use Rattle.rm_acts.specs.declared.firing.Firing.{Firing}
-use Rattle.rm_event.specs.EventTable.{event_table, event_state, event_set, type_of}
+use Rattle.rm_event.specs.EventTable.{event_table, event_state, type_of}
 use Rattle.rm_event.specs.declared.event_row.EventRow.{EventRow}
 use Rattle.rm_event.specs.EventRows.{set_to}
 use Rattle.rm_acts.specs.Fired.{act_fires, fired, moments_in, firings, firings_with}
@@ -34,11 +34,6 @@ same_state (passes frame) earlier index unset = refl
 same_state (assigns moment values) earlier index unset = absurd (cc)
 same_state (samples moment alarm None) earlier index unset = refl
 same_state (samples moment alarm (Some reading)) earlier index unset = refl
-
-pub same_set : (act : Act) (earlier : Journal) (index : List ℕ) (column : ℕ) → is_set act ≡ false → event_set (act ∷ earlier) index column ≡ event_set earlier index column
-same_set (passes frame) earlier index column unset = refl
-same_set (assigns moment values) earlier index column unset = absurd (cc)
-same_set (samples moment alarm reading) earlier index column unset = refl
 
 pub same_type : (act : Act) (earlier : Journal) (event : ℕ) → is_set act ≡ false → type_of (act ∷ earlier) event ≡ type_of earlier event
 same_type (passes frame) earlier event unset = refl

@@ -23,10 +23,6 @@ set_to columns n =
 abbrev pub blank_columns : ControlColumns
 blank_columns = record { source = 1; requested = 50; interval = 1800; owner = record { items = [] } }
 
--- whatever its index
-abbrev pub new_row : ℕ → ControlColumns
-new_row index = blank_columns
-
 -- columns with one of them set
 abbrev pub with_column : ControlColumns → ℕ → Val → ControlColumns
 with_column columns n value = record {

@@ -54,8 +54,3 @@ frames_in [] = []
 frames_in (passes frame ∷ earlier) = frame ∷ frames_in earlier
 frames_in (assigns moment values ∷ earlier) = frames_in earlier
 frames_in (samples moment alarm reading ∷ earlier) = frames_in earlier
-
--- the journal after frames that pass in this order
-abbrev pub after_frames : List Frame → Journal → Journal
-after_frames [] journal = journal
-after_frames (frame ∷ more) journal = after_frames more (passes frame ∷ journal)

@@ -111,12 +111,9 @@ first_pass table bindings place =
 
 -- The second pass: the bindings of each row together, by what the rows are before the Set.
 
--- whether a column may be set while its row is valid too, and whether a row needs it
+-- whether a column may be set while its row is valid too
 abbrev pub is_always : ControlTable → ℕ → Bool
 is_always table column = option_map_or (λ c. c.always) (column_of table column) false
-
-abbrev pub is_needed : ControlTable → ℕ → Bool
-is_needed table column = option_map_or (λ c. c.needed) (column_of table column) false
 
 -- whether what asks this of a row of that state makes the row
 abbrev pub is_made : State → Ask → Bool

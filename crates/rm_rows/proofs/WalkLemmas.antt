@@ -1,54 +1,13 @@
 -- The least key so far.
-use Rattle.std.proofs.Common.{◌≡◌, ℕ, ◌≤◌, ◌+◌, zero, suc, false, List, [], ◌∷◌, ◌++◌, get_or, ◌⊎◌, nat_le, Option, Some, None, All, Contains, refl, ap, arith, inl, inr}
+use Rattle.std.proofs.Common.{◌≡◌, ℕ, ◌≤◌, ◌+◌, zero, suc, List, [], ◌∷◌, get_or, ◌⊎◌, nat_le, Option, Some, None, All, Contains, refl, ap, arith, inl, inr}
 use Rattle.std.specs.declared.cmp.Ordering.{Ordering}
 use Rattle.std.specs.declared.cmp.Ordering.TheVariants.{Less}
-use Rattle.std.specs.Cmp.{IsTotalOrder}
 use Rattle.std.proofs.lemmas.Bool.{cases_Bool, both_ways, le-leb, leb-true}
-use Rattle.std.proofs.lemmas.List.Elements.{All-push, All-weaker, Contains-push, Contains-append_left, All-from_recursion, recursion_from_All}
+use Rattle.std.proofs.lemmas.List.Elements.{All-weaker, All-from_recursion, recursion_from_All}
 use Rattle.std.specs.List.{AllByRecursion}
 use Rattle.std.specs.Prelude.{⊤}
 use Rattle.rm_evicting.specs.declared.Row.{Row}
-use Rattle.rm_rows.specs.Table.{IsAbove, IsBetter, IsNextKey, IsPairAbove, IsNextMark, Passes, keys_of, from_mark}
-use Rattle.rm_rows.proofs.Steps.{irreflexive}
-
-module _ {K : Type 0} (cmp : K → K → Ordering) (order : IsTotalOrder cmp) where
-  -- a key that isn't above, or isn't before the best, changes nothing
-  stays : (ks : List K) (from best : Option K) (k : K) → (IsAbove cmp from k → IsBetter cmp k best → ⊥) → IsNextKey cmp ks from best → IsNextKey cmp (ks ++ k ∷ []) from best
-  stays ks from None k off next = All-push (λ j. IsAbove cmp from j → ⊥) ks k next (λ a. off a tt)
-  stays ks from (Some b) k off next = (Contains-append_left ks (k ∷ []) b next.0, next.1, All-push (λ j. IsAbove cmp from j → cmp j b ≡ Less → ⊥) ks k next.2 off)
-
-  -- one that is becomes the best
-  changes : (ks : List K) (from best : Option K) (k : K) → IsAbove cmp from k → IsBetter cmp k best → IsNextKey cmp ks from best → IsNextKey cmp (ks ++ k ∷ []) from (Some k)
-  changes ks from None k above better next = (Contains-push ks k, above, All-push (λ j. IsAbove cmp from j → cmp j k ≡ Less → ⊥) ks k (All-weaker (λ j. IsAbove cmp from j → ⊥) (λ j. IsAbove cmp from j → cmp j k ≡ Less → ⊥) (λ j none a. absurd (none a)) ks next) (λ a l. irreflexive cmp order k l))
-  changes ks from (Some b) k above better next = (Contains-push ks k, above, All-push (λ j. IsAbove cmp from j → cmp j k ≡ Less → ⊥) ks k (All-weaker (λ j. IsAbove cmp from j → cmp j b ≡ Less → ⊥) (λ j. IsAbove cmp from j → cmp j k ≡ Less → ⊥) (λ j least a l. least a (order.trans j k b l better)) ks next.2) (λ a l. irreflexive cmp order k l))
-
-module _ {K V : Type 0} where
-  from_mark-in : (mark : ℕ) (rows : List (Row K V)) (row : Row K V) → mark ≤ row.tick → keys_of (from_mark mark (rows ++ row ∷ [])) ≡ keys_of (from_mark mark rows) ++ row.key ∷ []
-  from_mark-in mark [] row le = rw (le-leb mark row.tick le) refl
-  from_mark-in mark (x ∷ rows) row le = elim (cases_Bool (nat_le mark x.tick)) [
-    | inl e ↦ rw e (ap (λ l. x.key ∷ l) (from_mark-in mark rows row le))
-    | inr e ↦ rw e (from_mark-in mark rows row le)
-  ]
-
-  from_mark-out : (mark : ℕ) (rows : List (Row K V)) (row : Row K V) → nat_le mark row.tick ≡ false → from_mark mark (rows ++ row ∷ []) ≡ from_mark mark rows
-  from_mark-out mark [] row e = rw e refl
-  from_mark-out mark (x ∷ rows) row e = elim (cases_Bool (nat_le mark x.tick)) [
-    | inl y ↦ rw y (ap (λ l. x ∷ l) (from_mark-out mark rows row e))
-    | inr y ↦ rw y (from_mark-out mark rows row e)
-  ]
-
-module _ {K V : Type 0} (cmp : K → K → Ordering) (order : IsTotalOrder cmp) where
-  abbrev Next : ℕ → List (Row K V) → Option K → Option K → Type 0
-  Next mark rows from best = IsNextKey cmp (keys_of (from_mark mark rows)) from best
-
-  pub next_passes : (mark : ℕ) (rows : List (Row K V)) (row : Row K V) (from best : Option K) → Passes cmp row mark from best → Next mark rows from best → Next mark (rows ++ row ∷ []) from (Some row.key)
-  next_passes mark rows row from best p next = rw (from_mark-in mark rows row p.0) (changes cmp order (keys_of (from_mark mark rows)) from best row.key p.1 p.2 next)
-
-  pub next_stays : (mark : ℕ) (rows : List (Row K V)) (row : Row K V) (from best : Option K) → (Passes cmp row mark from best → ⊥) → Next mark rows from best → Next mark (rows ++ row ∷ []) from best
-  next_stays mark rows row from best off next = elim (cases_Bool (nat_le mark row.tick)) [
-    | inl e ↦ rw (from_mark-in mark rows row (leb-true mark row.tick e)) (stays cmp order (keys_of (from_mark mark rows)) from best row.key (λ a b. off (leb-true mark row.tick e, a, b)) next)
-    | inr e ↦ rw (from_mark-out mark rows row e) next
-  ]
+use Rattle.rm_rows.specs.Table.{IsAbove, IsNextKey, IsPairAbove, IsNextMark, keys_of, from_mark}
 
 Contains-cons_cases : {X : Type 0} (y : X) (ys : List X) (k : X) → Contains (y ∷ ys) k → (y ≡ k) ⊎ Contains ys k
 Contains-cons_cases y ys k (zero, lt, e) = inl e

@@ -80,11 +80,6 @@ module _ {K : Type 0} (cmp : K → K → Ordering) where
   IsAbove None k = ⊤
   IsAbove (Some j) k = cmp j k ≡ Less
 
-  -- a key stands before another, or there is none to stand before
-  abbrev pub IsBetter : K → Option K → Type 0
-  IsBetter k None = ⊤
-  IsBetter k (Some best) = cmp k best ≡ Less
-
   -- the least of the keys that are such, if there is one
   abbrev pub IsFirstKey : (K → Type 0) → List K → Option K → Type 0
   IsFirstKey IsSuch ks None = All (λ k. ¬ (IsSuch k)) ks
@@ -107,10 +102,6 @@ module _ {K : Type 0} (cmp : K → K → Ordering) where
   IsPairAbove mark from m k = (mark < m) ⊎ ((mark ≡ m) × IsAbove from k)
 
 module _ {K V : Type 0} (cmp : K → K → Ordering) where
-  -- a row comes from a mark on, above a key, and before the best
-  abbrev pub Passes : Row K V → ℕ → Option K → Option K → Type 0
-  Passes row mark from best = (mark ≤ row.tick) × IsAbove cmp from row.key × IsBetter cmp row.key best
-
   -- each row stands at each mark up to its tick; the least of these pairs above the given one, if there is one
   abbrev pub IsNextMark : List (Row K V) → ℕ → Option K → Option (ℕ × K) → Type 0
   IsNextMark rows mark from None = All (λ row. (m : ℕ) → m ≤ row.tick → ¬ (IsPairAbove cmp mark from m row.key)) rows
