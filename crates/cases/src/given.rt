@@ -30,6 +30,7 @@ impl Given {
             pairs: 1024,
             upper: 1024,
             keep_short: false,
+            interfaces: 1,
             read: Vec::from_slice(alloc, b"public")?,
             write: Vec::from_slice(alloc, b"private")?,
         })

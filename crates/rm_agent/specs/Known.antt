@@ -5,13 +5,13 @@ use Rattle.rm_acts.specs.Recurring.{sampling}
 use Rattle.rm_settings.specs.declared.settings.Settings.{Settings}
 use Rattle.rm_agent.specs.Watched.{watched_cells}
 
--- what the groups know of the settings; the one interface is that of the capture
+-- what the groups know of the settings
 abbrev pub known_to_groups : Settings → Counting
 known_to_groups settings = record {
   hosts = settings.hosts;
   pairs = settings.pairs;
   upper = settings.upper;
-  interfaces = 1;
+  interfaces = settings.interfaces;
   keep_short = settings.keep_short;
   readings = λ journal now. nothing_read;
 }

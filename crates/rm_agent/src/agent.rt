@@ -11,7 +11,7 @@ use crate::sampling::take;
 use rm_group::{Due, MOST_FRAMES, Passing, SAMPLES};
 use rm_pcap::Frame;
 use rm_pdu::{Places, read_message};
-use rm_proto::facts;
+use rm_proto::{Facts, facts};
 use rm_reply::{MOST_REPLY, Request, granted_or_denied, respond};
 use rm_settings::Settings;
 use rm_val::{NoMemory, Oid, Value};
@@ -86,7 +86,10 @@ impl Agent {
         ensures frames { frames_given self.new ≡ frames_given self.old + 1 }
     {
         let passing = Passing {
-            facts: facts(frame.bytes, frame.original, self.settings.keep_short),
+            facts: Facts {
+                interface: frame.interface,
+                ..facts(frame.bytes, frame.original, self.settings.keep_short)
+            },
             octets: frame.bytes,
             number: frame.number,
             moment: frame.moment,

@@ -1,5 +1,5 @@
 -- Indexes and judgements worked out by hand.
-use Rattle.std.proofs.Common.{◌≡◌, ℕ, List, [], ◌∷◌, ◌++◌, true, Option, Some, None, map, refl}
+use Rattle.std.proofs.Common.{◌≡◌, ℕ, List, [], ◌∷◌, ◌++◌, true, false, Option, Some, None, map, refl}
 use Rattle.std.specs.Prelude.{pos, codes}
 use Rattle.rm_val.specs.Val.{Val, int, octets}
 use Rattle.rm_val.specs.declared.error.ErrorStatus.TheVariants.{NoCreation, NotWritable, InconsistentValue, WrongValue}
@@ -88,7 +88,7 @@ snmp_config = refl
 
 -- the facts of a frame of IP, by its protocol and its ports
 abbrev of_ip : Option ℕ → Option Ports → Facts
-of_ip proto ports = record { interface = 1; length = 64; good = true; status = 0; pair = None; cast = Uni; ether = Some 0x0800; ip = None; proto = proto; ports = ports }
+of_ip proto ports = record { interface = 1; length = 64; tagged = false; good = true; status = 0; pair = None; cast = Uni; ether = Some 0x0800; ip = None; proto = proto; ports = ports }
 
 -- a datagram of UDP, from one port to the other
 abbrev datagram : (source dest : ℕ) → Facts

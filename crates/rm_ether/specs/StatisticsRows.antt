@@ -30,9 +30,9 @@ with_column row n value = record {
 abbrev pub blank_row : StatisticsRow
 blank_row = record { source = 1; owner = record { items = [] }; statistics = no_sums }
 
--- the row that is there from before the first act
-abbrev pub monitor_row : StatisticsRow
-monitor_row = record { source = 1; owner = record { items = codes "monitor" }; statistics = no_sums }
+-- the row of an interface that is there from before the first act
+abbrev pub monitor_row : ℕ → StatisticsRow
+monitor_row interface = record { source = interface; owner = record { items = codes "monitor" }; statistics = no_sums }
 
 -- the form of the rows
 abbrev pub statistics_rows : RowForm StatisticsRow

@@ -16,9 +16,6 @@ use rm_val::{Oid, Value};
 /// The tables of the group.
 const OBJECTS: &[TableObjects] = &[ETHER_OBJECTS];
 
-/// The index of the row of the monitor.
-const ROW: u32 = 1;
-
 /// The statistics of interfaces: etherStatsTable (RFC 1757, section 5). Each interface has a row that is valid from before the
 /// first act.
 #[derive(Drop)]
@@ -36,14 +33,17 @@ impl Ether {
     ghost use Rattle.rm_model.specs.FrameFacts.{frame_facts};
     ghost use Rattle.rm_ether.specs.Group.{Stands, frames_given, last_given};
 
-    /// The statistics of one interface before the first frame.
-    pub fn new() -> Ether
-        ensures stands { (settings : Counting) → settings.interfaces ≡ 1 → Stands result settings [] }
+    /// The statistics of so many interfaces before the first frame, of which each has a row of the monitor, with its number.
+    pub fn new(interfaces: u32) -> Ether
+        requires few { interfaces ≤ 4 }
+        ensures stands { (settings : Counting) → settings.interfaces ≡ interfaces → Stands result settings [] }
         ensures frames { frames_given result ≡ 0 }
         ensures last { last_given result ≡ 0 }
     {
         let mut rows = Controls::new();
-        rows.insert(ROW, State::Valid, StatisticsRow::of_monitor());
+        for number in 1..=interfaces {
+            rows.insert(number, State::Valid, StatisticsRow::of_monitor(number));
+        }
         Ether {
             rows,
             frames: 0,

@@ -49,11 +49,12 @@ pub struct StatisticsRow {
 impl StatisticsRow {
     ghost use Rattle.rm_ether.specs.StatisticsRows.{monitor_row};
 
-    /// The row of the monitor: it counts the frames of interface 1.
-    pub fn of_monitor() -> StatisticsRow
-        ensures { result ≡ monitor_row }
+    /// The row of the monitor that counts the frames of an interface.
+    pub fn of_monitor(interface: u32) -> StatisticsRow
+        ensures { result ≡ monitor_row interface }
     {
-        let mut row = StatisticsRow::blank(1);
+        let mut row = StatisticsRow::blank(interface);
+        row.source = interface;
         row.owner.try_extend_from_slice(b"monitor").unwrap();
         row
     }

@@ -1,7 +1,6 @@
 -- The frames of a load: datagrams of UDP (RFC 768) over IPv4 (RFC 791) from and to 64 hosts, to the ports of DNS and of SNMP.
 use Rattle.std.specs.Prelude.{ℕ, ◌+◌, ◌/◌, ◌%◌, ◌==◌, if◌then◌else◌, List, [], ◌∷◌, ◌++◌, replicate}
 use Rattle.rm_model.specs.Journal.{Frame}
-use Rattle.rm_pcap.specs.Records.{captured_interface}
 use Rattle.rm_load.specs.Draws.{number_of, drawn_by}
 
 -- the hosts that a frame comes from and goes to, by what is drawn for it
@@ -39,7 +38,7 @@ octets_of drawn =
 -- a frame with a number, by what is drawn for it: it comes a millisecond after the one before, and had 60 to 1514 octets
 abbrev pub frame_by : (number drawn : ℕ) → Frame
 frame_by number drawn = record {
-  interface = captured_interface;
+  interface = 1;
   moment = 1000 + number;
   number = number;
   octets = octets_of drawn;

@@ -1,7 +1,6 @@
 -- The frames of a load as they are made, one by one.
 use Rattle.std.specs.Prelude.{◌≡◌, ◌+◌, Option, Some, None}
 use Rattle.rm_model.specs.Journal.{Frame}
-use Rattle.rm_pcap.specs.Records.{captured_interface}
 use Rattle.rm_load.specs.declared.frames.Frames.{Frames}
 use Rattle.rm_load.specs.declared.made.MadeFrame.{MadeFrame}
 use Rattle.rm_load.specs.Draws.{next, drawn_by}
@@ -9,7 +8,7 @@ use Rattle.rm_load.specs.Frames.{frame_by}
 
 -- the frame that was made, as a journal holds it
 abbrev pub made_of : MadeFrame → Frame
-made_of made = record { interface = captured_interface; moment = 1000 + made.number; number = made.number; octets = made.octets; original = made.original }
+made_of made = record { interface = 1; moment = 1000 + made.number; number = made.number; octets = made.octets; original = made.original }
 
 -- one more frame has come, by the next number
 pub record HasGone (old new : Frames) (made : MadeFrame) : Type 0 where

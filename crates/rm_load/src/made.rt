@@ -7,6 +7,9 @@ use rm_pcap::Frame;
 /// How many frames a load has at most.
 pub const MOST_MADE: u32 = 10_000_000;
 
+/// The interface of all frames.
+const INTERFACE: u32 = 1;
+
 /// The moment before the first frame, in milliseconds. A frame comes each millisecond.
 pub const BEFORE_FRAMES: u32 = 1000;
 
@@ -60,6 +63,7 @@ impl MadeFrame {
             original: self.original,
             moment: BEFORE_FRAMES + self.number,
             number: self.number,
+            interface: INTERFACE,
         }
     }
 }

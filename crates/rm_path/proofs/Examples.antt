@@ -1,5 +1,5 @@
 -- Paths worked out by hand.
-use Rattle.std.proofs.Common.{◌≡◌, ℕ, List, [], ◌∷◌, Bool, true, Option, Some, None, refl}
+use Rattle.std.proofs.Common.{◌≡◌, ℕ, List, [], ◌∷◌, Bool, true, false, Option, Some, None, refl}
 use Rattle.std.specs.List.{list_any}
 use Rattle.rm_proto.specs.declared.known.Facts.{Facts}
 use Rattle.rm_proto.specs.declared.ports.Ports.{Ports}
@@ -11,7 +11,7 @@ use Rattle.rm_path.specs.Layers.{path_of}
 
 -- a frame by its type, its protocol and its ports
 abbrev frame : Option ℕ → Option ℕ → Option Ports → Facts
-frame ether proto ports = record { interface = 1; length = 64; good = true; status = 0; pair = None; cast = Uni; ether = ether; ip = None; proto = proto; ports = ports }
+frame ether proto ports = record { interface = 1; length = 64; tagged = false; good = true; status = 0; pair = None; cast = Uni; ether = ether; ip = None; proto = proto; ports = ports }
 
 abbrev active : List ProtocolIdentifier → ProtocolIdentifier → Bool
 active protocols one = list_any (λ other. is_same other one) protocols

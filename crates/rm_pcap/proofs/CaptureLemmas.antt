@@ -28,8 +28,8 @@ pub header_read : (bytes header : List ℕ) (count : ℕ) → length header ≡ 
 header_read bytes header count long fills = ap header_of (fills.are ∙ ap (λ (k : ℕ). take k bytes) long) ∙ header_front bytes
 
 -- what was seen is lawful
-pub lawful_find : (reach : Reach) (octets : List ℕ) (seen : Seen) → FollowsSeen reach seen → IsLawfulFind reach (found_of reach octets seen)
-lawful_find reach octets (SeenWhole whole) follows = record {
+pub lawful_find : (interface : ℕ) (reach : Reach) (octets : List ℕ) (seen : Seen) → FollowsSeen reach seen → IsLawfulFind reach (found_of interface reach octets seen)
+lawful_find interface reach octets (SeenWhole whole) follows = record {
   captured = omega (arith, follows.captured, length-take whole.included (drop 16 octets));
   most = follows.most;
   number = follows.number;
@@ -38,8 +38,8 @@ lawful_find reach octets (SeenWhole whole) follows = record {
   last = refl;
   count = refl;
 }
-lawful_find reach octets SeenEnd follows = tt
-lawful_find reach octets SeenCut follows = tt
+lawful_find interface reach octets SeenEnd follows = tt
+lawful_find interface reach octets SeenCut follows = tt
 
 pub follows_seen : (reach : Reach) (ahead : Option Seen) (seen : Seen) → IsAhead reach ahead → ahead ≡ Some seen → FollowsSeen reach seen
 follows_seen reach ahead (SeenWhole whole) follows is = follows whole is

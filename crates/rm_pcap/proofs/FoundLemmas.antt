@@ -1,37 +1,30 @@
 -- What stands next in a file, by the octets that were read of it.
-use Rattle.std.proofs.Common.{◌≡◌, ℕ, ◌+◌, ◌≤◌, ◌<◌, List, [], ◌∷◌, length, take, drop, Some, None, refl, sym, ap, subst, ◌∙◌, arith}
+use Rattle.std.proofs.Common.{◌≡◌, ℕ, ◌+◌, ◌≤◌, ◌<◌, nat_lt, Bool, true, false, if◌then◌else◌, List, [], ◌∷◌, length, take, drop, Option, Some, None, refl, sym, ap, subst, ◌∙◌, arith}
 use Rattle.std.proofs.lemmas.Bool.Decides.{nat_tests}
 use Rattle.rm_pcap.specs.declared.form.Form.{Form}
+use Rattle.rm_pcap.specs.declared.start.Start.{Start}
 use Rattle.rm_pcap.specs.declared.fault.PcapFault.{PcapFault}
+use Rattle.rm_pcap.specs.declared.fault.PcapFault.TheVariants.{Late}
 use Rattle.rm_pcap.specs.declared.reach.Reach.{Reach}
+use Rattle.rm_pcap.specs.declared.record.Lengths.{Lengths}
 use Rattle.rm_pcap.specs.declared.record.Record.{Record}
-use Rattle.rm_pcap.specs.Records.{Whole, Stops, Ended, CutAt, Broken, found_at, found_in, found_with, fault_at, included_of, frame_at, reach_after}
+use Rattle.rm_pcap.specs.Records.{Whole, Stops, Ended, CutAt, Broken, found_at, found_in, found_with, fault_at, is_late, included_of, frame_at, reach_after}
 use Rattle.rm_window.specs.Filling.{IsFront, Holds}
-use Rattle.rm_pcap.specs.Seen.{record_of, frame_seen}
-use Rattle.rm_pcap.proofs.FrontLemmas.{record_front, fault_front}
+use Rattle.rm_pcap.specs.Seen.{lengths_of, record_of, frame_seen, AreSound, IsWholeIn, IsWholePart, IsCutPart, within, behind}
+use Rattle.rm_pcap.proofs.FrontLemmas.{lengths_front, record_front, late_front, fault_front}
 use Rattle.rm_window.proofs.WindowLemmas.{front_of, front_short, between_front}
 
-none_left : (form : Form) (lead : ℕ) (reach : Reach) (xs : List ℕ) → length xs ≡ 0 → found_in form lead reach xs ≡ Stops Ended
-none_left form lead reach [] none = refl
-none_left form lead reach (x ∷ xs) none = absurd (omega (arith, none))
+none_left : (form : Form) (start : Start) (reach : Reach) (xs : List ℕ) → length xs ≡ 0 → found_in form start reach xs ≡ Stops Ended
+none_left form start reach [] none = refl
+none_left form start reach (x ∷ xs) none = absurd (omega (arith, none))
 
-few_left : (form : Form) (lead : ℕ) (reach : Reach) (xs : List ℕ) → 0 < length xs → length xs < 16 → found_in form lead reach xs ≡ Stops (CutAt reach.at)
-few_left form lead reach [] some few = absurd (omega (arith, some))
-few_left form lead reach (x ∷ xs) some few = grind (arith, nat_tests)
+few_left : (form : Form) (start : Start) (reach : Reach) (xs : List ℕ) → 0 < length xs → length xs < 16 → found_in form start reach xs ≡ Stops (CutAt reach.at)
+few_left form start reach [] some few = absurd (omega (arith, some))
+few_left form start reach (x ∷ xs) some few = grind (arith, nat_tests)
 
-header_left : (form : Form) (lead : ℕ) (reach : Reach) (xs : List ℕ) → 16 ≤ length xs → found_in form lead reach xs ≡ found_with form lead reach xs (fault_at form lead reach xs)
-header_left form lead reach [] enough = absurd (omega (arith, enough))
-header_left form lead reach (x ∷ xs) enough = grind (arith, nat_tests)
-
-pub found_end : (form : Form) (lead : ℕ) (reach : Reach) (bytes octets : List ℕ) → Holds bytes reach.at 16 octets → length octets ≡ 0 → Stops Ended ≡ found_at form lead reach bytes
-unfolding found_at
-found_end form lead reach bytes octets holds none = sym (none_left form lead reach (drop reach.at bytes) (omega (arith, none, holds.all (omega (arith, none)))))
-
-pub found_cut : (form : Form) (lead : ℕ) (reach : Reach) (bytes octets : List ℕ) → Holds bytes reach.at 16 octets → 0 < length octets → length octets < 16
-    → Stops (CutAt reach.at) ≡ found_at form lead reach bytes
-unfolding found_at
-found_cut form lead reach bytes octets holds some few =
-    let e = holds.all few in sym (few_left form lead reach (drop reach.at bytes) (omega (arith, some, e)) (omega (arith, few, e)))
+header_left : (form : Form) (start : Start) (reach : Reach) (xs : List ℕ) → 16 ≤ length xs → found_in form start reach xs ≡ found_with form start reach xs (fault_at form start reach xs)
+header_left form start reach [] enough = absurd (omega (arith, enough))
+header_left form start reach (x ∷ xs) enough = grind (arith, nat_tests)
 
 -- the header was read whole
 pub record IsHeader (reach : Reach) (bytes octets : List ℕ) : Type 0 where
@@ -45,49 +38,112 @@ is_header reach bytes octets window is holds enough =
 header_same : (reach : Reach) (bytes octets : List ℕ) → IsHeader reach bytes octets → take 16 octets ≡ take 16 (drop reach.at bytes)
 header_same reach bytes octets h = front_of 16 octets (drop reach.at bytes) h.front h.enough
 
-by_header : (form : Form) (lead : ℕ) (reach : Reach) (bytes octets : List ℕ) → IsHeader reach bytes octets
-    → found_at form lead reach bytes ≡ found_with form lead reach (drop reach.at bytes) (fault_at form lead reach octets)
+-- the header tells of the octets that are left what it tells of those that were read
+fault_same : (form : Form) (start : Start) (reach : Reach) (bytes octets : List ℕ) → IsHeader reach bytes octets → fault_at form start reach octets ≡ fault_at form start reach (drop reach.at bytes)
+fault_same form start reach bytes octets h =
+    sym (fault_front form start reach octets) ∙ ap (fault_at form start reach) (header_same reach bytes octets h) ∙ fault_front form start reach (drop reach.at bytes)
+
+lengths_same : (form : Form) (reach : Reach) (bytes octets : List ℕ) → IsHeader reach bytes octets → lengths_of form octets ≡ lengths_of form (drop reach.at bytes)
+lengths_same form reach bytes octets h = sym (lengths_front form octets) ∙ ap (lengths_of form) (header_same reach bytes octets h) ∙ lengths_front form (drop reach.at bytes)
+
+late_same : (form : Form) (start : Start) (reach : Reach) (bytes octets : List ℕ) → IsHeader reach bytes octets → is_late form start reach octets ≡ is_late form start reach (drop reach.at bytes)
+late_same form start reach bytes octets h =
+    sym (late_front form start reach octets) ∙ ap (is_late form start reach) (header_same reach bytes octets h) ∙ late_front form start reach (drop reach.at bytes)
+
+record_same : (form : Form) (start : Start) (reach : Reach) (bytes octets : List ℕ) → IsHeader reach bytes octets → record_of form start reach octets ≡ record_of form start reach (drop reach.at bytes)
+record_same form start reach bytes octets h =
+    sym (record_front form start reach octets) ∙ ap (record_of form start reach) (header_same reach bytes octets h) ∙ record_front form start reach (drop reach.at bytes)
+
+pub found_broken : (form : Form) (start : Start) (reach : Reach) (bytes octets : List ℕ) (fault : PcapFault) → IsHeader reach bytes octets → fault_at form start reach octets ≡ Some fault
+    → found_at form start reach bytes ≡ Stops (Broken fault)
 unfolding found_at
-by_header form lead reach bytes octets h =
+found_broken form start reach bytes octets fault h is =
     let xs = drop reach.at bytes in
-    header_left form lead reach xs (omega (arith, h.enough, front_short octets xs h.front))
-    ∙ ap (found_with form lead reach xs) (sym (fault_front form lead reach xs) ∙ ap (fault_at form lead reach) (sym (header_same reach bytes octets h)) ∙ fault_front form lead reach octets)
+    header_left form start reach xs (omega (arith, h.enough, front_short octets xs h.front)) ∙ ap (found_with form start reach xs) (sym (fault_same form start reach bytes octets h) ∙ is)
 
-pub found_broken : (form : Form) (lead : ℕ) (reach : Reach) (bytes octets : List ℕ) (fault : PcapFault) → IsHeader reach bytes octets → fault_at form lead reach octets ≡ Some fault
-    → found_at form lead reach bytes ≡ Stops (Broken fault)
-found_broken form lead reach bytes octets fault h is = by_header form lead reach bytes octets h ∙ ap (found_with form lead reach (drop reach.at bytes)) is
+-- a record that is cut short behind its header
+pub cut_behind : (form : Form) (start : Start) (reach : Reach) (bytes header octets : List ℕ) (lengths : Lengths) → IsHeader reach bytes header → fault_at form start reach header ≡ None
+    → lengths ≡ lengths_of form header → Holds bytes reach.at (16 + lengths.included) octets → length octets < 16 + lengths.included → IsCutPart form start reach (drop reach.at bytes)
+cut_behind form start reach bytes header octets lengths h none is holds few =
+    let included : lengths.included ≡ included_of form (drop reach.at bytes) = ap (λ (l : Lengths). l.included) (is ∙ lengths_same form reach bytes header h) in
+    behind (omega (arith, h.enough, front_short header (drop reach.at bytes) h.front)) (sym (fault_same form start reach bytes header h) ∙ none) (omega (arith, included, few, holds.all few))
 
--- the header has no fault
-record IsSound (form : Form) (lead : ℕ) (reach : Reach) (bytes : List ℕ) (seen : Record) : Type 0 where
-  found : found_at form lead reach bytes ≡ found_with form lead reach (drop reach.at bytes) None
-  numbers : seen ≡ record_of form lead reach (drop reach.at bytes)
-
-is_sound : (form : Form) (lead : ℕ) (reach : Reach) (bytes octets : List ℕ) (seen : Record) → IsHeader reach bytes octets → fault_at form lead reach octets ≡ None
-    → seen ≡ record_of form lead reach octets → IsSound form lead reach bytes seen
-is_sound form lead reach bytes octets seen h none is = record {
-  found = by_header form lead reach bytes octets h ∙ ap (found_with form lead reach (drop reach.at bytes)) none;
-  numbers =
-      is ∙ sym (record_front form lead reach octets) ∙ ap (record_of form lead reach) (header_same reach bytes octets h) ∙ record_front form lead reach (drop reach.at bytes);
+-- a record that is whole
+pub whole_part : (form : Form) (start : Start) (reach : Reach) (bytes header octets : List ℕ) (lengths : Lengths) → IsHeader reach bytes header → fault_at form start reach header ≡ None
+    → lengths ≡ lengths_of form header → IsFront octets (drop reach.at bytes) → 16 + lengths.included ≤ length octets → IsWholePart form start reach (drop reach.at bytes) lengths
+whole_part form start reach bytes header octets lengths h none is front all = record {
+  long = omega (arith, all, front_short octets (drop reach.at bytes) front);
+  numbers = is ∙ lengths_same form reach bytes header h;
+  faultless = sym (fault_same form start reach bytes header h) ∙ none;
 }
 
-pub found_short : (form : Form) (lead : ℕ) (reach : Reach) (bytes header octets : List ℕ) (seen : Record) → IsHeader reach bytes header
-    → fault_at form lead reach header ≡ None → seen ≡ record_of form lead reach header → Holds bytes reach.at (16 + seen.included) octets → length octets < 16 + seen.included
-    → Stops (CutAt reach.at) ≡ found_at form lead reach bytes
-found_short form lead reach bytes header octets seen h none is holds few =
-    let s = is_sound form lead reach bytes header seen h none is in
-    let included : seen.included ≡ included_of form (drop reach.at bytes) = ap (λ (r : Record). r.included) s.numbers in
-    let short : length (drop reach.at bytes) < 16 + included_of form (drop reach.at bytes) = omega (arith, included, few, holds.all few) in
-    sym (s.found ∙ grind (arith, nat_tests))
+-- the lengths are also those of the octets in the window then
+pub lengths_in : (form : Form) (header octets : List ℕ) (lengths : Lengths) → IsFront header octets → 16 ≤ length header → lengths ≡ lengths_of form header → lengths ≡ lengths_of form octets
+lengths_in form header octets lengths front enough is =
+    is ∙ sym (lengths_front form header) ∙ ap (lengths_of form) (front_of 16 header octets front enough) ∙ lengths_front form octets
 
-pub found_whole : (form : Form) (lead : ℕ) (reach : Reach) (bytes header octets : List ℕ) (seen : Record) → IsHeader reach bytes header
-    → fault_at form lead reach header ≡ None → seen ≡ record_of form lead reach header → IsFront octets (drop reach.at bytes) → 16 + seen.included ≤ length octets
-    → Whole (frame_seen seen (take seen.included (drop 16 octets))) seen.after ≡ found_at form lead reach bytes
-found_whole form lead reach bytes header octets seen h none is front all =
-    let s = is_sound form lead reach bytes header seen h none is in
+-- what is found where none is left, and where a record is cut short
+pub found_end : (form : Form) (start : Start) (reach : Reach) (bytes : List ℕ) → length (drop reach.at bytes) ≡ 0 → Stops Ended ≡ found_at form start reach bytes
+unfolding found_at
+found_end form start reach bytes none = sym (none_left form start reach (drop reach.at bytes) none)
+
+pub found_cut : (form : Form) (start : Start) (reach : Reach) (bytes : List ℕ) → IsCutPart form start reach (drop reach.at bytes) → Stops (CutAt reach.at) ≡ found_at form start reach bytes
+unfolding found_at
+found_cut form start reach bytes (within some few) = sym (few_left form start reach (drop reach.at bytes) some few)
+found_cut form start reach bytes (behind enough none short) =
     let xs = drop reach.at bytes in
-    let included : seen.included ≡ included_of form xs = ap (λ (r : Record). r.included) s.numbers in
-    let enough : 16 + included_of form xs ≤ length xs = omega (arith, included, all, front_short octets xs front) in
-    let captured : take seen.included (drop 16 octets) ≡ take seen.included (drop 16 xs) = between_front 16 seen.included octets xs front all in
-    let whole : found_with form lead reach xs None ≡ Whole (frame_at form lead reach xs) (reach_after form lead reach xs) = grind (arith, nat_tests) in
-    ap (λ (t : List ℕ). Whole (frame_seen seen t) seen.after) captured
-    ∙ ap (λ (r : Record). Whole (frame_seen r (take r.included (drop 16 xs))) r.after) s.numbers ∙ sym whole ∙ sym s.found
+    let cut : found_with form start reach xs None ≡ Stops (CutAt reach.at) = grind (arith, nat_tests) in
+    sym (header_left form start reach xs enough ∙ ap (found_with form start reach xs) none ∙ cut)
+
+-- what is found where a record is whole, by whether it is late
+by_late : (form : Form) (start : Start) (reach : Reach) (bytes : List ℕ) (lengths : Lengths) → IsWholePart form start reach (drop reach.at bytes) lengths
+    → found_at form start reach bytes
+    ≡ (if is_late form start reach (drop reach.at bytes) then Stops (Broken (Late reach.at)) else Whole (frame_at form start reach (drop reach.at bytes)) (reach_after form start reach (drop reach.at bytes)))
+unfolding found_at
+by_late form start reach bytes lengths part =
+    let xs = drop reach.at bytes in
+    let included : lengths.included ≡ included_of form xs = ap (λ (l : Lengths). l.included) part.numbers in
+    let long : nat_lt (length xs) (16 + included_of form xs) ≡ false = grind (arith, nat_tests) in
+    header_left form start reach xs (omega (arith, part.long)) ∙ ap (found_with form start reach xs) part.faultless ∙ rw long refl
+
+-- by what a record is, or isn't one
+not_late : (late : Bool) (seen is : Record) → Some seen ≡ (if late then None else Some is) → (late ≡ false) × (seen ≡ is)
+not_late true seen is e = absurd cc
+not_late false seen is e = (refl, cc)
+
+so_late : (late : Bool) (is : Record) → None ≡ (if late then None else Some is) → late ≡ true
+so_late true is e = refl
+so_late false is e = absurd cc
+
+-- the octets in the window are at the front of what is left, and a record is whole in both
+pub whole_header : (form : Form) (reach : Reach) (bytes octets : List ℕ) (lengths : Lengths) → IsFront octets (drop reach.at bytes) → IsWholeIn form reach octets lengths → IsHeader reach bytes octets
+whole_header form reach bytes octets lengths front whole = record { front = front; enough = omega (arith, whole.long) }
+
+pub found_late : (form : Form) (start : Start) (reach : Reach) (bytes octets : List ℕ) (lengths : Lengths) → IsFront octets (drop reach.at bytes) → IsWholeIn form reach octets lengths
+    → IsWholePart form start reach (drop reach.at bytes) lengths → None ≡ (if is_late form start reach octets then None else Some (record_of form start reach octets))
+    → found_at form start reach bytes ≡ Stops (Broken (Late reach.at))
+found_late form start reach bytes octets lengths front whole part none =
+    let late = sym (late_same form start reach bytes octets (whole_header form reach bytes octets lengths front whole)) ∙ so_late (is_late form start reach octets) (record_of form start reach octets) none in
+    by_late form start reach bytes lengths part ∙ rw late refl
+
+pub found_whole : (form : Form) (start : Start) (reach : Reach) (bytes octets : List ℕ) (lengths : Lengths) (seen : Record) → IsFront octets (drop reach.at bytes) → IsWholeIn form reach octets lengths
+    → IsWholePart form start reach (drop reach.at bytes) lengths → Some seen ≡ (if is_late form start reach octets then None else Some (record_of form start reach octets))
+    → Whole (frame_seen start.interface seen (take seen.included (drop 16 octets))) seen.after ≡ found_at form start reach bytes
+found_whole form start reach bytes octets lengths seen front whole part some =
+    let xs = drop reach.at bytes in
+    let h = whole_header form reach bytes octets lengths front whole in
+    let is = not_late (is_late form start reach octets) seen (record_of form start reach octets) some in
+    let late = sym (late_same form start reach bytes octets h) ∙ is.0 in
+    let included : seen.included ≡ lengths.included = ap (λ (r : Record). r.included) is.1 ∙ sym (ap (λ (l : Lengths). l.included) whole.numbers) in
+    let captured : take seen.included (drop 16 octets) ≡ take seen.included (drop 16 xs) = between_front 16 seen.included octets xs front (omega (arith, included, whole.long)) in
+    let there = is.1 ∙ record_same form start reach bytes octets h in
+    ap (λ (t : List ℕ). Whole (frame_seen start.interface seen t) seen.after) captured
+    ∙ ap (λ (r : Record). Whole (frame_seen start.interface r (take r.included (drop 16 xs))) r.after) there ∙ sym (by_late form start reach bytes lengths part ∙ rw late refl)
+
+-- a record that was seen is whole in the window
+pub long_in : (form : Form) (start : Start) (reach : Reach) (octets : List ℕ) (lengths : Lengths) (seen : Record) → IsWholeIn form reach octets lengths
+    → Some seen ≡ (if is_late form start reach octets then None else Some (record_of form start reach octets)) → 16 + seen.included ≤ length octets
+long_in form start reach octets lengths seen whole some =
+    let is = not_late (is_late form start reach octets) seen (record_of form start reach octets) some in
+    let included : seen.included ≡ lengths.included = ap (λ (r : Record). r.included) is.1 ∙ sym (ap (λ (l : Lengths). l.included) whole.numbers) in
+    omega (arith, included, whole.long)

@@ -8,10 +8,11 @@ use Rattle.rm_window.proofs.WindowLemmas.{rest_front}
 use Rattle.rm_pcap.specs.declared.form.Order.{Order}
 use Rattle.rm_pcap.specs.declared.form.Order.TheVariants.{HighestFirst, LowestFirst}
 use Rattle.rm_pcap.specs.declared.form.Form.{Form}
+use Rattle.rm_pcap.specs.declared.start.Start.{Start}
 use Rattle.rm_pcap.specs.declared.reach.Reach.{Reach}
 use Rattle.rm_pcap.specs.Header.{number_at, form_of, has_version, has_link_type, header_with, header_of}
-use Rattle.rm_pcap.specs.Records.{included_of, original_of, time_of, fault_at}
-use Rattle.rm_pcap.specs.Seen.{record_of}
+use Rattle.rm_pcap.specs.Records.{included_of, original_of, time_of, is_late, fault_at}
+use Rattle.rm_pcap.specs.Seen.{lengths_of, record_of}
 
 index_front : (k i : ℕ) (xs : List ℕ) → i < k → slice_index (take k xs) i ≡ slice_index xs i
 index_front k i xs below = get_or-take k xs i 0 below
@@ -37,14 +38,26 @@ number_front HighestFirst n at m xs fits = ap (big_from 0 n) (rest_front at m xs
 number_front LowestFirst n at m xs fits = ap (little_from 0 n) (rest_front at m xs (omega (arith, fits))) ∙ little_front 0 n (m - at) (drop at xs) (omega (arith, fits))
 
 -- the numbers of the record whose header comes first
-pub record_front : (form : Form) (lead : ℕ) (reach : Reach) (xs : List ℕ) → record_of form lead reach (take 16 xs) ≡ record_of form lead reach xs
+pub record_front : (form : Form) (start : Start) (reach : Reach) (xs : List ℕ) → record_of form start reach (take 16 xs) ≡ record_of form start reach xs
 unfolding included_of original_of time_of
-record_front form lead reach xs =
+record_front form start reach xs =
     rw (number_front form.order 4 0 16 xs (omega arith), number_front form.order 4 4 16 xs (omega arith), number_front form.order 4 8 16 xs (omega arith), number_front form.order 4 12 16 xs (omega arith)) refl
 
-pub fault_front : (form : Form) (lead : ℕ) (reach : Reach) (xs : List ℕ) → fault_at form lead reach (take 16 xs) ≡ fault_at form lead reach xs
-unfolding fault_at included_of original_of time_of
-fault_front form lead reach xs =
+pub time_front : (form : Form) (xs : List ℕ) → time_of form (take 16 xs) ≡ time_of form xs
+unfolding time_of
+time_front form xs = rw (number_front form.order 4 0 16 xs (omega arith), number_front form.order 4 4 16 xs (omega arith)) refl
+
+pub lengths_front : (form : Form) (xs : List ℕ) → lengths_of form (take 16 xs) ≡ lengths_of form xs
+unfolding included_of original_of
+lengths_front form xs = rw (number_front form.order 4 8 16 xs (omega arith), number_front form.order 4 12 16 xs (omega arith)) refl
+
+pub late_front : (form : Form) (start : Start) (reach : Reach) (xs : List ℕ) → is_late form start reach (take 16 xs) ≡ is_late form start reach xs
+unfolding is_late time_of
+late_front form start reach xs = rw (number_front form.order 4 0 16 xs (omega arith), number_front form.order 4 4 16 xs (omega arith)) refl
+
+pub fault_front : (form : Form) (start : Start) (reach : Reach) (xs : List ℕ) → fault_at form start reach (take 16 xs) ≡ fault_at form start reach xs
+unfolding fault_at is_late included_of original_of time_of
+fault_front form start reach xs =
     rw (number_front form.order 4 0 16 xs (omega arith), number_front form.order 4 4 16 xs (omega arith), number_front form.order 4 8 16 xs (omega arith), number_front form.order 4 12 16 xs (omega arith)) refl
 
 -- whether there are so many octets

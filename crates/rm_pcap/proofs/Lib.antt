@@ -1,5 +1,6 @@
 pub mod FrontLemmas
 pub mod FoundLemmas
+mod BaseLemmas
 pub mod CaptureLemmas
 pub mod RecordLaws
 pub mod StepLemmas

@@ -5,124 +5,128 @@ use Rattle.std.proofs.lemmas.List.{length-drop}
 use Rattle.std.proofs.lemmas.Bool.Decides.{nat_tests}
 use Rattle.rm_model.specs.Journal.{Frame}
 use Rattle.rm_pcap.specs.declared.form.Form.{Form}
+use Rattle.rm_pcap.specs.declared.start.Start.{Start}
 use Rattle.rm_pcap.specs.declared.fault.PcapFault.{PcapFault}
+use Rattle.rm_pcap.specs.declared.fault.PcapFault.TheVariants.{Late}
 use Rattle.rm_pcap.specs.declared.reach.Reach.{Reach}
 use Rattle.rm_pcap.specs.Header.{header_of}
-use Rattle.rm_pcap.specs.Records.{Found, Whole, Stops, Stop, CutAt, Broken, found_at, found_in, found_with, fault_at, included_of, frame_at, reach_after, beginning, AreRecords, ReadsAs}
+use Rattle.rm_pcap.specs.Records.{Found, Whole, Stops, Stop, CutAt, Broken, found_at, found_in, found_with, fault_at, is_late, included_of, frame_at, reach_after, beginning, AreRecords, ReadsAs}
 
-pub one_list : (form : Form) (lead : ℕ) (reach : Reach) (bytes : List ℕ) (frames others : List Frame) (stop last : Stop)
-    → AreRecords form lead reach bytes frames stop → AreRecords form lead reach bytes others last → (frames ≡ others) × (stop ≡ last)
+pub one_list : (form : Form) (start : Start) (reach : Reach) (bytes : List ℕ) (frames others : List Frame) (stop last : Stop)
+    → AreRecords form start reach bytes frames stop → AreRecords form start reach bytes others last → (frames ≡ others) × (stop ≡ last)
 unfolding AreRecords
-one_list form lead reach bytes [] [] stop last a b = let e : Stops stop ≡ Stops last = sym a ∙ b in (refl, cc)
-one_list form lead reach bytes [] (other ∷ more) stop last a b = absurd (let e : Stops stop ≡ Whole other b.0 = sym a ∙ b.1 in cc)
-one_list form lead reach bytes (frame ∷ rest) [] stop last a b = absurd (let e : Whole frame a.0 ≡ Stops last = sym a.1 ∙ b in cc)
-one_list form lead reach bytes (frame ∷ rest) (other ∷ more) stop last a b =
+one_list form start reach bytes [] [] stop last a b = let e : Stops stop ≡ Stops last = sym a ∙ b in (refl, cc)
+one_list form start reach bytes [] (other ∷ more) stop last a b = absurd (let e : Stops stop ≡ Whole other b.0 = sym a ∙ b.1 in cc)
+one_list form start reach bytes (frame ∷ rest) [] stop last a b = absurd (let e : Whole frame a.0 ≡ Stops last = sym a.1 ∙ b in cc)
+one_list form start reach bytes (frame ∷ rest) (other ∷ more) stop last a b =
     let e : Whole frame a.0 ≡ Whole other b.0 = sym a.1 ∙ b.1 in
     let same : frame ≡ other = cc in
     let next : b.0 ≡ a.0 = cc in
-    let one = one_list form lead a.0 bytes rest more stop last a.2 (subst (λ (r : Reach). AreRecords form lead r bytes more last) next b.2) in
+    let one = one_list form start a.0 bytes rest more stop last a.2 (subst (λ (r : Reach). AreRecords form start r bytes more last) next b.2) in
     (ap (λ (f : Frame). f ∷ rest) same ∙ ap (λ (t : List Frame). other ∷ t) one.0, one.1)
 
-one_way : (header : Result Form PcapFault) (lead : ℕ) (bytes : List ℕ) (frames others : List Frame) (stop last : Stop)
-    → MatchResult header (λ form. AreRecords form lead (beginning lead) bytes frames stop) (λ fault. (frames ≡ []) × (stop ≡ Broken fault))
-    → MatchResult header (λ form. AreRecords form lead (beginning lead) bytes others last) (λ fault. (others ≡ []) × (last ≡ Broken fault))
+one_way : (header : Result Form PcapFault) (start : Start) (bytes : List ℕ) (frames others : List Frame) (stop last : Stop)
+    → MatchResult header (λ form. AreRecords form start (beginning start) bytes frames stop) (λ fault. (frames ≡ []) × (stop ≡ Broken fault))
+    → MatchResult header (λ form. AreRecords form start (beginning start) bytes others last) (λ fault. (others ≡ []) × (last ≡ Broken fault))
     → (frames ≡ others) × (stop ≡ last)
-one_way (Ok form) lead bytes frames others stop last a b = one_list form lead (beginning lead) bytes frames others stop last a b
-one_way (Err fault) lead bytes frames others stop last a b = (a.0 ∙ sym b.0, a.1 ∙ sym b.1)
+one_way (Ok form) start bytes frames others stop last a b = one_list form start (beginning start) bytes frames others stop last a b
+one_way (Err fault) start bytes frames others stop last a b = (a.0 ∙ sym b.0, a.1 ∙ sym b.1)
 
-pub one_reading : (lead : ℕ) (bytes : List ℕ) (frames others : List Frame) (stop last : Stop) → ReadsAs lead bytes frames stop → ReadsAs lead bytes others last
+pub one_reading : (start : Start) (bytes : List ℕ) (frames others : List Frame) (stop last : Stop) → ReadsAs start bytes frames stop → ReadsAs start bytes others last
     → (frames ≡ others) × (stop ≡ last)
 unfolding ReadsAs
-one_reading lead bytes frames others stop last a b = one_way (header_of bytes) lead bytes frames others stop last a b
+one_reading start bytes frames others stop last a b = one_way (header_of bytes) start bytes frames others stop last a b
 
 -- a whole record stands at the front of the octets that are left
-pub record IsTaken (form : Form) (lead : ℕ) (reach next : Reach) (xs : List ℕ) (frame : Frame) : Type 0 where
+pub record IsTaken (form : Form) (start : Start) (reach next : Reach) (xs : List ℕ) (frame : Frame) : Type 0 where
   pub enough : 16 + included_of form xs ≤ length xs
-  pub is_frame : frame_at form lead reach xs ≡ frame
-  pub is_next : reach_after form lead reach xs ≡ next
+  pub is_frame : frame_at form start reach xs ≡ frame
+  pub is_next : reach_after form start reach xs ≡ next
 
-taken_with : (form : Form) (lead : ℕ) (reach next : Reach) (xs : List ℕ) (fault : Option PcapFault) (frame : Frame) → found_with form lead reach xs fault ≡ Whole frame next
-    → IsTaken form lead reach next xs frame
-taken_with form lead reach next xs (Some fault) frame is = absurd cc
-taken_with form lead reach next xs None frame is = by_test (nat_lt (length xs) (16 + included_of form xs)) refl is
+taken_with : (form : Form) (start : Start) (reach next : Reach) (xs : List ℕ) (fault : Option PcapFault) (frame : Frame) → found_with form start reach xs fault ≡ Whole frame next
+    → IsTaken form start reach next xs frame
+taken_with form start reach next xs (Some fault) frame is = absurd cc
+taken_with form start reach next xs None frame is = by_test (nat_lt (length xs) (16 + included_of form xs)) (is_late form start reach xs) refl is
   where
-    by_test : (short : Bool) → nat_lt (length xs) (16 + included_of form xs) ≡ short
-        → (if short then Stops (CutAt reach.at) else Whole (frame_at form lead reach xs) (reach_after form lead reach xs)) ≡ Whole frame next → IsTaken form lead reach next xs frame
-    by_test true test e = absurd cc
-    by_test false test e = record { enough = grind (arith, nat_tests); is_frame = cc; is_next = cc }
+    by_test : (short late : Bool) → nat_lt (length xs) (16 + included_of form xs) ≡ short
+        → (if short then Stops (CutAt reach.at) else if late then Stops (Broken (Late reach.at)) else Whole (frame_at form start reach xs) (reach_after form start reach xs)) ≡ Whole frame next
+        → IsTaken form start reach next xs frame
+    by_test true late test e = absurd cc
+    by_test false true test e = absurd cc
+    by_test false false test e = record { enough = grind (arith, nat_tests); is_frame = cc; is_next = cc }
 
-taken_in : (form : Form) (lead : ℕ) (reach next : Reach) (xs : List ℕ) (frame : Frame) → found_in form lead reach xs ≡ Whole frame next → IsTaken form lead reach next xs frame
-taken_in form lead reach next [] frame is = absurd cc
-taken_in form lead reach next (x ∷ xs) frame is = by_test (nat_lt (length (x ∷ xs)) 16) is
+taken_in : (form : Form) (start : Start) (reach next : Reach) (xs : List ℕ) (frame : Frame) → found_in form start reach xs ≡ Whole frame next → IsTaken form start reach next xs frame
+taken_in form start reach next [] frame is = absurd cc
+taken_in form start reach next (x ∷ xs) frame is = by_test (nat_lt (length (x ∷ xs)) 16) is
   where
-    by_test : (short : Bool) → (if short then Stops (CutAt reach.at) else found_with form lead reach (x ∷ xs) (fault_at form lead reach (x ∷ xs))) ≡ Whole frame next
-        → IsTaken form lead reach next (x ∷ xs) frame
+    by_test : (short : Bool) → (if short then Stops (CutAt reach.at) else found_with form start reach (x ∷ xs) (fault_at form start reach (x ∷ xs))) ≡ Whole frame next
+        → IsTaken form start reach next (x ∷ xs) frame
     by_test true e = absurd cc
-    by_test false e = taken_with form lead reach next (x ∷ xs) (fault_at form lead reach (x ∷ xs)) frame e
+    by_test false e = taken_with form start reach next (x ∷ xs) (fault_at form start reach (x ∷ xs)) frame e
 
-pub taken : (form : Form) (lead : ℕ) (reach next : Reach) (bytes : List ℕ) (frame : Frame) → found_at form lead reach bytes ≡ Whole frame next
-    → IsTaken form lead reach next (drop reach.at bytes) frame
+pub taken : (form : Form) (start : Start) (reach next : Reach) (bytes : List ℕ) (frame : Frame) → found_at form start reach bytes ≡ Whole frame next
+    → IsTaken form start reach next (drop reach.at bytes) frame
 unfolding found_at
-taken form lead reach next bytes frame is = taken_in form lead reach next (drop reach.at bytes) frame is
+taken form start reach next bytes frame is = taken_in form start reach next (drop reach.at bytes) frame is
 
 -- a record ends within the file, behind its beginning
 record IsWithin (reach next : Reach) (bytes : List ℕ) : Type 0 where
   on : reach.at < next.at
   within : next.at ≤ length bytes
 
-within : (form : Form) (lead : ℕ) (reach next : Reach) (bytes : List ℕ) (frame : Frame) → found_at form lead reach bytes ≡ Whole frame next → IsWithin reach next bytes
-within form lead reach next bytes frame is =
-    let t = taken form lead reach next bytes frame is in
+within : (form : Form) (start : Start) (reach next : Reach) (bytes : List ℕ) (frame : Frame) → found_at form start reach bytes ≡ Whole frame next → IsWithin reach next bytes
+within form start reach next bytes frame is =
+    let t = taken form start reach next bytes frame is in
     let place : reach.at + (16 + included_of form (drop reach.at bytes)) ≡ next.at = ap (λ (r : Reach). r.at) t.is_next in
     record { on = omega (arith, place); within = omega (arith, place, t.enough, length-drop reach.at bytes) }
 
 -- some list of records
-record SomeRecords (form : Form) (lead : ℕ) (reach : Reach) (bytes : List ℕ) : Type 0 where
+record SomeRecords (form : Form) (start : Start) (reach : Reach) (bytes : List ℕ) : Type 0 where
   frames : List Frame
   stop : Stop
-  are : AreRecords form lead reach bytes frames stop
+  are : AreRecords form start reach bytes frames stop
 
-by_found : (form : Form) (lead : ℕ) (reach : Reach) (bytes : List ℕ) (found : Found) → found_at form lead reach bytes ≡ found
-    → ((next : Reach) → reach.at < next.at → next.at ≤ length bytes → SomeRecords form lead next bytes) → SomeRecords form lead reach bytes
+by_found : (form : Form) (start : Start) (reach : Reach) (bytes : List ℕ) (found : Found) → found_at form start reach bytes ≡ found
+    → ((next : Reach) → reach.at < next.at → next.at ≤ length bytes → SomeRecords form start next bytes) → SomeRecords form start reach bytes
 unfolding AreRecords
-by_found form lead reach bytes (Stops stop) is more = record { frames = []; stop = stop; are = is }
-by_found form lead reach bytes (Whole frame next) is more =
-    let w = within form lead reach next bytes frame is in
+by_found form start reach bytes (Stops stop) is more = record { frames = []; stop = stop; are = is }
+by_found form start reach bytes (Whole frame next) is more =
+    let w = within form start reach next bytes frame is in
     let left = more next w.on w.within in
     record { frames = frame ∷ left.frames; stop = left.stop; are = (next, is, left.are) }
 
-some_records : (most : ℕ) (form : Form) (lead : ℕ) (reach : Reach) (bytes : List ℕ) → length bytes - reach.at < most → SomeRecords form lead reach bytes
-some_records zero form lead reach bytes few = absurd (omega (arith, few))
-some_records (suc most) form lead reach bytes few =
-    by_found form lead reach bytes (found_at form lead reach bytes) refl (λ next on inside. some_records most form lead next bytes (omega (arith, few, on, inside)))
+some_records : (most : ℕ) (form : Form) (start : Start) (reach : Reach) (bytes : List ℕ) → length bytes - reach.at < most → SomeRecords form start reach bytes
+some_records zero form start reach bytes few = absurd (omega (arith, few))
+some_records (suc most) form start reach bytes few =
+    by_found form start reach bytes (found_at form start reach bytes) refl (λ next on inside. some_records most form start next bytes (omega (arith, few, on, inside)))
 
-some_way : (header : Result Form PcapFault) (lead : ℕ) (bytes : List ℕ) → (frames : List Frame) × (stop : Stop)
-    × MatchResult header (λ form. AreRecords form lead (beginning lead) bytes frames stop) (λ fault. (frames ≡ []) × (stop ≡ Broken fault))
-some_way (Ok form) lead bytes =
-    let some = some_records (suc (length bytes)) form lead (beginning lead) bytes (omega arith) in (some.frames, some.stop, some.are)
-some_way (Err fault) lead bytes = ([], Broken fault, (refl, refl))
+some_way : (header : Result Form PcapFault) (start : Start) (bytes : List ℕ) → (frames : List Frame) × (stop : Stop)
+    × MatchResult header (λ form. AreRecords form start (beginning start) bytes frames stop) (λ fault. (frames ≡ []) × (stop ≡ Broken fault))
+some_way (Ok form) start bytes =
+    let some = some_records (suc (length bytes)) form start (beginning start) bytes (omega arith) in (some.frames, some.stop, some.are)
+some_way (Err fault) start bytes = ([], Broken fault, (refl, refl))
 
-pub every_reading : (lead : ℕ) (bytes : List ℕ) → (frames : List Frame) × (stop : Stop) × ReadsAs lead bytes frames stop
+pub every_reading : (start : Start) (bytes : List ℕ) → (frames : List Frame) × (stop : Stop) × ReadsAs start bytes frames stop
 unfolding ReadsAs
-every_reading lead bytes = some_way (header_of bytes) lead bytes
+every_reading start bytes = some_way (header_of bytes) start bytes
 
 -- the records that are left behind one that was passed
-pub record Behind (form : Form) (lead : ℕ) (next : Reach) (bytes : List ℕ) (frames : List Frame) (stop : Stop) : Type 0 where
+pub record Behind (form : Form) (start : Start) (next : Reach) (bytes : List ℕ) (frames : List Frame) (stop : Stop) : Type 0 where
   pub more : List Frame
-  pub are : AreRecords form lead next bytes more stop
+  pub are : AreRecords form start next bytes more stop
   pub one : length frames ≡ 1 + length more
 
-pub behind : (form : Form) (lead : ℕ) (reach next : Reach) (bytes : List ℕ) (frame : Frame) (frames : List Frame) (stop : Stop)
-    → found_at form lead reach bytes ≡ Whole frame next → AreRecords form lead reach bytes frames stop → Behind form lead next bytes frames stop
+pub behind : (form : Form) (start : Start) (reach next : Reach) (bytes : List ℕ) (frame : Frame) (frames : List Frame) (stop : Stop)
+    → found_at form start reach bytes ≡ Whole frame next → AreRecords form start reach bytes frames stop → Behind form start next bytes frames stop
 unfolding AreRecords
-behind form lead reach next bytes frame [] stop is are = absurd (let e : Stops stop ≡ Whole frame next = sym are ∙ is in cc)
-behind form lead reach next bytes frame (first ∷ more) stop is are =
+behind form start reach next bytes frame [] stop is are = absurd (let e : Stops stop ≡ Whole frame next = sym are ∙ is in cc)
+behind form start reach next bytes frame (first ∷ more) stop is are =
     let e : Whole first are.0 ≡ Whole frame next = sym are.1 ∙ is in
     let same : are.0 ≡ next = cc in
-    record { more = more; are = subst (λ (r : Reach). AreRecords form lead r bytes more stop) same are.2; one = omega arith }
+    record { more = more; are = subst (λ (r : Reach). AreRecords form start r bytes more stop) same are.2; one = omega arith }
 
-pub none_behind : (form : Form) (lead : ℕ) (reach : Reach) (bytes : List ℕ) (frames : List Frame) (last stop : Stop)
-    → found_at form lead reach bytes ≡ Stops last → AreRecords form lead reach bytes frames stop → length frames ≡ 0
+pub none_behind : (form : Form) (start : Start) (reach : Reach) (bytes : List ℕ) (frames : List Frame) (last stop : Stop)
+    → found_at form start reach bytes ≡ Stops last → AreRecords form start reach bytes frames stop → length frames ≡ 0
 unfolding AreRecords
-none_behind form lead reach bytes [] last stop is are = refl
-none_behind form lead reach bytes (first ∷ more) last stop is are = absurd (let e : Whole first are.0 ≡ Stops last = sym are.1 ∙ is in cc)
+none_behind form start reach bytes [] last stop is are = refl
+none_behind form start reach bytes (first ∷ more) last stop is are = absurd (let e : Whole first are.0 ≡ Stops last = sym are.1 ∙ is in cc)

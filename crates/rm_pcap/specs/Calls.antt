@@ -2,14 +2,15 @@
 use Rattle.std.specs.Prelude.{◌≡◌, ℕ, ◌+◌, List, drop, Option, Some, None, Result, Ok, Err, ◌⊎◌, ⊤}
 use Rattle.rm_edge.specs.Outside.{Held, File}
 use Rattle.rm_pcap.specs.declared.form.Form.{Form}
+use Rattle.rm_pcap.specs.declared.start.Start.{Start}
 use Rattle.rm_pcap.specs.declared.reach.Reach.{Reach}
 use Rattle.rm_pcap.specs.declared.fault.PcapFault.{PcapFault}
 use Rattle.rm_pcap.specs.declared.fault.PcapFault.TheVariants.{Magic, Version, LinkType, Included, Original, Late, TooMany, Read, NoMemory}
 use Rattle.rm_pcap.specs.declared.frame.Step.{Step}
 use Rattle.rm_pcap.specs.Header.{header_of}
 use Rattle.rm_window.specs.Filling.{IsFront}
-use Rattle.rm_pcap.specs.Records.{Found, Stops, Broken, found_at}
-use Rattle.rm_pcap.specs.Progress.{Progress, Agrees, IsLawfulFind, Shows, next_in, looking_at, passing, moment_found}
+use Rattle.rm_pcap.specs.Records.{Found, Stops, Broken, found_at, first_of}
+use Rattle.rm_pcap.specs.Progress.{Progress, Agrees, IsLawfulFind, IsUnseen, Shows, next_in, looking_at, passing, moment_found, reading}
 
 -- What is found is lawful whatever the file is, it is what was found before if it was looked at, and it is what stands next in
 -- the file of which the capture was read so far.
@@ -47,18 +48,37 @@ IsFaultAt reach TooMany = reach.count ≡ 100000000
 IsFaultAt reach fault = ⊥
 
 -- the next record has that fault, in a file that has the octets that were read
-pub record Breaks (held : Held) (form : Form) (lead : ℕ) (reach : Reach) (read : List ℕ) (fault : PcapFault) : Type 0 where
+pub record Breaks (held : Held) (form : Form) (start : Start) (reach : Reach) (read : List ℕ) (fault : PcapFault) : Type 0 where
   pub place : IsFaultAt reach fault
-  pub stands : (bytes : List ℕ) → held ≡ File bytes → IsFront read (drop reach.at bytes) → found_at form lead reach bytes ≡ Stops (Broken fault)
+  pub stands : (bytes : List ℕ) → held ≡ File bytes → IsFront read (drop reach.at bytes) → found_at form start reach bytes ≡ Stops (Broken fault)
 
 -- a look fails by a read or by the file
-abbrev pub IsBroken : Held → Form → ℕ → Reach → List ℕ → PcapFault → Type 0
-IsBroken held form lead reach read fault = (fault ≡ Read) ⊎ Breaks held form lead reach read fault
+abbrev pub IsBroken : Held → Form → Start → Reach → List ℕ → PcapFault → Type 0
+IsBroken held form start reach read fault = (fault ≡ Read) ⊎ Breaks held form start reach read fault
 
 -- a look fails only where nothing was found yet
 pub record Fails (held : Held) (old : Progress) (fault : PcapFault) : Type 0 where
   pub unseen : old.ahead ≡ None
-  pub cause : IsBroken held old.form old.lead old.reach old.read fault
+  pub cause : IsBroken held old.form old.start old.reach old.read fault
+
+-- the faults of the lengths of a first record, or a failed read
+abbrev pub IsFirstRecordFault : PcapFault → Type 0
+IsFirstRecordFault (Included at) = at ≡ 32
+IsFirstRecordFault (Original at) = at ≡ 36
+IsFirstRecordFault Read = ⊤
+IsFirstRecordFault fault = ⊥
+
+-- what a look at the first record answers of a file, but for a failed read
+abbrev pub IsFirst : Form → Start → List ℕ → Result (Option ℕ) PcapFault → Type 0
+IsFirst form start bytes (Err Read) = ⊤
+IsFirst form start bytes result = first_of form start bytes ≡ result
+
+-- A look at the first record found its time, or that it isn't whole. The capture stays before it, and what it found there so far is what the file
+-- has.
+pub record LooksFirst (held : Held) (old new : Progress) (result : Result (Option ℕ) PcapFault) : Type 0 where
+  pub place : new ≡ reading old new.ahead new.read
+  pub unseen : IsUnseen new
+  pub stands : (bytes : List ℕ) → held ≡ File bytes → Agrees old bytes → IsFirst old.form old.start bytes result × Agrees new bytes
 
 -- the faults of a file header
 abbrev pub IsHeaderFault : PcapFault → Type 0

@@ -2,29 +2,30 @@
 use Rattle.std.specs.Prelude.{◌≡◌, ◌≤◌, ℕ, ◌+◌, List, [], length, drop, Option, Some, None, ⊤}
 use Rattle.rm_model.specs.Journal.{Frame as Passed}
 use Rattle.rm_pcap.specs.declared.form.Form.{Form}
+use Rattle.rm_pcap.specs.declared.start.Start.{Start}
 use Rattle.rm_pcap.specs.declared.reach.Reach.{Reach}
 use Rattle.rm_pcap.specs.declared.frame.Frame.{Frame}
 use Rattle.rm_pcap.specs.declared.frame.Step.{Step}
 use Rattle.rm_pcap.specs.declared.frame.Step.TheVariants.{Next, End, Cut}
 use Rattle.rm_window.specs.Filling.{IsFront}
-use Rattle.rm_pcap.specs.Records.{Ended, CutAt, Broken, Found, Whole, Stops, captured_interface, found_at, beginning}
+use Rattle.rm_pcap.specs.Records.{Ended, CutAt, Broken, Found, Whole, Stops, found_at, beginning}
 
--- A capture that is being read: how its octets are read, the moment of its first frame, how far its records were passed,
--- what was found there, if it was looked at, and the octets that were read from there on.
+-- A capture that is being read: how its octets are read, where its frames stand, how far its records were passed, what was
+-- found there, if it was looked at, and the octets that were read from there on.
 pub record Progress : Type 0 where
   pub form : Form
-  pub lead : ℕ
+  pub start : Start
   pub reach : Reach
   pub ahead : Option Found
   pub read : List ℕ
 
 -- before the first record
-abbrev pub begun : Form → ℕ → Progress
-begun form lead = record { form = form; lead = lead; reach = beginning lead; ahead = None; read = [] }
+abbrev pub begun : Form → Start → Progress
+begun form start = record { form = form; start = start; reach = beginning start; ahead = None; read = [] }
 
 -- what stands next in a file of these octets
 abbrev pub next_in : Progress → List ℕ → Found
-next_in progress bytes = found_at progress.form progress.lead progress.reach bytes
+next_in progress bytes = found_at progress.form progress.start progress.reach bytes
 
 -- what was looked at and what was read is what a file of these octets has there
 pub record Agrees (progress : Progress) (bytes : List ℕ) : Type 0 where
@@ -34,6 +35,23 @@ pub record Agrees (progress : Progress) (bytes : List ℕ) : Type 0 where
 -- the same place, with what was found there, and what is read from there on
 abbrev pub looking_at : Progress → Found → List ℕ → Progress
 looking_at progress found octets = record progress { ahead = Some found; read = octets }
+
+-- the same place, with what was found there, if it was looked at, and what is read from there on
+abbrev pub reading : Progress → Option Found → List ℕ → Progress
+reading progress found octets = record progress { ahead = found; read = octets }
+
+-- no record was found yet at the place, nor passed
+pub record IsUnseen (progress : Progress) : Type 0 where
+  pub first : progress.reach ≡ beginning progress.start
+  pub unseen : (frame : Passed) (after : Reach) → progress.ahead ≡ Some (Whole frame after) → ⊥
+
+-- a start at which that time stands
+abbrev pub with_base : ℕ → Start → Start
+with_base base start = record start { base = Some base }
+
+-- before the first record, where that time stands at the lead
+abbrev pub based_at : ℕ → Progress → Progress
+based_at base progress = record progress { start = with_base base progress.start; reach = beginning (with_base base progress.start) }
 
 -- the place behind what was found, with what is read from there on; it stays where the records stop
 abbrev pub passing : Progress → Found → List ℕ → Progress
@@ -47,7 +65,7 @@ moment_found (Stops stop) = None
 
 -- the frame that the code lends, as a journal holds it
 abbrev pub frame_of : Frame → Passed
-frame_of frame = record { interface = captured_interface; moment = frame.moment; number = frame.number; octets = frame.bytes.now; original = frame.original }
+frame_of frame = record { interface = frame.interface; moment = frame.moment; number = frame.number; octets = frame.bytes.now; original = frame.original }
 
 -- the step shows what was found
 abbrev pub Shows : Step → Found → Type 0

@@ -1,10 +1,11 @@
 -- The records of a capture in the classic pcap format. A record has a header of 16 octets, which are its time in seconds
 -- and a fraction of a second, how many octets were captured, and how many the frame had, and then the captured octets.
-use Rattle.std.specs.Prelude.{◌≡◌, ℕ, ◌+◌, ◌-◌, ◌*◌, ◌/◌, ◌^◌, max, nat_le, nat_lt, if◌then◌else◌, List, [], ◌∷◌, length, take, drop, Option, Some, None, unwrap_or, MatchResult}
+use Rattle.std.specs.Prelude.{◌≡◌, ℕ, ◌+◌, ◌-◌, ◌*◌, ◌/◌, ◌^◌, max, nat_le, nat_lt, if◌then◌else◌, List, [], ◌∷◌, length, take, drop, Bool, ◌&&◌, Option, Some, None, unwrap_or, Result, Ok, Err, MatchResult}
 use Rattle.rm_model.specs.Journal.{Frame}
 use Rattle.rm_pcap.specs.declared.form.TimeUnit.{TimeUnit}
 use Rattle.rm_pcap.specs.declared.form.TimeUnit.TheVariants.{Microseconds, Nanoseconds}
 use Rattle.rm_pcap.specs.declared.form.Form.{Form}
+use Rattle.rm_pcap.specs.declared.start.Start.{Start}
 use Rattle.rm_pcap.specs.declared.reach.Reach.{Reach}
 use Rattle.rm_pcap.specs.declared.fault.PcapFault.{PcapFault}
 use Rattle.rm_pcap.specs.declared.fault.PcapFault.TheVariants.{Included, Original, Late, TooMany}
@@ -27,45 +28,50 @@ included_of form octets = number_at form.order 4 8 octets
 unfoldable pub original_of : Form → List ℕ → ℕ
 original_of form octets = number_at form.order 4 12 octets
 
--- before the first record, which stands at that moment
-abbrev pub beginning : ℕ → Reach
-beginning lead = record { first = None; last = lead; count = 0; at = 24 }
+-- A capture by itself: its frames are of interface 1, and the time of its first record stands at the lead.
+abbrev pub alone : ℕ → Start
+alone lead = record { interface = 1; lead = lead; base = None }
 
--- The moment of a frame at that time, in milliseconds: as long after the lead as its time is after that of the first
--- frame, but never before the frame that came before it.
-abbrev pub moment_at : ℕ → Reach → ℕ → ℕ
-moment_at lead reach time = max reach.last (lead + (time - unwrap_or reach.first time) / 1000000)
+-- before the first record; no frame stands before the lead
+abbrev pub beginning : Start → Reach
+beginning start = record { base = start.base; last = start.lead; count = 0; at = 24 }
 
--- the interface whose frames a capture has
-abbrev pub captured_interface : ℕ
-captured_interface = 1
+-- The moment of a frame at that time, in milliseconds: as long after the lead as its time is after the one that stands there, which is that of
+-- the first record unless another one was given, but never before the frame that came before it.
+abbrev pub moment_at : Start → Reach → ℕ → ℕ
+moment_at start reach time = max reach.last (start.lead + (time - unwrap_or reach.base time) / 1000000)
 
 -- the frame of the record whose octets come first
-abbrev pub frame_at : Form → ℕ → Reach → List ℕ → Frame
-frame_at form lead reach octets = record {
-  interface = captured_interface;
-  moment = moment_at lead reach (time_of form octets);
+abbrev pub frame_at : Form → Start → Reach → List ℕ → Frame
+frame_at form start reach octets = record {
+  interface = start.interface;
+  moment = moment_at start reach (time_of form octets);
   number = reach.count + 1;
   octets = take (included_of form octets) (drop 16 octets);
   original = max (included_of form octets) (original_of form octets);
 }
 
 -- how far the records reach with that one
-abbrev pub reach_after : Form → ℕ → Reach → List ℕ → Reach
-reach_after form lead reach octets = record {
-  first = Some (unwrap_or reach.first (time_of form octets));
-  last = moment_at lead reach (time_of form octets);
+abbrev pub reach_after : Form → Start → Reach → List ℕ → Reach
+reach_after form start reach octets = record {
+  base = Some (unwrap_or reach.base (time_of form octets));
+  last = moment_at start reach (time_of form octets);
   count = reach.count + 1;
   at = reach.at + (16 + included_of form octets);
 }
 
--- the first fault of a record's header: one record too many, a length above 262144, or a moment of more than 32 bits
-unfoldable pub fault_at : Form → ℕ → Reach → List ℕ → Option PcapFault
-fault_at form lead reach octets =
+-- whether the moment of the record whose header comes first has more than 32 bits
+unfoldable pub is_late : Form → Start → Reach → List ℕ → Bool
+is_late form start reach octets = nat_le (2 ^ 32) (moment_at start reach (time_of form octets))
+
+-- The first fault of a record's header: one record too many, a length above 262144, or a moment of more than 32 bits. The moment of the first
+-- record is judged only where the record is whole: one that is cut short is no frame, and its time counts nowhere.
+unfoldable pub fault_at : Form → Start → Reach → List ℕ → Option PcapFault
+fault_at form start reach octets =
     if nat_le 100000000 reach.count then Some TooMany
     else if nat_lt 262144 (included_of form octets) then Some (Included (reach.at + 8))
     else if nat_lt 262144 (original_of form octets) then Some (Original (reach.at + 12))
-    else if nat_le (2 ^ 32) (moment_at lead reach (time_of form octets)) then Some (Late reach.at)
+    else if nat_lt 0 reach.count && is_late form start reach octets then Some (Late reach.at)
     else None
 
 -- how the records stop: at the end of the file, within the record that begins at an offset, or by a fault
@@ -80,33 +86,47 @@ pub data Found : Type 0 where
   Stops : Stop → Found
 
 -- what at least sixteen octets that are left are, by the fault of the header at their front
-abbrev pub found_with : Form → ℕ → Reach → List ℕ → Option PcapFault → Found
-found_with form lead reach octets (Some fault) = Stops (Broken fault)
-found_with form lead reach octets None =
+abbrev pub found_with : Form → Start → Reach → List ℕ → Option PcapFault → Found
+found_with form start reach octets (Some fault) = Stops (Broken fault)
+found_with form start reach octets None =
     if nat_lt (length octets) (16 + included_of form octets)
     then Stops (CutAt reach.at)
-    else Whole (frame_at form lead reach octets) (reach_after form lead reach octets)
+    else if is_late form start reach octets then Stops (Broken (Late reach.at))
+    else Whole (frame_at form start reach octets) (reach_after form start reach octets)
 
 -- what octets that are left are
-abbrev pub found_in : Form → ℕ → Reach → List ℕ → Found
-found_in form lead reach [] = Stops Ended
-found_in form lead reach (octet ∷ more) =
+abbrev pub found_in : Form → Start → Reach → List ℕ → Found
+found_in form start reach [] = Stops Ended
+found_in form start reach (octet ∷ more) =
     if nat_lt (length (octet ∷ more)) 16
     then Stops (CutAt reach.at)
-    else found_with form lead reach (octet ∷ more) (fault_at form lead reach (octet ∷ more))
+    else found_with form start reach (octet ∷ more) (fault_at form start reach (octet ∷ more))
 
 -- what stands next in a file of these octets
-unfoldable pub found_at : Form → ℕ → Reach → List ℕ → Found
-found_at form lead reach bytes = found_in form lead reach (drop reach.at bytes)
+unfoldable pub found_at : Form → Start → Reach → List ℕ → Found
+found_at form start reach bytes = found_in form start reach (drop reach.at bytes)
 
 -- from a reach on, the file's records have these frames, and then stop so
-unfoldable pub AreRecords : Form → ℕ → Reach → List ℕ → List Frame → Stop → Type 0
-AreRecords form lead reach bytes [] stop = found_at form lead reach bytes ≡ Stops stop
-AreRecords form lead reach bytes (frame ∷ more) stop =
-    (next : Reach) × (found_at form lead reach bytes ≡ Whole frame next) × AreRecords form lead next bytes more stop
+unfoldable pub AreRecords : Form → Start → Reach → List ℕ → List Frame → Stop → Type 0
+AreRecords form start reach bytes [] stop = found_at form start reach bytes ≡ Stops stop
+AreRecords form start reach bytes (frame ∷ more) stop =
+    (next : Reach) × (found_at form start reach bytes ≡ Whole frame next) × AreRecords form start next bytes more stop
 
--- A file of these octets, whose first frame stands at a moment, has these frames, and then stops so. Where its header has a
--- fault, it has no frame.
-unfoldable pub ReadsAs : ℕ → List ℕ → List Frame → Stop → Type 0
-ReadsAs lead bytes frames stop =
-    MatchResult (header_of bytes) (λ form. AreRecords form lead (beginning lead) bytes frames stop) (λ fault. (frames ≡ []) × (stop ≡ Broken fault))
+-- A file of these octets, of which that is the start, has these frames, and then stops so. Where its header has a fault, it has no
+-- frame.
+unfoldable pub ReadsAs : Start → List ℕ → List Frame → Stop → Type 0
+ReadsAs start bytes frames stop =
+    MatchResult (header_of bytes) (λ form. AreRecords form start (beginning start) bytes frames stop) (λ fault. (frames ≡ []) × (stop ≡ Broken fault))
+
+-- what octets that are left have first, by the fault of the header at their front: the time of a record in nanoseconds, where it is whole
+abbrev pub first_with : Form → List ℕ → Option PcapFault → Result (Option ℕ) PcapFault
+first_with form octets (Some fault) = Err fault
+first_with form octets None = if nat_lt (length octets) (16 + included_of form octets) then Ok None else Ok (Some (time_of form octets))
+
+abbrev pub first_in : Form → Start → List ℕ → Result (Option ℕ) PcapFault
+first_in form start octets = if nat_lt (length octets) 16 then Ok None else first_with form octets (fault_at form start (beginning start) octets)
+
+-- What a file of these octets has first: the time of its first record in nanoseconds, where that is whole; nothing, where it isn't or there is
+-- none; or the fault of its lengths.
+unfoldable pub first_of : Form → Start → List ℕ → Result (Option ℕ) PcapFault
+first_of form start bytes = first_in form start (drop 24 bytes)

@@ -1,33 +1,75 @@
 -- What stands next in a capture, as its reader keeps it: the numbers of a record, whose octets are in the window.
-use Rattle.std.specs.Prelude.{◌≡◌, ◌≤◌, ℕ, ◌+◌, ◌*◌, max, List, length, take, drop, Option, Some}
+use Rattle.std.specs.Prelude.{◌≡◌, ◌≤◌, ◌<◌, ℕ, ◌+◌, ◌*◌, max, List, length, take, drop, Option, Some, None}
 use Rattle.rm_model.specs.Journal.{Frame as Passed}
 use Rattle.rm_pcap.specs.declared.form.Form.{Form}
+use Rattle.rm_pcap.specs.declared.start.Start.{Start}
 use Rattle.rm_pcap.specs.declared.reach.Reach.{Reach}
+use Rattle.rm_pcap.specs.declared.record.Lengths.{Lengths}
+use Rattle.rm_pcap.specs.declared.record.Part.{Part}
+use Rattle.rm_pcap.specs.declared.record.Part.TheVariants.{Whole as WholePart, End as EndPart, Cut as CutPart}
 use Rattle.rm_pcap.specs.declared.record.Record.{Record}
 use Rattle.rm_pcap.specs.declared.record.Seen.{Seen}
 use Rattle.rm_pcap.specs.declared.record.Seen.TheVariants.{Whole as SeenWhole, End as SeenEnd, Cut as SeenCut}
-use Rattle.rm_pcap.specs.Records.{Ended, CutAt, Found, Whole, Stops, captured_interface, included_of, original_of, reach_after}
+use Rattle.rm_pcap.specs.Records.{Ended, CutAt, Found, Whole, Stops, fault_at, included_of, original_of, reach_after}
 
 -- the numbers of the record whose header comes first
-abbrev pub record_of : Form → ℕ → Reach → List ℕ → Record
-record_of form lead reach octets =
-    record { included = included_of form octets; original = max (included_of form octets) (original_of form octets); after = reach_after form lead reach octets }
+abbrev pub record_of : Form → Start → Reach → List ℕ → Record
+record_of form start reach octets =
+    record { included = included_of form octets; original = max (included_of form octets) (original_of form octets); after = reach_after form start reach octets }
 
--- the frame of a record with these captured octets
-abbrev pub frame_seen : Record → List ℕ → Passed
-frame_seen seen captured = record {
-  interface = captured_interface;
+-- the lengths in the header that comes first
+abbrev pub lengths_of : Form → List ℕ → Lengths
+lengths_of form octets = record { included = included_of form octets; original = max (included_of form octets) (original_of form octets) }
+
+-- what holds of the lengths of each record behind a reach
+pub record AreSound (reach : Reach) (lengths : Lengths) : Type 0 where
+  pub captured : lengths.included ≤ lengths.original
+  pub most : lengths.original ≤ 262144
+  pub few : reach.count < 100000000
+
+-- all of a record stands in the octets of the window, with these lengths
+pub record IsWholeIn (form : Form) (reach : Reach) (octets : List ℕ) (lengths : Lengths) : Type 0 where
+  pub long : 16 + lengths.included ≤ length octets
+  pub numbers : lengths ≡ lengths_of form octets
+  pub sound : AreSound reach lengths
+
+abbrev pub IsPartIn : Form → Reach → List ℕ → Part → Type 0
+IsPartIn form reach octets (WholePart lengths) = IsWholeIn form reach octets lengths
+IsPartIn form reach octets EndPart = Unit {0}
+IsPartIn form reach octets CutPart = Unit {0}
+
+-- all of a record stands first in the octets that are left of a file, with these lengths
+pub record IsWholePart (form : Form) (start : Start) (reach : Reach) (left : List ℕ) (lengths : Lengths) : Type 0 where
+  pub long : 16 + lengths.included ≤ length left
+  pub numbers : lengths ≡ lengths_of form left
+  pub faultless : fault_at form start reach left ≡ None
+
+-- a record is cut short there, within its header or behind it
+pub data IsCutPart (form : Form) (start : Start) (reach : Reach) (left : List ℕ) : Type 0 where
+  within : 0 < length left → length left < 16 → IsCutPart form start reach left
+  behind : 16 ≤ length left → fault_at form start reach left ≡ None → length left < 16 + included_of form left → IsCutPart form start reach left
+
+-- what of a record stands first there
+abbrev pub IsPart : Form → Start → Reach → List ℕ → Part → Type 0
+IsPart form start reach left (WholePart lengths) = IsWholePart form start reach left lengths
+IsPart form start reach left EndPart = length left ≡ 0
+IsPart form start reach left CutPart = IsCutPart form start reach left
+
+-- the frame of a record with these captured octets, on an interface
+abbrev pub frame_seen : ℕ → Record → List ℕ → Passed
+frame_seen interface seen captured = record {
+  interface = interface;
   moment = seen.after.last;
   number = seen.after.count;
   octets = captured;
   original = seen.original;
 }
 
--- what was seen at that reach, with the octets that stand there
-abbrev pub found_of : Reach → List ℕ → Seen → Found
-found_of reach octets (SeenWhole seen) = Whole (frame_seen seen (take seen.included (drop 16 octets))) seen.after
-found_of reach octets SeenEnd = Stops Ended
-found_of reach octets SeenCut = Stops (CutAt reach.at)
+-- what was seen at that reach of a capture of an interface, with the octets that stand there
+abbrev pub found_of : ℕ → Reach → List ℕ → Seen → Found
+found_of interface reach octets (SeenWhole seen) = Whole (frame_seen interface seen (take seen.included (drop 16 octets))) seen.after
+found_of interface reach octets SeenEnd = Stops Ended
+found_of interface reach octets SeenCut = Stops (CutAt reach.at)
 
 -- a record that was seen is whole in the octets
 abbrev pub IsLong : List ℕ → Seen → Type 0

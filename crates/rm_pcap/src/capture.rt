@@ -1,21 +1,22 @@
-ghost use Rattle.std.specs.Prelude.{◌≡◌, ◌+◌, ℕ, List, IfOk, IfErr, OnErr, ⊤};
+ghost use Rattle.std.specs.Prelude.{◌≡◌, ◌+◌, ℕ, List, IfOk, IfErr, OnErr, None, ⊤};
 ghost use Rattle.std.specs.Borrow.{sem};
 ghost use denote.Follow.{follows_so};
 ghost use mathlib.Core.Option.{none};
 ghost use Rattle.rm_edge.specs.Outside.{File, Absent, Rose};
 ghost use Rattle.rm_edge.specs.Shelves.{KeepsShelf};
 ghost use Rattle.rm_pcap.specs.Seen.{IsAhead, IsNear, FollowsSeen};
-ghost use Rattle.rm_pcap.specs.Progress.{begun};
+ghost use Rattle.rm_pcap.specs.Progress.{Agrees, IsUnseen, based_at, begun};
 ghost use Rattle.rm_window.specs.Window.{room_of};
 ghost use Rattle.rm_pcap.specs.Window.{IsHeld, IsPassed};
-ghost use Rattle.rm_pcap.specs.Calls.{LooksAt, Steps, Fails, IsFirstFault, BeginsAs};
+ghost use Rattle.rm_pcap.specs.Calls.{LooksAt, LooksFirst, Steps, Fails, IsFirstFault, IsFirstRecordFault, BeginsAs};
 
 use crate::fault::PcapFault;
 use crate::frame::{Frame, Step};
 use crate::header::{HEADER, header_of};
-use crate::position::Position;
+use crate::position::{Position, time_of};
 use crate::reach::Reach;
-use crate::record::{RECORD_HEADER, Seen};
+use crate::record::{Part, RECORD_HEADER, Seen};
+use crate::start::Start;
 use rm_edge::Shelf;
 use rm_window::{Window, fill};
 use std::alloc::Global;
@@ -42,8 +43,8 @@ impl Capture {
     ghost use Rattle.rm_pcap.specs.View.{progress_of, form_begun, KeepsLook, KeepsStep};
     ghost use Rattle.rm_pcap.specs.contracts.capture.Capture.{the_row};
 
-    /// Begins to read a capture whose first frame stands at a moment, in milliseconds: judges its file header, and
-    /// reserves room for its window.
+    /// Begins to read a capture of an interface, whose first frame stands at the moment `lead`, in milliseconds, unless `based` says
+    /// otherwise: judges its file header, and reserves room for its window.
     ///
     /// Magic, Version and LinkType come in this order, also where the file ends before the octets that are judged.
     /// Read comes only where a read failed. A name without a file always fails with Read. NoMemory comes where there is no
@@ -53,6 +54,7 @@ impl Capture {
         alloc: Global,
         shelf: &mut S,
         name: &str,
+        interface: u32,
         lead: u32,
     ) -> Result<Capture, PcapFault>
         ensures shelf { KeepsShelf S.held S.faults shelf.old shelf.new (λ each. each ≡ name.now)
@@ -61,7 +63,7 @@ impl Capture {
             → Rose (S.faults shelf.old name.now) (S.faults shelf.new name.now)) }
         ensures absent { S.held shelf.old name.now ≡ Absent → result ≡ Err PcapFault.Read }
         ensures begun { IfOk result (λ capture.
-            progress_of capture ≡ begun (progress_of capture).form lead) }
+            progress_of capture ≡ begun (progress_of capture).form (record { interface = interface; lead = lead; base = None })) }
         ensures header { (bytes : List ℕ) → S.held shelf.old name.now ≡ File bytes
             → BeginsAs bytes (form_begun result) }
         ensures kinds { IfErr result IsFirstFault }
@@ -74,14 +76,19 @@ impl Capture {
         let Ok(window) = Window::new(alloc, ROOM) else {
             return Err(PcapFault::NoMemory);
         };
+        let start = Start {
+            interface,
+            lead,
+            base: None,
+        };
         let reach = Reach {
-            first: None,
+            base: None,
             last: lead,
             count: 0,
             at: HEADER as u64,
         };
         Ok(Capture {
-            position: Position { form, lead, reach },
+            position: Position { form, start, reach },
             window,
             seen: None,
         })
@@ -93,6 +100,54 @@ impl Capture {
         ensures { result ≡ (progress_of self.now).reach.count }
     {
         self.position.reach.count
+    }
+
+    /// The time of the first record in nanoseconds, which stays the next. None where the file has no first record, or cuts it
+    /// short.
+    ///
+    /// Included and Original come where a length of the first record is too great, Read only where a read failed, and no other fault;
+    /// after a fault the capture is as before. `peek` and `next` go on from what was read. It takes no memory.
+    pub fn first<S: Shelf>(&mut self, shelf: &mut S, name: &str) -> Result<Option<u64>, PcapFault>
+        requires unseen { IsUnseen (progress_of self.old) }
+        ensures shelf { KeepsShelf S.held S.faults shelf.old shelf.new (λ each. each ≡ name.now)
+            (result ≡ Err PcapFault.Read) }
+        ensures cause { IfErr result (λ fault. fault ≡ PcapFault.Read
+            → Rose (S.faults shelf.old name.now) (S.faults shelf.new name.now)) }
+        ensures looks { LooksFirst (S.held shelf.old name.now) (progress_of self.old) (progress_of self.new) result }
+        ensures same { OnErr result (progress_of self.new ≡ progress_of self.old) }
+        ensures kinds { IfErr result IsFirstRecordFault }
+    {
+        if self.seen.is_some() {
+            return Ok(None);
+        }
+        let next = self.window.len();
+        match self.position.part(shelf, name, &mut self.window) {
+            Ok(Part::Whole(_)) => Ok(Some(time_of(self.position.form, self.window.octets()))),
+            Ok(Part::End) => {
+                self.seen = Some(Seen::End);
+                Ok(None)
+            }
+            Ok(Part::Cut) => {
+                self.seen = Some(Seen::Cut);
+                Ok(None)
+            }
+            Err(fault) => {
+                self.window.truncate(next);
+                Err(fault)
+            }
+        }
+    }
+
+    /// Sets the time in nanoseconds that stands at the lead. Else it is that of the first record.
+    #[tactic(auto, unfolding(crate::specs::View::progress_of))]
+    pub fn based(&mut self, base: u64)
+        requires unseen { IsUnseen (progress_of self.old) }
+        ensures place { progress_of self.new ≡ based_at base (progress_of self.old) }
+        ensures unseen { IsUnseen (progress_of self.new) }
+        ensures agrees { (bytes : List ℕ) → Agrees (progress_of self.old) bytes → Agrees (progress_of self.new) bytes }
+    {
+        self.position.start.base = Some(base);
+        self.position.reach.base = Some(base);
     }
 
     // Sees what stands next, unless it was seen already.
@@ -182,12 +237,14 @@ impl Capture {
         ensures* after { sem 𝓛 (follows_so the_row the_row self.entry.ghost_name none (λ _ _. ⊤)
             (λ after. Steps (S.held shelf.old name.now) (progress_of self.old) (progress_of after) result)) }
     {
+        let interface = self.position.start.interface;
         match self.pass(shelf, name) {
             Ok(Seen::Whole(record)) => Ok(Step::Next(Frame {
                 bytes: self.window.passed(record.included as usize),
                 original: record.original,
                 moment: record.after.last,
                 number: record.after.count,
+                interface,
             })),
             Ok(Seen::End) => Ok(Step::End),
             Ok(Seen::Cut) => Ok(Step::Cut(self.position.reach.at)),

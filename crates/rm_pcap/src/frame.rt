@@ -9,6 +9,8 @@ pub struct Frame<'a> {
     pub moment: u32,
     /// Its number in the capture, from 1.
     pub number: u32,
+    /// The number of the interface that it is of, from 1.
+    pub interface: u32,
 }
 
 /// What stands next in a capture.

@@ -2,6 +2,7 @@
 ghost use Rattle.std.specs.Prelude.{◌≡◌, ◌<◌, ℕ, List, length, slice_index_or, Ok};
 ghost use Rattle.rm_model.specs.Journal.{Frame as Passed};
 ghost use Rattle.rm_pcap.specs.declared.form.Form.{Form};
+ghost use Rattle.rm_pcap.specs.declared.start.Start.{Start};
 ghost use Rattle.rm_pcap.specs.declared.reach.Reach.{Reach};
 ghost use Rattle.rm_pcap.specs.Header.{header_of};
 ghost use Rattle.rm_pcap.specs.Records.{Stop, AreRecords, ReadsAs};
@@ -9,30 +10,30 @@ ghost use Rattle.rm_pcap.specs.EachRecord.{IsOfRecord, StopsBehind};
 
 /// A law: from a reach on, a file has one list of records at most, and stops in one way.
 pub fn one_list_of_records()
-    ensures { (form : Form) (lead : ℕ) (reach : Reach) (bytes : List ℕ) (frames others : List Passed) (stop last : Stop)
-        → AreRecords form lead reach bytes frames stop → AreRecords form lead reach bytes others last
+    ensures { (form : Form) (start : Start) (reach : Reach) (bytes : List ℕ) (frames others : List Passed) (stop last : Stop)
+        → AreRecords form start reach bytes frames stop → AreRecords form start reach bytes others last
         → (frames ≡ others) × (stop ≡ last) }
 {}
 
 /// A law: a file reads in one way at most.
 pub fn one_reading()
-    ensures { (lead : ℕ) (bytes : List ℕ) (frames others : List Passed) (stop last : Stop)
-        → ReadsAs lead bytes frames stop → ReadsAs lead bytes others last → (frames ≡ others) × (stop ≡ last) }
+    ensures { (start : Start) (bytes : List ℕ) (frames others : List Passed) (stop last : Stop)
+        → ReadsAs start bytes frames stop → ReadsAs start bytes others last → (frames ≡ others) × (stop ≡ last) }
 {}
 
 /// A law: each file reads in some way.
 pub fn every_reading()
-    ensures { (lead : ℕ) (bytes : List ℕ) → (frames : List Passed) × (stop : Stop) × ReadsAs lead bytes frames stop }
+    ensures { (start : Start) (bytes : List ℕ) → (frames : List Passed) × (stop : Stop) × ReadsAs start bytes frames stop }
 {}
 
 /// A law: each frame of a file is that of its record, which stands behind the records of the frames before it.
 pub fn frames_are_of_records()
-    ensures { (form : Form) (lead : ℕ) (bytes : List ℕ) (frames : List Passed) (stop : Stop) → header_of bytes ≡ Ok form → ReadsAs lead bytes frames stop
-        → (index : ℕ) (any : Passed) → index < length frames → IsOfRecord form lead bytes frames index (slice_index_or frames index any) }
+    ensures { (form : Form) (start : Start) (bytes : List ℕ) (frames : List Passed) (stop : Stop) → header_of bytes ≡ Ok form → ReadsAs start bytes frames stop
+        → (index : ℕ) (any : Passed) → index < length frames → IsOfRecord form start bytes frames index (slice_index_or frames index any) }
 {}
 
 /// A law: behind the records of all its frames a file ends, or a record is cut short or has a fault, and the records stop so.
 pub fn records_stop_behind_frames()
-    ensures { (form : Form) (lead : ℕ) (bytes : List ℕ) (frames : List Passed) (stop : Stop) → header_of bytes ≡ Ok form → ReadsAs lead bytes frames stop
-        → StopsBehind form lead bytes frames stop }
+    ensures { (form : Form) (start : Start) (bytes : List ℕ) (frames : List Passed) (stop : Stop) → header_of bytes ≡ Ok form → ReadsAs start bytes frames stop
+        → StopsBehind form start bytes frames stop }
 {}

@@ -11,6 +11,7 @@ mod laws;
 mod position;
 mod reach;
 mod record;
+mod start;
 
 pub use capture::Capture;
 pub use fault::PcapFault;
@@ -21,3 +22,4 @@ pub use laws::{
     records_stop_behind_frames,
 };
 pub use reach::Reach;
+pub use start::Start;

@@ -1,30 +1,32 @@
-ghost use Rattle.std.specs.Prelude.{◌≡◌, ◌≤◌, ◌+◌, ℕ, List, length, drop, None, Some, IfOk, IfErr, MatchResult};
+ghost use Rattle.std.specs.Prelude.{◌≡◌, ◌≤◌, ◌<◌, ◌+◌, ℕ, List, length, drop, None, Some, IfOk, IfErr, IfSome, MatchResult, if◌then◌else◌};
 ghost use Rattle.rm_edge.specs.Outside.{File, Rose};
 ghost use Rattle.rm_edge.specs.Shelves.{KeepsShelf};
-ghost use Rattle.rm_pcap.specs.Records.{fault_at, time_of, found_at};
+ghost use Rattle.rm_pcap.specs.Records.{fault_at, is_late, moment_at, time_of, found_at};
 ghost use Rattle.rm_window.specs.Filling.{IsFront};
 ghost use Rattle.rm_pcap.specs.Calls.{IsFaultAt, IsBroken};
-ghost use Rattle.rm_pcap.specs.Seen.{record_of, found_of, Follows, FollowsSeen, IsNear, IsLong};
+ghost use Rattle.rm_pcap.specs.Seen.{lengths_of, record_of, found_of, Follows, FollowsSeen, IsNear, IsLong, IsPart, IsPartIn, AreSound};
+ghost use Rattle.rm_pcap.specs.declared.fault.PcapFault.TheVariants.{Late};
 
 use crate::fault::PcapFault;
 use crate::fields::long_at;
 use crate::form::{Form, TimeUnit};
 use crate::reach::Reach;
-use crate::record::{MOST_LENGTH, MOST_RECORDS, RECORD_HEADER, Record, Seen};
+use crate::record::{Lengths, MOST_LENGTH, MOST_RECORDS, Part, RECORD_HEADER, Record, Seen};
+use crate::start::Start;
 use rm_edge::Shelf;
 use rm_window::Window;
 
-/// How the octets of a capture are read, the moment of its first frame, and how far it was read.
+/// How the octets of a capture are read, where its frames stand, and how far it was read.
 #[derive(Clone, Copy)]
 pub struct Position {
     pub form: Form,
-    pub lead: u32,
+    pub start: Start,
     pub reach: Reach,
 }
 
 // The time in a record's header, in nanoseconds. A fraction isn't checked: one that counts seconds adds them.
 #[tactic(auto, unfolding(crate::specs::Records::time_of))]
-fn time_of(form: Form, octets: &[u8]) -> u64
+pub fn time_of(form: Form, octets: &[u8]) -> u64
     requires { 16 ≤ length octets.now }
     ensures { result ≡ time_of form octets.now }
 {
@@ -40,17 +42,30 @@ fn time_of(form: Form, octets: &[u8]) -> u64
 impl Position {
     ghost use Rattle.rm_window.specs.Window.{octets_of, room_of};
 
-    // The numbers of the record whose header comes first, or the header's first fault.
+    // The moment of the record whose header comes first. None where it has more than 32 bits.
+    #[tactic(auto, unfolding(crate::specs::Records::is_late))]
+    fn moment(self, octets: &[u8]) -> Option<u32>
+        requires { 16 ≤ length octets.now }
+        ensures { result ≡ (if is_late self.form self.start self.reach octets.now then None
+            else Some (moment_at self.start self.reach (time_of self.form octets.now))) }
+    {
+        let time = time_of(self.form, octets);
+        let base = self.reach.base.unwrap_or(time);
+        let since = u64::from(self.start.lead) + time.saturating_sub(base) / 1_000_000;
+        u32::try_from(since.max(u64::from(self.reach.last))).ok()
+    }
+
+    // The lengths in the header that comes first, or the header's first fault. The moment of the first record isn't judged here.
     #[tactic(auto, unfolding(crate::specs::Records::fault_at, crate::specs::Records::included_of, crate::specs::Records::original_of))]
-    fn judge(self, octets: &[u8]) -> Result<Record, PcapFault>
+    fn judge(self, octets: &[u8]) -> Result<Lengths, PcapFault>
         requires long { 16 ≤ length octets.now }
         requires near { IsNear self.reach }
         ensures judged { MatchResult result
-            (λ seen. (fault_at self.form self.lead self.reach octets.now ≡ None)
-            × (seen ≡ record_of self.form self.lead self.reach octets.now))
-            (λ fault. fault_at self.form self.lead self.reach octets.now ≡ Some fault) }
-        ensures follows { IfOk result (λ seen. Follows self.reach seen) }
+            (λ lengths. (fault_at self.form self.start self.reach octets.now ≡ None) × (lengths ≡ lengths_of self.form octets.now))
+            (λ fault. fault_at self.form self.start self.reach octets.now ≡ Some fault) }
+        ensures sound { IfOk result (λ lengths. AreSound self.reach lengths) }
         ensures place { IfErr result (λ fault. IsFaultAt self.reach fault) }
+        ensures late { IfErr result (λ fault. (at : ℕ) → fault ≡ Late at → 0 < self.reach.count) }
     {
         let reach = self.reach;
         if reach.count >= MOST_RECORDS {
@@ -64,23 +79,81 @@ impl Position {
         if original > MOST_LENGTH {
             return Err(PcapFault::Original(reach.at + 12));
         }
-        let time = time_of(self.form, octets);
-        let first = reach.first.unwrap_or(time);
-        let since = u64::from(self.lead) + time.saturating_sub(first) / 1_000_000;
-        let Ok(moment) = u32::try_from(since.max(u64::from(reach.last))) else {
+        if reach.count > 0 && self.moment(octets).is_none() {
             return Err(PcapFault::Late(reach.at));
-        };
-        let after = Reach {
-            first: Some(first),
-            last: moment,
-            count: reach.count + 1,
-            at: reach.at + (RECORD_HEADER as u64 + u64::from(included)),
-        };
-        Ok(Record {
+        }
+        Ok(Lengths {
             included,
             original: included.max(original),
+        })
+    }
+
+    // The numbers of the record whose header comes first, which has these lengths. None where its moment has more than 32 bits.
+    fn record(self, octets: &[u8], lengths: Lengths) -> Option<Record>
+        requires long { 16 ≤ length octets.now }
+        requires near { IsNear self.reach }
+        requires lengths { lengths ≡ lengths_of self.form octets.now }
+        requires sound { AreSound self.reach lengths }
+        ensures numbers { result ≡ (if is_late self.form self.start self.reach octets.now then None
+            else Some (record_of self.form self.start self.reach octets.now)) }
+        ensures follows { IfSome result (λ seen. Follows self.reach seen) }
+    {
+        let moment = self.moment(octets)?;
+        let reach = self.reach;
+        let after = Reach {
+            base: Some(reach.base.unwrap_or(time_of(self.form, octets))),
+            last: moment,
+            count: reach.count + 1,
+            at: reach.at + (RECORD_HEADER as u64 + u64::from(lengths.included)),
+        };
+        Some(Record {
+            included: lengths.included,
+            original: lengths.original,
             after,
         })
+    }
+
+    /// Sees what of a record stands next in the file, through a window whose octets stand there.
+    pub fn part<S: Shelf>(
+        self,
+        shelf: &mut S,
+        name: &str,
+        window: &mut Window,
+    ) -> Result<Part, PcapFault>
+        requires near { IsNear self.reach }
+        requires room { room_of window.old ≡ 327680 }
+        ensures shelf { KeepsShelf S.held S.faults shelf.old shelf.new (λ each. each ≡ name.now)
+            (result ≡ Err PcapFault.Read) }
+        ensures cause { IfErr result (λ fault. fault ≡ PcapFault.Read
+            → Rose (S.faults shelf.old name.now) (S.faults shelf.new name.now)) }
+        ensures room { room_of window.new ≡ room_of window.old }
+        ensures keeps { IsFront (octets_of window.old) (octets_of window.new) }
+        ensures part { IfOk result (IsPartIn self.form self.reach (octets_of window.new)) }
+        ensures stands { (bytes : List ℕ) → S.held shelf.old name.now ≡ File bytes → IsFront (octets_of window.old) (drop self.reach.at bytes)
+            → IfOk result (λ part. IsFront (octets_of window.new) (drop self.reach.at bytes)
+            × IsPart self.form self.start self.reach (drop self.reach.at bytes) part) }
+        ensures faults { IfErr result (IsBroken (S.held shelf.old name.now) self.form self.start self.reach (octets_of window.old)) }
+        ensures late { IfErr result (λ fault. (at : ℕ) → fault ≡ Late at → 0 < self.reach.count) }
+    {
+        let at = self.reach.at;
+        let Ok(count) = window.hold(shelf, name, at, RECORD_HEADER) else {
+            return Err(PcapFault::Read);
+        };
+        if count == 0 {
+            return Ok(Part::End);
+        }
+        if count < RECORD_HEADER {
+            return Ok(Part::Cut);
+        }
+        let lengths = self.judge(window.octets())?;
+        let whole = RECORD_HEADER + lengths.included as usize;
+        let Ok(count) = window.hold(shelf, name, at, whole) else {
+            return Err(PcapFault::Read);
+        };
+        if count < whole {
+            return Ok(Part::Cut);
+        }
+        Ok(Part::Whole(lengths))
     }
 
     /// Sees what stands next in the file, through a window whose octets stand there.
@@ -102,27 +175,17 @@ impl Position {
         ensures long { IfOk result (IsLong (octets_of window.new)) }
         ensures found { (bytes : List ℕ) → S.held shelf.old name.now ≡ File bytes → IsFront (octets_of window.old) (drop self.reach.at bytes)
             → IfOk result (λ seen. IsFront (octets_of window.new) (drop self.reach.at bytes)
-            × (found_of self.reach (octets_of window.new) seen ≡ found_at self.form self.lead self.reach bytes)) }
-        ensures faults { IfErr result (IsBroken (S.held shelf.old name.now) self.form self.lead self.reach (octets_of window.old)) }
+            × (found_of self.start.interface self.reach (octets_of window.new) seen ≡ found_at self.form self.start self.reach bytes)) }
+        ensures faults { IfErr result (IsBroken (S.held shelf.old name.now) self.form self.start self.reach (octets_of window.old)) }
     {
-        let at = self.reach.at;
-        let Ok(count) = window.hold(shelf, name, at, RECORD_HEADER) else {
-            return Err(PcapFault::Read);
-        };
-        if count == 0 {
-            return Ok(Seen::End);
+        match self.part(shelf, name, window) {
+            Ok(Part::Whole(lengths)) => match self.record(window.octets(), lengths) {
+                Some(record) => Ok(Seen::Whole(record)),
+                None => Err(PcapFault::Late(self.reach.at)),
+            },
+            Ok(Part::End) => Ok(Seen::End),
+            Ok(Part::Cut) => Ok(Seen::Cut),
+            Err(fault) => Err(fault),
         }
-        if count < RECORD_HEADER {
-            return Ok(Seen::Cut);
-        }
-        let record = self.judge(window.octets())?;
-        let whole = RECORD_HEADER + record.included as usize;
-        let Ok(count) = window.hold(shelf, name, at, whole) else {
-            return Err(PcapFault::Read);
-        };
-        if count < whole {
-            return Ok(Seen::Cut);
-        }
-        Ok(Seen::Whole(record))
     }
 }

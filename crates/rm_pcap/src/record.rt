@@ -9,6 +9,26 @@ pub const MOST_LENGTH: u32 = 262_144;
 /// The most records of a capture.
 pub const MOST_RECORDS: u32 = 100_000_000;
 
+/// The lengths of a record.
+#[derive(Clone, Copy)]
+pub struct Lengths {
+    /// How many octets were captured.
+    pub included: u32,
+    /// How many octets the frame had where it was captured, never fewer than were captured.
+    pub original: u32,
+}
+
+/// What of a record stands next in a capture.
+#[derive(Clone, Copy)]
+pub enum Part {
+    /// All of it, with these lengths.
+    Whole(Lengths),
+    /// Nothing: the file ends.
+    End,
+    /// A part, where the file cuts it short.
+    Cut,
+}
+
 /// The numbers of a record.
 #[derive(Clone, Copy)]
 pub struct Record {

@@ -2,8 +2,9 @@
 use Rattle.std.proofs.Common.{◌≡◌, ◌⊎◌, ℕ, List, [], Option, Result, Ok, Err, refl, sym, ap, ◌∙◌, subst, arith, inl, inr}
 use Rattle.rm_edge.specs.Outside.{Held, File, OfFile, AddsFront}
 use Rattle.rm_model.specs.Journal.{Frame}
-use Rattle.rm_pcap.specs.Records.{Stop, Broken, AreRecords, ReadsAs, beginning}
+use Rattle.rm_pcap.specs.Records.{Stop, Broken, AreRecords, ReadsAs, alone, beginning}
 use Rattle.rm_pcap.specs.Header.{header_of}
+use Rattle.rm_pcap.specs.declared.start.Start.{Start}
 use Rattle.rm_pcap.specs.Progress.{Progress, begun}
 use Rattle.rm_pcap.specs.Calls.{BeginsAs, IsFirstFault}
 use Rattle.rm_pcap.specs.declared.form.Form.{Form}
@@ -37,19 +38,19 @@ text_none settings every orderly old frames stop requests =
 module _ (lead : ℕ) where
   -- the header of a capture has no fault
   good_header : (bytes : List ℕ) (frames : List Frame) (stop : Stop) (header : Result Form PcapFault) → header_of bytes ≡ header → IsCapture lead bytes frames stop
-      → (form : Form) × (header ≡ Ok form) × AreRecords form lead (beginning lead) bytes frames stop
+      → (form : Form) × (header ≡ Ok form) × AreRecords form (alone lead) (beginning (alone lead)) bytes frames stop
   unfolding ReadsAs
   good_header bytes frames stop (Ok form) is capture = (form, refl, rw is at capture.reads)
   good_header bytes frames stop (Err fault) is capture =
       let r = rw is at capture.reads in absurd (subst (λ (s : Stop). IsFaultless s) r.1 capture.faultless)
 
   -- a capture that was begun has all its frames left
-  pub begun_left : (bytes : List ℕ) (frames : List Frame) (stop : Stop) (form : Form) (progress : Progress) → header_of bytes ≡ Ok form → progress ≡ begun form lead → IsCapture lead bytes frames stop
+  pub begun_left : (bytes : List ℕ) (frames : List Frame) (stop : Stop) (form : Form) (progress : Progress) → header_of bytes ≡ Ok form → progress ≡ begun form (alone lead) → IsCapture lead bytes frames stop
       → Leaves progress bytes frames stop × (progress.reach.count ≡ 0)
   begun_left bytes frames stop form progress header is capture =
       let g = good_header bytes frames stop (Ok form) header capture in
       let same : g.0 ≡ form = cc in
-      let are = subst (λ (f : Form). AreRecords f lead (beginning lead) bytes frames stop) same g.2 in
+      let are = subst (λ (f : Form). AreRecords f (alone lead) (beginning (alone lead)) bytes frames stop) same g.2 in
       (subst (λ (p : Progress). Leaves p bytes frames stop) (sym is) (leaves_all form lead bytes frames stop are), ap (λ (p : Progress). p.reach.count) is)
 
   -- a capture can't be begun again only for want of memory, or by a failed read
@@ -111,7 +112,7 @@ module _ (lead : ℕ) where
   written settings c r out LinkFault form are text finds risen cut kinds silent = absurd (let e = kinds tt in cc)
 
   -- what another file means where the capture is begun again, and where it isn't
-  pub another_left : (c : Held) (form : Form) (progress : Progress) (NoRequests : Type 0) (status : Status) → ((bytes : List ℕ) → c ≡ File bytes → header_of bytes ≡ Ok form) → progress ≡ begun form lead
+  pub another_left : (c : Held) (form : Form) (progress : Progress) (NoRequests : Type 0) (status : Status) → ((bytes : List ℕ) → c ≡ File bytes → header_of bytes ≡ Ok form) → progress ≡ begun form (alone lead)
       → FindsAnother (IsNotLeft c progress) NoRequests status → FindsAnother (IsNotCapture lead c) NoRequests status
   another_left c form progress NoRequests status header is finds = by_status status finds
     where
@@ -137,7 +138,7 @@ module _ (lead : ℕ) where
 
   -- a file reads in one way
   abbrev pub OneReading : Type 0
-  OneReading = (first : ℕ) (bytes : List ℕ) (frames others : List Frame) (stop last : Stop) → ReadsAs first bytes frames stop → ReadsAs first bytes others last → (frames ≡ others) × (stop ≡ last)
+  OneReading = (first : Start) (bytes : List ℕ) (frames others : List Frame) (stop last : Stop) → ReadsAs first bytes frames stop → ReadsAs first bytes others last → (frames ≡ others) × (stop ≡ last)
 
   -- a fact of a file that is told
   pub told : (held : Held) (bytes : List ℕ) (P : List ℕ → Type 0) → held ≡ File bytes → OfFile held P → P bytes
@@ -146,11 +147,11 @@ module _ (lead : ℕ) where
   -- a capture has no fault
   pub not_broken : OneReading → (bytes : List ℕ) (fault : PcapFault) → IsBroken lead fault bytes → IsCaptureFile lead bytes → ⊥
   not_broken one bytes fault broken good =
-      subst (λ (s : Stop). IsFaultless s) (one lead bytes good.0 broken.0 good.1 (Broken fault) good.2.reads broken.1).1 good.2.faultless
+      subst (λ (s : Stop). IsFaultless s) (one (alone lead) bytes good.0 broken.0 good.1 (Broken fault) good.2.reads broken.1).1 good.2.faultless
 
   -- the first fault of a file is one
   pub same_fault : OneReading → (bytes : List ℕ) (fault other : PcapFault) → IsBroken lead fault bytes → IsBroken lead other bytes → fault ≡ other
-  same_fault one bytes fault other broken again = let e = (one lead bytes broken.0 again.0 (Broken fault) (Broken other) broken.1 again.1).1 in cc
+  same_fault one bytes fault other broken again = let e = (one (alone lead) bytes broken.0 again.0 (Broken fault) (Broken other) broken.1 again.1).1 in cc
 
   not_many : (lines : List ℕ) → HasTooManyLines lines → IsRequestFile lines → ⊥
   not_many lines many are = omega (arith, many.many, are.1.few)

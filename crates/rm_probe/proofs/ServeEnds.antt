@@ -6,7 +6,7 @@ use Rattle.rm_edge.specs.Link.{Datagram, Grows}
 use Rattle.rm_edge.specs.Uses.{FileUse, SinkUse, LinkUse, HasReadFault, HasPutFault, HasLinkFault}
 use Rattle.rm_edge.specs.declared.outside.link.Peer.{Peer}
 use Rattle.rm_model.specs.Journal.{Frame}
-use Rattle.rm_pcap.specs.Records.{Stop}
+use Rattle.rm_pcap.specs.Records.{Stop, alone}
 use Rattle.rm_pcap.specs.declared.fault.PcapFault.{PcapFault}
 use Rattle.rm_pcap.specs.declared.fault.PcapFault.TheVariants.{Magic, Version, LinkType, Read, NoMemory as OutOfMemory}
 use Rattle.rm_pcap.specs.Calls.{IsFirstFault}
@@ -64,7 +64,7 @@ unfolding AreSaid events_by
 served_none settings frames stop = record { before = []; are_said = refl; whole = refl }
 
 -- a probe to which nothing came, and a capture of which no record is passed
-pub keeps_first : (probe : Probe) (progress : Progress) (form : Form) (lead : ℕ) → IsFresh probe → progress ≡ begun form lead → Keeps 0 probe progress
+pub keeps_first : (probe : Probe) (progress : Progress) (form : Form) (lead : ℕ) → IsFresh probe → progress ≡ begun form (alone lead) → Keeps 0 probe progress
 keeps_first probe progress form lead fresh is = subst (λ (p : Progress). Keeps 0 probe p) (sym is) (record { last = omega (arith, fresh.last); next = omega arith; count = fresh.frames })
 
 -- of whatever may be said, nothing is a front

@@ -1,7 +1,7 @@
 -- The capture of a run: the frames that it has, or why it is none.
 use Rattle.std.specs.Prelude.{◌≡◌, ℕ, List, ⊤}
 use Rattle.rm_model.specs.Journal.{Frame}
-use Rattle.rm_pcap.specs.Records.{Stop, Broken, ReadsAs}
+use Rattle.rm_pcap.specs.Records.{Stop, Broken, ReadsAs, alone}
 use Rattle.rm_pcap.specs.declared.fault.PcapFault.{PcapFault}
 use Rattle.rm_pcap.specs.declared.fault.PcapFault.TheVariants.{Magic, Version, LinkType, Included, Original, Late, TooMany, Read, NoMemory as OutOfMemory}
 use Rattle.rm_probe.specs.declared.status.Status.{Status}
@@ -14,7 +14,7 @@ IsFaultless stop = ⊤
 
 -- the octets are a capture with these frames, the first one at the moment `lead`, and its records stop so
 pub record IsCapture (lead : ℕ) (bytes : List ℕ) (frames : List Frame) (stop : Stop) : Type 0 where
-  pub reads : ReadsAs lead bytes frames stop
+  pub reads : ReadsAs (alone lead) bytes frames stop
   pub faultless : IsFaultless stop
 
 -- the octets are a capture
@@ -35,7 +35,7 @@ status_of OutOfMemory = NoMemory
 
 -- the octets aren't a capture, and their first fault is this one
 abbrev pub IsBroken : ℕ → PcapFault → List ℕ → Type 0
-IsBroken lead fault bytes = (frames : List Frame) × ReadsAs lead bytes frames (Broken fault)
+IsBroken lead fault bytes = (frames : List Frame) × ReadsAs (alone lead) bytes frames (Broken fault)
 
 -- the octets aren't a capture, and for their first fault a run ends so
 abbrev pub CallsFor : ℕ → Status → List ℕ → Type 0

@@ -44,7 +44,7 @@ JudgesCapture lead held before now (Err other) = ⊥
 -- of a file of these octets, the records that aren't passed yet have these frames, and stop so
 pub record Leaves (progress : Progress) (bytes : List ℕ) (frames : List Frame) (stop : Stop) : Type 0 where
   pub agrees : Agrees progress bytes
-  pub records : AreRecords progress.form progress.lead progress.reach bytes frames stop
+  pub records : AreRecords progress.form progress.start progress.reach bytes frames stop
 
 -- the frame that stands next isn't before a moment, whatever the file has
 abbrev pub IsNotBefore : ℕ → Reach → Option Found → Type 0

@@ -16,6 +16,7 @@ ghost use Rattle.rm_probe.specs.Steps.{Advanced, Answers, FailsBy, FindsAnother,
 ghost use Rattle.rm_probe.specs.Ends.{IsSilent};
 ghost use Rattle.rm_probe.specs.declared.status.Status.TheVariants.{ReadFault, WriteFault, NoMemory};
 
+use crate::capture::INTERFACE;
 use crate::laws::something_said;
 use crate::notes::{Notes, Outlet};
 use crate::output::{Output, OutputFault};
@@ -248,7 +249,7 @@ pub fn write_run<F: Shelf, K: Sink>(
     ensures kinds { IsSilent result → result ≡ NoMemory }
 {
     something_said();
-    match Capture::begin(alloc, shelf, name, lead) {
+    match Capture::begin(alloc, shelf, name, INTERFACE, lead) {
         Ok(capture) => {
             let mut replaying = Replaying { capture, probe };
             let mut output = Output::new(out);

@@ -15,7 +15,7 @@ ghost use Rattle.rm_probe.specs.Ready.{IsReady};
 ghost use Rattle.rm_probe.specs.Turns.{HasServed, IsOfOne, ReceivesOne, SaysServed, SaysTurn, room};
 ghost use Rattle.rm_probe.specs.declared.status.Status.TheVariants.{ReadFault};
 
-use crate::capture;
+use crate::capture::{self, INTERFACE};
 use crate::laws::something_said;
 use crate::output::Output;
 use crate::post::Posted;
@@ -186,7 +186,7 @@ fn prepare<F: Shelf>(
         Ok(()) => (),
         Err(status) => return Err(status),
     }
-    match Capture::begin(alloc, shelf, capture, lead) {
+    match Capture::begin(alloc, shelf, capture, INTERFACE, lead) {
         Ok(records) => Ok(Serving {
             replaying: Replaying {
                 capture: records,

@@ -12,14 +12,22 @@ use Rattle.rm_proto.specs.declared.ethernet.Cast.TheVariants.{Broad, Multi, Uni}
 abbrev pub length_of : ℕ → Bool → ℕ
 length_of original keep_short = (if keep_short then original else max original 60) + 4
 
--- a good packet has 64 to 1518 octets (RFC 1757, etherStatsUndersizePkts and etherStatsOversizePkts)
-abbrev pub is_good : ℕ → Bool
-is_good wire_length = nat_le 64 wire_length && nat_le wire_length 1518
+-- whether a tag stands behind the addresses, by the number that is in the place of the type there (IEEE 802.1Q, Tag Protocol Identification)
+unfoldable pub is_tagged : List ℕ → Bool
+is_tagged bytes = nat_le 14 (length bytes) && big_number 2 (drop 12 bytes) == 0x8100
 
--- the status bits of a packet: 1 where it is longer than 1518 octets, 2 where shorter than 64 (RFC 1757, filterPktStatus)
-abbrev pub status_of : ℕ → ℕ
-status_of wire_length =
-    if nat_lt 1518 wire_length then 1
+-- the most octets of a good packet: 1518 (RFC 1757, etherStatsOversizePkts), and four more where a frame is tagged (IEEE 802.3, Q-tagged frames)
+abbrev pub most_of : Bool → ℕ
+most_of tagged = if tagged then 1522 else 1518
+
+-- a good packet has 64 octets at least (RFC 1757, etherStatsUndersizePkts), and no more than it may have
+abbrev pub is_good : Bool → ℕ → Bool
+is_good tagged wire_length = nat_le 64 wire_length && nat_le wire_length (most_of tagged)
+
+-- the status bits of a packet: 1 where it is longer than a good one, 2 where shorter (RFC 1757, filterPktStatus)
+abbrev pub status_of : Bool → ℕ → ℕ
+status_of tagged wire_length =
+    if nat_lt (most_of tagged) wire_length then 1
     else if nat_lt wire_length 64 then 2
     else 0
 
@@ -46,12 +54,18 @@ cast_of (Some pair) =
     else if is_group pair.dest then Multi
     else Uni
 
--- the number after the addresses, which is a type where it is 1536 at least, and else a length (RFC 894; IEEE 802.3)
+-- Where the type stands: behind the addresses, and behind a tag, which has four octets. One tag is skipped: where another one follows it,
+-- that one's number is the type.
+abbrev pub type_at : Bool → ℕ
+type_at tagged = if tagged then 16 else 12
+
+-- the number there, which is a type where it is 1536 at least, and else a length (RFC 894; IEEE 802.3)
 unfoldable pub ethernet_type : List ℕ → Option ℕ
 ethernet_type bytes =
-    let number = big_number 2 (drop 12 bytes) in
-    if nat_le 14 (length bytes) && nat_le 1536 number then Some number else None
+    let at = type_at (is_tagged bytes) in
+    let number = big_number 2 (drop at bytes) in
+    if nat_le (at + 2) (length bytes) && nat_le 1536 number then Some number else None
 
--- what follows the addresses and the type
+-- what follows the type
 abbrev pub payload : List ℕ → List ℕ
-payload bytes = drop 14 bytes
+payload bytes = drop (type_at (is_tagged bytes) + 2) bytes

@@ -1,7 +1,7 @@
 -- The facts of a frame.
 use Rattle.std.specs.Prelude.{ℕ, Bool, false, ◌&&◌, ◌==◌, if◌then◌else◌, List, Option, Some, None}
 use Rattle.std.specs.Option.{option_map, option_map_or, option_and_then}
-use Rattle.rm_proto.specs.Ethernet.{length_of, is_good, status_of, pair_of, cast_of, ethernet_type, payload}
+use Rattle.rm_proto.specs.Ethernet.{length_of, is_tagged, is_good, status_of, pair_of, cast_of, ethernet_type, payload}
 use Rattle.rm_proto.specs.Datagram.{has_header, addresses_of, protocol_of, ports_of}
 use Rattle.rm_proto.specs.declared.known.Facts.{Facts}
 
@@ -15,13 +15,14 @@ datagram_in bytes = if is_ip bytes && has_header (payload bytes) then Some (payl
 
 -- The facts of a frame with these captured octets, which had that many octets where it was captured, its check
 -- sequence left out.
--- There is one interface.
+-- They are told for interface 1: which one a frame came from, its octets don't say.
 abbrev pub facts_of : List ℕ → ℕ → Bool → Facts
 facts_of bytes original keep_short = record {
   interface = 1;
   length = length_of original keep_short;
-  good = is_good (length_of original keep_short);
-  status = status_of (length_of original keep_short);
+  tagged = is_tagged bytes;
+  good = is_good (is_tagged bytes) (length_of original keep_short);
+  status = status_of (is_tagged bytes) (length_of original keep_short);
   pair = pair_of bytes;
   cast = cast_of (pair_of bytes);
   ether = ethernet_type bytes;

@@ -1,14 +1,20 @@
 // The header of an Ethernet frame.
-ghost use Rattle.std.specs.Prelude.{◌≡◌};
-ghost use Rattle.rm_proto.specs.Ethernet.{is_broadcast, is_group, ethernet_type};
+ghost use Rattle.std.specs.Prelude.{◌≡◌, ◌+◌};
+ghost use Rattle.rm_proto.specs.Ethernet.{is_broadcast, is_group, is_tagged, type_at, ethernet_type};
 
 use byteorder::{BigEndian, ByteOrder};
 
 /// The octets of both addresses.
 const BOTH_ADDRESSES: usize = 12;
 
-/// The octets of the header: both addresses and the type.
-pub const HEADER: usize = 14;
+/// The octets of the type.
+const TYPE: usize = 2;
+
+/// The octets of a tag: its number, which stands in the place of the type, and its control information (IEEE 802.1Q).
+const TAG: usize = 4;
+
+/// The number of a tag (IEEE 802.1Q).
+const TAG_NUMBER: u16 = 0x8100;
 
 /// The least number after the addresses that is a type; a lower one is a length (IEEE 802.3).
 const LEAST_TYPE: u16 = 1536;
@@ -80,14 +86,42 @@ fn is_group(address: [u8; 6]) -> bool
     address[0] & 1 == 1
 }
 
-/// The type of the frame; None where it has fewer than 14 octets, and where a length stands in place of the type.
+/// Whether the frame has a tag behind its addresses. False where it has fewer than 14 octets.
+#[tactic(auto, unfolding(crate::specs::Ethernet::is_tagged))]
+pub fn is_tagged(bytes: &[u8]) -> bool
+    ensures { result ≡ is_tagged bytes.now }
+{
+    bytes.len() >= BOTH_ADDRESSES + TYPE
+        && BigEndian::read_u16(&bytes[BOTH_ADDRESSES..]) == TAG_NUMBER
+}
+
+/// Where the type stands: behind the addresses, and behind the tag of a frame that is tagged.
+fn type_at(tagged: bool) -> usize
+    ensures { result ≡ type_at tagged }
+{
+    if tagged {
+        BOTH_ADDRESSES + TAG
+    } else {
+        BOTH_ADDRESSES
+    }
+}
+
+/// Where what follows the type stands.
+pub fn payload_at(tagged: bool) -> usize
+    ensures { result ≡ type_at tagged + 2 }
+{
+    type_at(tagged) + TYPE
+}
+
+/// The type of the frame; None where it has no octets there, and where a length stands in place of the type.
 #[tactic(auto, unfolding(crate::specs::Ethernet::ethernet_type))]
-pub fn ethernet_type(bytes: &[u8]) -> Option<u16>
+pub fn ethernet_type(bytes: &[u8], tagged: bool) -> Option<u16>
+    requires { tagged ≡ is_tagged bytes.now }
     ensures { result ≡ ethernet_type bytes.now }
 {
-    if bytes.len() < HEADER {
+    if bytes.len() < payload_at(tagged) {
         return None;
     }
-    let number = BigEndian::read_u16(&bytes[BOTH_ADDRESSES..]);
+    let number = BigEndian::read_u16(&bytes[type_at(tagged)..]);
     (number >= LEAST_TYPE).then_some(number)
 }

@@ -17,6 +17,8 @@ pub struct Settings {
     pub upper: u32,
     /// Whether a frame of fewer than 60 octets counts as it was captured. Else it counts as padded to 60.
     pub keep_short: bool,
+    /// How many interfaces there are, 1 to 4.
+    pub interfaces: u32,
     /// The community that may read, 1 to 64 octets.
     pub read: Community,
     /// The community that may read and write, 1 to 64 octets.
@@ -27,6 +29,8 @@ pub struct Settings {
     ghost pairs_high: { pairs ≤ 4096 },
     ghost upper_low: { 2 ≤ upper },
     ghost upper_high: { upper ≤ 1024 },
+    ghost interfaces_low: { 1 ≤ interfaces },
+    ghost interfaces_high: { interfaces ≤ 4 },
     ghost read_low: { 1 ≤ length read.items },
     ghost read_high: { length read.items ≤ 64 },
     ghost write_low: { 1 ≤ length write.items },

@@ -25,6 +25,7 @@ use Rattle.rm_sources.specs.declared.sources.Sources.{Sources}
 
 -- the probe was set so, as the model's settings have it
 pub record IsSetTo (settings : Settings) (counting : Counting) : Type 0 where
+  pub interfaces : counting.interfaces ≡ settings.interfaces
   pub collectors : AreCollectorsSetTo settings counting
   pub upper : counting.upper ≡ settings.upper
 

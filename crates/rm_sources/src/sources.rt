@@ -39,14 +39,14 @@ impl Sources {
     /// The groups of a probe that is set so, before the first frame. They have no storage.
     #[inline(never)]
     pub fn new(settings: &Settings) -> Sources
-        ensures stands { (counting : Counting) → counting.interfaces ≡ 1 → IsSetTo settings.now counting → Stands result counting [] }
+        ensures stands { (counting : Counting) → IsSetTo settings.now counting → Stands result counting [] }
         ensures last { last_given result ≡ 0 }
         ensures frames { frames_given result ≡ 0 }
     {
         Sources {
             groups: Both {
                 first: Both {
-                    first: Ether::new(),
+                    first: Ether::new(settings.interfaces),
                     second: Collectors::new(settings),
                 },
                 second: Both {

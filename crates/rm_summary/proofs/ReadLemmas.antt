@@ -4,11 +4,12 @@ use Rattle.std.proofs.lemmas.List.{append-nil}
 use Rattle.rm_edge.specs.Outside.{Held, Untold, Absent, File, OfFile}
 use Rattle.rm_edge.specs.Uses.{FileUse, HasReadFault}
 use Rattle.rm_model.specs.Journal.{Frame}
-use Rattle.rm_pcap.specs.Records.{Stop, Ended, CutAt, Broken, Found, Whole, Stops as StopsAt, found_at, AreRecords, ReadsAs, beginning}
+use Rattle.rm_pcap.specs.Records.{Stop, Ended, CutAt, Broken, Found, Whole, Stops as StopsAt, found_at, AreRecords, ReadsAs, alone, beginning}
 use Rattle.rm_pcap.specs.Progress.{Progress, Agrees, next_in, Shows, begun, frame_of, IsLawful}
 use Rattle.rm_pcap.specs.Calls.{Passes, Steps, Fails, IsBroken as IsBrokenOff, BeginsAs}
 use Rattle.rm_pcap.specs.Header.{header_of}
 use Rattle.rm_pcap.specs.declared.form.Form.{Form}
+use Rattle.rm_pcap.specs.declared.start.Start.{Start}
 use Rattle.rm_pcap.specs.declared.reach.Reach.{Reach}
 use Rattle.rm_pcap.specs.declared.fault.PcapFault.{PcapFault}
 use Rattle.rm_pcap.specs.declared.fault.PcapFault.TheVariants.{Magic, Version, LinkType, Included, Original, Late, TooMany, Read, NoMemory}
@@ -29,7 +30,7 @@ pub record Counting (lead : ℕ) (keep_short : Bool) (bytes : List ℕ) (progres
   pub frames : List Frame
   pub counted : AreCounted keep_short frames counts
   pub agrees : Agrees progress bytes
-  pub goes : (more : List Frame) (stop : Stop) → AreRecords progress.form progress.lead progress.reach bytes more stop → ReadsAs lead bytes (frames ++ more) stop
+  pub goes : (more : List Frame) (stop : Stop) → AreRecords progress.form progress.start progress.reach bytes more stop → ReadsAs (alone lead) bytes (frames ++ more) stop
 
 -- a capture whose frames are counted
 pub record CountedSoFar {F : Type 0} (held : F → List ℕ → Held) (faults : F → List ℕ → ℕ) (first now : F) (name : List ℕ) (lead : ℕ) (keep_short : Bool) (progress : Progress) (counts : Counts) : Type 0 where
@@ -44,13 +45,13 @@ of_told Untold P Q to p = tt
 of_told Absent P Q to p = absurd p
 of_told (File bytes) P Q to p = to bytes refl p
 
-begins : (form : Form) (lead : ℕ) (bytes : List ℕ) (frames : List Frame) (stop : Stop) → header_of bytes ≡ Ok form → AreRecords form lead (beginning lead) bytes frames stop → ReadsAs lead bytes frames stop
+begins : (form : Form) (lead : ℕ) (bytes : List ℕ) (frames : List Frame) (stop : Stop) → header_of bytes ≡ Ok form → AreRecords form (alone lead) (beginning (alone lead)) bytes frames stop → ReadsAs (alone lead) bytes frames stop
 unfolding ReadsAs
 begins form lead bytes frames stop header are = rw header are
 
 -- where a capture was begun, none is counted yet
 pub counting_begins : (lead : ℕ) (keep_short : Bool) (held : Held) (capture : Capture) (result : Result Capture PcapFault) (counts : Counts) → result ≡ Ok capture → (held ≡ Absent → result ≡ Err Read)
-    → progress_of capture ≡ begun (progress_of capture).form lead → ((bytes : List ℕ) → held ≡ File bytes → BeginsAs bytes (Ok (progress_of capture).form)) → AreCounted keep_short [] counts
+    → progress_of capture ≡ begun (progress_of capture).form (alone lead) → ((bytes : List ℕ) → held ≡ File bytes → BeginsAs bytes (Ok (progress_of capture).form)) → AreCounted keep_short [] counts
     → OfFile held (λ bytes. Counting lead keep_short bytes (progress_of capture) counts)
 counting_begins lead keep_short Untold capture result counts ok absent is header none = tt
 counting_begins lead keep_short Absent capture result counts ok absent is header none = let e = sym ok ∙ absent refl in cc
@@ -63,15 +64,15 @@ counting_begins lead keep_short (File bytes) capture result counts ok absent is 
       goes = λ more stop are. begins form lead bytes more stop (header bytes refl) are;
     })
 
-records_first : (form : Form) (lead : ℕ) (reach after : Reach) (bytes : List ℕ) (frame : Frame) (more : List Frame) (stop : Stop)
-    → found_at form lead reach bytes ≡ Whole frame after → AreRecords form lead after bytes more stop → AreRecords form lead reach bytes (frame ∷ more) stop
+records_first : (form : Form) (start : Start) (reach after : Reach) (bytes : List ℕ) (frame : Frame) (more : List Frame) (stop : Stop)
+    → found_at form start reach bytes ≡ Whole frame after → AreRecords form start after bytes more stop → AreRecords form start reach bytes (frame ∷ more) stop
 unfolding AreRecords
-records_first form lead reach after bytes frame more stop is are = (after, is, are)
+records_first form start reach after bytes frame more stop is are = (after, is, are)
 
-records_stop : (form : Form) (lead : ℕ) (reach : Reach) (bytes : List ℕ) (stop : Stop)
-    → found_at form lead reach bytes ≡ StopsAt stop → AreRecords form lead reach bytes [] stop
+records_stop : (form : Form) (start : Start) (reach : Reach) (bytes : List ℕ) (stop : Stop)
+    → found_at form start reach bytes ≡ StopsAt stop → AreRecords form start reach bytes [] stop
 unfolding AreRecords
-records_stop form lead reach bytes stop is = is
+records_stop form start reach bytes stop is = is
 
 -- what is lent is passed, and it is lawful
 pub record IsPassed (held : Held) (old new : Progress) (frame : Frame) : Type 0 where
@@ -106,16 +107,16 @@ counting_more lead keep_short held old new frame after counts next passes adds s
       counted = adds was.frames was.counted;
       agrees = passes.finds.agrees bytes is was.agrees;
       goes = λ others stop are.
-          let there = subst (λ (p : Progress). AreRecords p.form p.lead p.reach bytes others stop) passes.place are in
-          let first = records_first old.form old.lead old.reach after bytes frame others stop (sym (passes.finds.stands bytes is was.agrees)) there in
-          subst (λ (all : List Frame). ReadsAs lead bytes all stop) (sym (append_assoc was.frames (frame ∷ []) others)) (was.goes (frame ∷ others) stop first);
+          let there = subst (λ (p : Progress). AreRecords p.form p.start p.reach bytes others stop) passes.place are in
+          let first = records_first old.form old.start old.reach after bytes frame others stop (sym (passes.finds.stands bytes is was.agrees)) there in
+          subst (λ (all : List Frame). ReadsAs (alone lead) bytes all stop) (sym (append_assoc was.frames (frame ∷ []) others)) (was.goes (frame ∷ others) stop first);
     }
 
 -- the records stop there
 stops : (lead : ℕ) (keep_short : Bool) (bytes : List ℕ) (progress : Progress) (counts : Counts) (stop : Stop) → next_in progress bytes ≡ StopsAt stop → (was : Counting lead keep_short bytes progress counts)
-    → ReadsAs lead bytes was.frames stop
+    → ReadsAs (alone lead) bytes was.frames stop
 stops lead keep_short bytes progress counts stop found was =
-    subst (λ (all : List Frame). ReadsAs lead bytes all stop) (append-nil was.frames) (was.goes [] stop (records_stop progress.form progress.lead progress.reach bytes stop found))
+    subst (λ (all : List Frame). ReadsAs (alone lead) bytes all stop) (append-nil was.frames) (was.goes [] stop (records_stop progress.form progress.start progress.reach bytes stop found))
 
 -- the ending that a step shows
 abbrev pub IsEnding : Step → Ending → Type 0
@@ -143,7 +144,7 @@ counting_stops lead keep_short held old new found step counts e passes shows end
     by_step (StopsAt (Broken fault)) (Cut at) passes shows is = absurd shows
     by_step found (Next frame) passes shows is = absurd is
 
-header_reads : (lead : ℕ) (bytes : List ℕ) (fault : PcapFault) → header_of bytes ≡ Err fault → ReadsAs lead bytes [] (Broken fault)
+header_reads : (lead : ℕ) (bytes : List ℕ) (fault : PcapFault) → header_of bytes ≡ Err fault → ReadsAs (alone lead) bytes [] (Broken fault)
 unfolding ReadsAs
 header_reads lead bytes fault header = rw header (refl, refl)
 
@@ -181,7 +182,7 @@ pub fault_of_record : (lead : ℕ) (keep_short : Bool) (file : FileUse) (progres
     → OfFile file.held (λ bytes. Counting lead keep_short bytes progress counts) → IsFault lead file fault
 fault_of_record lead keep_short file progress counts fault rose fails so_far = is_fault lead file fault rose (λ read memory. found read fails.cause)
   where
-    found : ¬ (fault ≡ Read) → IsBrokenOff file.held progress.form progress.lead progress.reach progress.read fault → OfFile file.held (IsBroken lead fault)
+    found : ¬ (fault ≡ Read) → IsBrokenOff file.held progress.form progress.start progress.reach progress.read fault → OfFile file.held (IsBroken lead fault)
     found other (inl read) = absurd (other read)
     found other (inr breaks) =
         of_told file.held (λ bytes. Counting lead keep_short bytes progress counts) (IsBroken lead fault)

@@ -3,7 +3,7 @@ use Rattle.std.specs.Prelude.{◌≡◌, ℕ, ◌+◌, ◌==◌, if◌then◌els
 use Rattle.std.specs.Option.{is_some}
 use Rattle.rm_model.specs.Journal.{Frame}
 use Rattle.rm_proto.specs.declared.known.Facts.{Facts}
-use Rattle.rm_pcap.specs.Records.{Stop, ReadsAs}
+use Rattle.rm_pcap.specs.Records.{Stop, ReadsAs, alone}
 use Rattle.rm_summary.specs.declared.figure.Figure.{Figure}
 use Rattle.rm_summary.specs.declared.figure.Figure.TheVariants.{Frames, Octets, Good, Undersize, Oversize, Broadcast, Multicast, Ip, First, Last}
 use Rattle.rm_summary.specs.declared.counts.Counts.{Counts}
@@ -55,7 +55,7 @@ ending_word Cut = codes "cut"
 pub record IsOf (lead : ℕ) (keep_short : Bool) (bytes : List ℕ) (summary : Summary) : Type 0 where
   pub frames : List Frame
   pub stop : Stop
-  pub reads : ReadsAs lead bytes frames stop
+  pub reads : ReadsAs (alone lead) bytes frames stop
   pub counted : AreCounted keep_short frames summary.counts
   pub ends : last_word stop ≡ Some (ending_word summary.ending)
 

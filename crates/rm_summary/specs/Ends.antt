@@ -3,7 +3,7 @@ use Rattle.std.specs.Prelude.{◌≡◌, ◌⊎◌, ℕ, Bool, List, Result, Ok,
 use Rattle.rm_edge.specs.Outside.{File, OfFile, Adds, AddsFront}
 use Rattle.rm_edge.specs.Uses.{FileUse, SinkUse, HasReadFault, HasPutFault, IsUntouched}
 use Rattle.rm_model.specs.Journal.{Frame}
-use Rattle.rm_pcap.specs.Records.{Broken, ReadsAs}
+use Rattle.rm_pcap.specs.Records.{Broken, ReadsAs, alone}
 use Rattle.rm_pcap.specs.declared.fault.PcapFault.{PcapFault}
 use Rattle.rm_pcap.specs.declared.fault.PcapFault.TheVariants.{Read, NoMemory}
 use Rattle.rm_summary.specs.declared.entry.SummaryFault.{SummaryFault}
@@ -12,7 +12,7 @@ use Rattle.rm_summary.specs.Text.{IsSummary}
 
 -- the octets aren't a capture, and their first fault is this one
 abbrev pub IsBroken : ℕ → PcapFault → List ℕ → Type 0
-IsBroken lead fault bytes = (frames : List Frame) × ReadsAs lead bytes frames (Broken fault)
+IsBroken lead fault bytes = (frames : List Frame) × ReadsAs (alone lead) bytes frames (Broken fault)
 
 -- what a fault of a capture says of its file
 abbrev pub IsFault : ℕ → FileUse → PcapFault → Type 0

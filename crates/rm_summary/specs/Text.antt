@@ -1,5 +1,5 @@
 -- The summary of a capture: eleven lines, each with a word and a number.
-use Rattle.std.specs.Prelude.{◌≡◌, ℕ, ◌-◌, Bool, true, false, ◌&&◌, nat_lt, List, [], ◌∷◌, ◌++◌, length, map, flat_map, sum_by, count_by, decimal, codes, Option, Some, None}
+use Rattle.std.specs.Prelude.{◌≡◌, ℕ, ◌-◌, Bool, true, false, ◌&&◌, ◌==◌, List, [], ◌∷◌, ◌++◌, length, map, flat_map, sum_by, count_by, decimal, codes, Option, Some, None}
 use Rattle.std.specs.List.{slice_index}
 use Rattle.std.specs.Option.{is_some, option_map}
 use Rattle.rm_model.specs.Journal.{Frame}
@@ -7,7 +7,7 @@ use Rattle.rm_proto.specs.Facts.{facts_of}
 use Rattle.rm_proto.specs.declared.known.Facts.{Facts}
 use Rattle.rm_proto.specs.declared.ethernet.Cast.{Cast}
 use Rattle.rm_proto.specs.declared.ethernet.Cast.TheVariants.{Broad, Multi, Uni}
-use Rattle.rm_pcap.specs.Records.{Stop, Ended, CutAt, Broken, ReadsAs}
+use Rattle.rm_pcap.specs.Records.{Stop, Ended, CutAt, Broken, ReadsAs, alone}
 use Rattle.rm_summary.specs.declared.figure.Figure.{Figure}
 use Rattle.rm_summary.specs.declared.figure.Figure.TheVariants.{Frames, Octets, Good, Undersize, Oversize, Broadcast, Multicast, Ip, First, Last}
 
@@ -19,12 +19,13 @@ facts_in keep_short frames = map (λ frame. facts_of frame.octets frame.original
 abbrev pub moments_in : List Frame → List ℕ
 moments_in frames = map (λ frame. frame.moment) frames
 
--- a frame has fewer than 64 octets on the wire, or more than 1518 (RFC 1757, etherStatsUndersizePkts and etherStatsOversizePkts)
+-- A frame has fewer octets on the wire than a good one, or more (RFC 1757, etherStatsUndersizePkts and etherStatsOversizePkts): its status
+-- is 2, or it is 1.
 abbrev pub is_undersize : Facts → Bool
-is_undersize facts = nat_lt facts.length 64
+is_undersize facts = facts.status == 2
 
 abbrev pub is_oversize : Facts → Bool
-is_oversize facts = nat_lt 1518 facts.length
+is_oversize facts = facts.status == 1
 
 -- frames of both classes went to addresses of one kind
 abbrev pub is_alike : Cast → Cast → Bool
@@ -93,5 +94,5 @@ lines figure word = figure_lines figure figures ++ line word (figure Frames)
 pub record IsSummary (lead : ℕ) (keep_short : Bool) (bytes text : List ℕ) : Type 0 where
   pub frames : List Frame
   pub stop : Stop
-  pub reads : ReadsAs lead bytes frames stop
+  pub reads : ReadsAs (alone lead) bytes frames stop
   pub is : option_map (lines (figure_for keep_short frames)) (last_word stop) ≡ Some text

@@ -8,10 +8,10 @@ use crate::figure::Figure;
 use rm_pcap::Frame;
 use rm_proto::{Cast, Facts, facts};
 
-/// The least octets of a good frame on the wire, and the most (RFC 1757).
-const LEAST: u32 = 64;
+/// The status of a frame with fewer octets on the wire than a good one, and of one with more (RFC 1757, filterPktStatus).
+const UNDERSIZE: u8 = 2;
 
-const MOST: u32 = 1518;
+const OVERSIZE: u8 = 1;
 
 /// What is counted of frames.
 #[derive(Clone, Copy)]
@@ -95,8 +95,8 @@ impl Counts {
             frames: self.frames + 1,
             octets: self.octets + u64::from(facts.length),
             good: self.good + u64::from(facts.good),
-            undersize: self.undersize + u64::from(facts.length < LEAST),
-            oversize: self.oversize + u64::from(facts.length > MOST),
+            undersize: self.undersize + u64::from(facts.status == UNDERSIZE),
+            oversize: self.oversize + u64::from(facts.status == OVERSIZE),
             broadcast: self.broadcast + u64::from(is_broadcast(facts)),
             multicast: self.multicast + u64::from(is_multicast(facts)),
             ip: self.ip + u64::from(facts.ip.is_some()),

@@ -24,9 +24,9 @@ pub enum SummaryFault {
 /// counts as padded to 60, unless `keep_short` is set.
 ///
 /// It has ten lines of a word, a blank and a number: `frames`, `octets` (on the wire, the check sequence included), `good` (64 to 1518
-/// octets), `undersize`, `oversize`, `broadcast` and `multicast` (good frames only), `ip` (with a whole header of IPv4), and `first` and
-/// `last`, the moments of the first and the last frame in milliseconds, 0 where there is none. The eleventh is `end` or, where
-/// the file cuts a record short, `cut`, with the number of frames.
+/// octets, or to 1522 with a tag), `undersize` and `oversize` (fewer and more), `broadcast` and `multicast` (good frames only), `ip` (with a
+/// whole header of IPv4), and `first` and `last`, the moments of the first and the last frame in milliseconds, 0 where there is none. The
+/// eleventh is `end` or, where the file cuts a record short, `cut`, with the number of frames.
 ///
 /// The capture is read to its end before the first line is put, and each line is put by itself. The faults of the capture are those of
 /// `Capture`; `Read` comes only where the shelf's count of that name has risen, and `Put` only where the sink's count has.

@@ -11,9 +11,9 @@ pub enum Figure {
     Octets,
     /// How many frames are good.
     Good,
-    /// How many have fewer than 64 octets on the wire.
+    /// How many have fewer octets on the wire than a good one.
     Undersize,
-    /// How many have more than 1518 octets on the wire.
+    /// How many have more octets on the wire than a good one.
     Oversize,
     /// How many good ones were sent to the broadcast address.
     Broadcast,

@@ -12,6 +12,9 @@ use rm_edge::Shelf;
 use rm_pcap::{Capture, PcapFault, Step};
 use std::alloc::Global;
 
+/// The interface of a capture that is read by itself.
+const INTERFACE: u32 = 1;
+
 /// How a capture ends.
 #[derive(Clone, Copy)]
 pub enum Ending {
@@ -52,7 +55,7 @@ pub fn read<F: Shelf>(
     ensures counted { IfOk result (λ summary. OfFile (F.held shelf.old name.now) (λ bytes. IsOf lead keep_short bytes summary)) }
     ensures fault { IfErr result (IsFault lead (file_use F.held F.faults shelf.old shelf.new name.now)) }
 {
-    let mut capture = Capture::begin(alloc, shelf, name, lead)?;
+    let mut capture = Capture::begin(alloc, shelf, name, INTERFACE, lead)?;
     let mut counts = Counts::new();
     loop {
         match capture.next(shelf, name)? {

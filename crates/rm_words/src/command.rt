@@ -238,6 +238,7 @@ fn run_options(words: &Words) -> Option<RunOptions>
         pairs: number_of(words, OptionName::Pairs, 2, 4096, 1024)?,
         upper: number_of(words, OptionName::Upper, 2, 1024, 1024)?,
         keep_short: is_given(words, OptionName::KeepShort)?,
+        interfaces: 1,
         read: community_of(words, OptionName::Read, b"public")?,
         write: community_of(words, OptionName::Write, b"private")?,
     };

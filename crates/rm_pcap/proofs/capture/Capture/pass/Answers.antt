@@ -22,6 +22,6 @@ returns-in-Whole-clause-passes g c =
     let looks = rw c.in-Whole.is at c.in_ok-seen.ensures.looks in
     let follows = rw c.in-Whole.is at c.in_ok-seen.ensures.follows in
     passes _ (progress_of self) (progress_of c.look.new.self) _ _
-    (subst (λ (t : List ℕ). Looks (g.S.Shelf.held c.args.shelf.now c.args.name.now) (progress_of self) (progress_of c.look.new.self) (Whole (frame_seen seen t) seen.after)) (sym lent) looks)
-    (ap (λ (position : Position). let p : Progress = record { form = position.form; lead = position.lead; reach = seen.after; ahead = None; read = next } in p) c.in_ok-seen.ensures.position)
+    (subst (λ (t : List ℕ). Looks (g.S.Shelf.held c.args.shelf.now c.args.name.now) (progress_of self) (progress_of c.look.new.self) (Whole (frame_seen self.position.start.interface seen t) seen.after)) (sym lent) looks)
+    (ap (λ (position : Position). let p : Progress = record { form = position.form; start = position.start; reach = seen.after; ahead = None; read = next } in p) c.in_ok-seen.ensures.position)
     (λ bytes front. behind_record self.position.reach seen octets next bytes follows c.pass.ensures.octets (c.look.new.self.long seen (c.in_ok-seen.ensures.seen ∙ ap Some c.in-Whole.is)) front)

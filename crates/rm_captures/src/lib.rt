@@ -1,0 +1,16 @@
+//! The captures of a run, one for each interface: judged in two rounds, and read together in the order of moments.
+#![tactic(auto)]
+
+mod beginning;
+mod coming;
+mod fault;
+mod judging;
+mod laws;
+mod passing;
+
+pub use beginning::begin;
+pub use coming::{Coming, next_of};
+pub use fault::CaptureFault;
+pub use judging::judge;
+pub use laws::merge_in_order;
+pub use passing::pass_next;
