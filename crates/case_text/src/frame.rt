@@ -8,8 +8,13 @@ use std::alloc::Global;
 /// The type of an Ethernet frame that holds an IPv4 datagram (RFC 894).
 const IPV4: [u8; 2] = [0x08, 0x00];
 
-/// The octets of an Ethernet header.
+/// The octets of an Ethernet header, and of one with a tag.
 const ETHERNET_HEADER: u32 = 14;
+
+const TAGGED_HEADER: u32 = 18;
+
+/// The number at the beginning of a tag (IEEE 802.1Q).
+const TAG: [u8; 2] = [0x81, 0x00];
 
 /// A frame, as its octets and lengths stand in a capture.
 #[derive(Drop)]
@@ -38,6 +43,7 @@ impl Frame {
 struct Fields {
     to: Vec<u8>,
     from: Vec<u8>,
+    tag: Vec<u8>,
     kind: Vec<u8>,
     addresses: Vec<u8>,
     protocol: u8,
@@ -52,6 +58,7 @@ impl Fields {
         Ok(Fields {
             to: Vec::from_slice(alloc, &[0; 6])?,
             from: Vec::from_slice(alloc, &[0; 6])?,
+            tag: Vec::new(alloc),
             kind: Vec::from_slice(alloc, &[0; 2])?,
             addresses: Vec::new(alloc),
             protocol: 0,
@@ -67,6 +74,7 @@ impl Fields {
         match field {
             "to" => self.to = ethernet_address(alloc, value)?,
             "from" => self.from = ethernet_address(alloc, value)?,
+            "tag" => self.tag = tag(alloc, value)?,
             "type" => self.kind = octets(alloc, value)?,
             "ip" => {
                 self.kind = Vec::from_slice(alloc, &IPV4)?;
@@ -112,7 +120,7 @@ impl Fields {
         })
     }
 
-    // The Ethernet header, and for addresses of IP an IPv4 header (RFC 791) without a checksum, and the ports behind it.
+    // The Ethernet header, with a tag where there is one, and for addresses of IP an IPv4 header (RFC 791) without a checksum, and the ports behind it.
     fn headers(&self, alloc: Global, length: u32) -> Result<Vec<u8>, Trouble> {
         if self.kind.len() != 2 {
             return Err(Trouble::Form("a type that hasn't two octets"));
@@ -123,17 +131,38 @@ impl Fields {
         let mut all = Vec::new(alloc);
         all.extend_from_slice(&self.to)?;
         all.extend_from_slice(&self.from)?;
+        all.extend_from_slice(&self.tag)?;
         all.extend_from_slice(&self.kind)?;
         if self.addresses.is_empty() {
             return Ok(all);
         }
-        let total = u16::try_from(length.saturating_sub(ETHERNET_HEADER)).unwrap_or(u16::MAX);
+        let total = u16::try_from(length.saturating_sub(self.header())).unwrap_or(u16::MAX);
         let [high, low] = total.to_be_bytes();
         all.extend_from_slice(&[0x45, 0, high, low, 0, 0, 0, 0, 64, self.protocol, 0, 0])?;
         all.extend_from_slice(&self.addresses)?;
         all.extend_from_slice(&self.ports)?;
         Ok(all)
     }
+
+    // The octets of its Ethernet header.
+    fn header(&self) -> u32 {
+        if self.tag.is_empty() {
+            ETHERNET_HEADER
+        } else {
+            TAGGED_HEADER
+        }
+    }
+}
+
+// A tag with these two octets of control information.
+fn tag(alloc: Global, control: &str) -> Result<Vec<u8>, Trouble> {
+    let control = octets(alloc, control)?;
+    if control.len() != 2 {
+        return Err(Trouble::Form("a tag that hasn't two octets"));
+    }
+    let mut tag = Vec::from_slice(alloc, &TAG)?;
+    tag.extend_from_slice(&control)?;
+    Ok(tag)
 }
 
 /// Reads the fields of a frame, a word and a value each.

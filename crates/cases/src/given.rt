@@ -30,7 +30,6 @@ impl Given {
             pairs: 1024,
             upper: 1024,
             keep_short: false,
-            interfaces: 1,
             read: Vec::from_slice(alloc, b"public")?,
             write: Vec::from_slice(alloc, b"private")?,
         })
@@ -72,6 +71,7 @@ impl Given {
             pairs: self.pairs,
             upper: self.upper,
             keep_short: self.keep_short,
+            interfaces: 1,
             read,
             write,
         })
