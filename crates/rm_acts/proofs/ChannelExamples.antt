@@ -2,6 +2,7 @@
 use Rattle.std.proofs.Common.{◌≡◌, ℕ, List, [], ◌∷◌, ◌++◌, true, false, Some, refl}
 use Rattle.std.specs.Prelude.{length}
 use Rattle.rm_val.specs.Val.{octets}
+use Rattle.rm_proto.specs.Ethernet.{is_tagged}
 use Rattle.rm_model.specs.Journal.{Assignment, Frame, assigns, Journal}
 use Rattle.rm_acts.specs.Events.{event_entry}
 use Rattle.rm_acts.specs.Filters.{filter_entry}
@@ -110,6 +111,7 @@ filtered =
     ∷ frame_at 1100 1 ∷ having
 
 counted : match_count settings filtered 1 ≡ 1
+unfolding is_tagged
 counted = refl
 
 -- a row that was removed and made anew has the defaults of both columns
@@ -121,7 +123,7 @@ anew : (value_of data_control made_anew 1 ≡ 2) × (value_of event_status made_
 anew = (refl, refl)
 
 -- The data test and the status test on frames: PktData 0102 with not-mask 00ff; PktStatus 1 with mask 1, so that only frames
--- above 1518 octets match.
+-- match that are longer than good ones.
 abbrev filters : Journal
 filters =
     assigns 1000 (number filter_entry 1 11 1 ∷ number filter_entry 2 11 1 ∷ [])
@@ -136,9 +138,11 @@ seen bytes original = record { interface = 1; moment = 2000; number = 1; octets 
 
 matching : (accepts settings filters 1 (seen (1 ∷ 3 ∷ []) 60) ≡ true) × (accepts settings filters 1 (seen (1 ∷ 2 ∷ []) 60) ≡ false)
     × (accepts settings filters 1 (seen (2 ∷ 3 ∷ []) 60) ≡ false) × (accepts settings filters 1 (seen (1 ∷ []) 60) ≡ false)
+unfolding is_tagged
 matching = (refl, refl, refl, refl)
 
 by_status : (accepts settings filters 2 (seen [] 1515) ≡ true) × (accepts settings filters 2 (seen [] 1514) ≡ false)
+unfolding is_tagged
 by_status = (refl, refl)
 
 -- Event 1 of channel 1 turns channel 3 on, and event 2 of channel 2 turns it off: it is off after a frame for which both fire, since

@@ -3,7 +3,7 @@ use Rattle.std.proofs.Common.{◌≡◌, ℕ, List, [], ◌∷◌, false, None, 
 use Rattle.std.specs.Prelude.{pos}
 use Rattle.rm_val.specs.Val.{int}
 use Rattle.rm_proto.specs.Datagram.{fragment_offset, header_words, ports_at_front, ports_of, protocol_of, version}
-use Rattle.rm_proto.specs.Ethernet.{ethernet_type}
+use Rattle.rm_proto.specs.Ethernet.{is_tagged, ethernet_type}
 use Rattle.rm_proto.specs.Facts.{datagram_in}
 use Rattle.rm_model.specs.Counting.{Counting}
 use Rattle.rm_model.specs.Journal.{Frame, Journal, assigns, passes}
@@ -34,22 +34,24 @@ packets journal = map (λ local. packets_of (with_local local (marks settings 1 
 
 -- a datagram from port 40000 to port 161
 one_datagram : packets (passes (frame (datagram 0 156 64 0 161) 60) ∷ begun) ≡ 1 ∷ 1 ∷ 1 ∷ 1 ∷ 0 ∷ []
-unfolding ethernet_type datagram_in version header_words protocol_of fragment_offset ports_of ports_at_front
+unfolding is_tagged ethernet_type datagram_in version header_words protocol_of fragment_offset ports_of ports_at_front
 one_datagram = refl
 
 -- a later fragment of it
 fragment_too : packets (passes (frame (datagram 1 156 64 0 161) 60) ∷ passes (frame (datagram 0 156 64 0 161) 60) ∷ begun) ≡ 2 ∷ 2 ∷ 1 ∷ 1 ∷ 0 ∷ []
-unfolding ethernet_type datagram_in version header_words protocol_of fragment_offset ports_of ports_at_front
+unfolding is_tagged ethernet_type datagram_in version header_words protocol_of fragment_offset ports_of ports_at_front
 fragment_too = refl
 
 -- the port of the receiver comes first
 to_domain : packets (passes (frame (datagram 0 0 161 0 53) 60) ∷ begun) ≡ 1 ∷ 1 ∷ 1 ∷ 0 ∷ 1 ∷ []
-unfolding ethernet_type datagram_in version header_words protocol_of fragment_offset ports_of ports_at_front
+unfolding is_tagged ethernet_type datagram_in version header_words protocol_of fragment_offset ports_of ports_at_front
 to_domain = refl
 
 -- a frame that is too long doesn't count, and none counts before the row is active
 too_long : packets (passes (frame (datagram 0 156 64 0 161) 1600) ∷ begun) ≡ 0 ∷ 0 ∷ 0 ∷ 0 ∷ 0 ∷ []
+unfolding is_tagged
 too_long = refl
 
 not_yet : packets (passes (frame (datagram 0 156 64 0 161) 60) ∷ []) ≡ 0 ∷ 0 ∷ 0 ∷ 0 ∷ 0 ∷ []
+unfolding is_tagged
 not_yet = refl

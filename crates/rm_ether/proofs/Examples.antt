@@ -2,6 +2,7 @@
 use Rattle.std.proofs.Common.{◌≡◌, ℕ, ◌+◌, List, [], ◌∷◌, map, refl, true, Option, Some, None}
 use Rattle.std.specs.Prelude.{pos, codes}
 use Rattle.rm_val.specs.Val.{Val, int, octets, name, counter}
+use Rattle.rm_proto.specs.Ethernet.{is_tagged}
 use Rattle.rm_model.specs.Counting.{Counting}
 use Rattle.rm_model.specs.Journal.{Act, passes, assigns, Journal}
 use Rattle.rm_model.specs.Cells.{cells_of}
@@ -36,10 +37,12 @@ shown after row columns = map (λ column. cells_of (ether_table plain after) (va
 
 -- where frames are padded to 60 octets
 counts_plain : sums plain (Pkts ∷ Octets ∷ UndersizePkts ∷ OversizePkts ∷ Pkts64Octets ∷ Pkts1024to1518Octets ∷ []) ≡ 4 ∷ (64 + 1518 + 1519 + 4294967296) ∷ 0 ∷ 2 ∷ 1 ∷ 1 ∷ []
+unfolding is_tagged
 counts_plain = refl
 
 -- where they are taken as they are
 counts_kept : sums kept (Octets ∷ UndersizePkts ∷ Pkts64Octets ∷ []) ≡ (46 + 1518 + 1519 + 4294967296) ∷ 1 ∷ 0 ∷ []
+unfolding is_tagged
 counts_kept = refl
 
 -- row 2 isn't there

@@ -3,7 +3,7 @@ use Rattle.std.proofs.Common.{◌≡◌, ℕ, List, [], ◌∷◌, map, refl, Op
 use Rattle.rm_model.specs.Counting.{Counting}
 use Rattle.rm_model.specs.Journal.{assigns, Journal}
 use Rattle.rm_model.proofs.ExampleSettings.{plain}
-use Rattle.rm_proto.specs.Ethernet.{pair_of}
+use Rattle.rm_proto.specs.Ethernet.{is_tagged, pair_of}
 use Rattle.rm_sourced.proofs.ExampleFrames.{a, b, c, frame, set_status, begun}
 use Rattle.rm_hosts.specs.Control.{control_entry}
 use Rattle.rm_report.specs.declared.rate_base.RateBase.{RateBase}
@@ -34,12 +34,12 @@ abbrev two : Journal
 two = frame 4000 a b ∷ frame 4000 a b ∷ from
 
 two_rates : rate from two OutOctets a ∷ rate from two InPkts b ∷ rate from two OutErrors a ∷ [] ≡ 128 ∷ 2 ∷ 0 ∷ []
-unfolding pair_of
+unfolding is_tagged pair_of
 two_rates = refl
 
 -- a host that gained nothing isn't reported
 two_places : places from two OutPkts 10 ≡ None ∷ Some a ∷ None ∷ None ∷ []
-unfolding pair_of
+unfolding is_tagged pair_of
 two_places = refl
 
 -- A gives way to C and enters anew: it counts from there on, and B, which stayed, since the beginning
@@ -47,7 +47,7 @@ abbrev anew : Journal
 anew = frame 7000 a b ∷ frame 6000 c b ∷ frame 5000 a b ∷ from
 
 anew_rates : rate from anew OutPkts a ∷ rate from anew InPkts b ∷ [] ≡ 1 ∷ 3 ∷ []
-unfolding pair_of
+unfolding is_tagged pair_of
 anew_rates = refl
 
 -- of equal rates the lesser address stands first, and no more are reported than were granted
@@ -55,11 +55,11 @@ abbrev both : Journal
 both = frame 6000 a b ∷ frame 5000 b a ∷ from
 
 both_places : places from both InPkts 10 ≡ None ∷ Some a ∷ Some b ∷ None ∷ []
-unfolding pair_of
+unfolding is_tagged pair_of
 both_places = refl
 
 both_first : places from both InPkts 1 ≡ None ∷ Some a ∷ None ∷ None ∷ []
-unfolding pair_of
+unfolding is_tagged pair_of
 both_first = refl
 
 -- the greater rate stands first
@@ -67,7 +67,7 @@ abbrev more : Journal
 more = frame 7000 a b ∷ both
 
 more_places : places from more InOctets 10 ≡ None ∷ Some b ∷ Some a ∷ None ∷ []
-unfolding pair_of
+unfolding is_tagged pair_of
 more_places = refl
 
 -- a row that was made valid anew after the beginning has only seen frames after that
@@ -75,10 +75,10 @@ abbrev again : Journal
 again = frame 9000 a b ∷ set_status control_entry 8000 1 ∷ set_status control_entry 7500 3 ∷ more
 
 again_rates : rate from again OutPkts a ∷ rate from again InPkts a ∷ rate from again InPkts b ∷ [] ≡ 1 ∷ 0 ∷ 1 ∷ []
-unfolding pair_of
+unfolding is_tagged pair_of
 again_rates = refl
 
 -- and under creation it has none to report
 gone : places from (set_status control_entry 7500 3 ∷ more) InPkts 10 ≡ None ∷ None ∷ None ∷ None ∷ []
-unfolding pair_of
+unfolding is_tagged pair_of
 gone = refl

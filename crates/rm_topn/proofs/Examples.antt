@@ -5,7 +5,7 @@ use Rattle.rm_val.specs.Val.{Val, int, octets, ticks}
 use Rattle.rm_model.specs.Counting.{Counting}
 use Rattle.rm_model.specs.Journal.{Assignment, assigns, Journal}
 use Rattle.rm_model.proofs.ExampleSettings.{plain}
-use Rattle.rm_proto.specs.Ethernet.{pair_of}
+use Rattle.rm_proto.specs.Ethernet.{is_tagged, pair_of}
 use Rattle.rm_sourced.proofs.ExampleFrames.{a, b, sized, set_status, begun}
 use Rattle.rm_hosts.specs.Control.{control_entry as hosts_entry}
 use Rattle.rm_topn.specs.Control.{control_entry}
@@ -48,16 +48,16 @@ runs_shows : control began 13999 (4 ∷ 5 ∷ 7 ∷ 8 ∷ []) ≡ Some (int (pos
 runs_shows = refl
 
 runs_without : report ran 13999 3 ≡ None ∷ None ∷ None ∷ []
-unfolding pair_of
+unfolding is_tagged pair_of
 runs_without = refl
 
 -- At its end the greater rate stands first. The frames before the Set and at the end don't count.
 ends_addresses : report ran 14000 3 ≡ Some (octets b) ∷ Some (octets a) ∷ None ∷ []
-unfolding pair_of
+unfolding is_tagged pair_of
 ends_addresses = refl
 
 ends_rates : report ran 14000 4 ≡ Some (int (pos 90)) ∷ Some (int (pos 74)) ∷ None ∷ []
-unfolding pair_of
+unfolding is_tagged pair_of
 ends_rates = refl
 
 ends_time : control ran 20000 (4 ∷ 5 ∷ 8 ∷ []) ≡ Some (int (pos 0)) ∷ Some (int (pos 10)) ∷ Some (ticks 400) ∷ []
@@ -65,11 +65,11 @@ ends_time = refl
 
 -- The hosts that are shown stay when their row of hostControl isn't valid any more, and there are none where it wasn't at the end.
 stays : report (set_status hosts_entry 15000 3 ∷ ran) 16000 4 ≡ Some (int (pos 90)) ∷ Some (int (pos 74)) ∷ None ∷ []
-unfolding pair_of
+unfolding is_tagged pair_of
 stays = refl
 
 idle : report (set_status hosts_entry 13000 3 ∷ began) 16000 4 ≡ None ∷ None ∷ None ∷ []
-unfolding pair_of
+unfolding is_tagged pair_of
 idle = refl
 
 -- TimeRemaining set anew begins a report of so many seconds, and the hosts that were shown go.
@@ -80,11 +80,11 @@ anew_shows : control anew 17500 (4 ∷ 5 ∷ 8 ∷ []) ≡ Some (int (pos 1)) �
 anew_shows = refl
 
 anew_without : report anew 18004 4 ≡ None ∷ None ∷ None ∷ []
-unfolding pair_of
+unfolding is_tagged pair_of
 anew_without = refl
 
 anew_ends : report anew 18005 4 ≡ Some (int (pos 64)) ∷ None ∷ None ∷ []
-unfolding pair_of
+unfolding is_tagged pair_of
 anew_ends = refl
 
 -- TimeRemaining set to 0 begins one without hosts.
@@ -95,7 +95,7 @@ none_shows : control none 30000 (4 ∷ 5 ∷ 8 ∷ []) ≡ Some (int (pos 0)) �
 none_shows = refl
 
 none_without : report none 30000 4 ≡ None ∷ None ∷ None ∷ []
-unfolding pair_of
+unfolding is_tagged pair_of
 none_without = refl
 
 -- A row that becomes valid while TimeRemaining is 0 begins none.
