@@ -60,7 +60,7 @@ types = refl
 texts : map (alone table (11 ∷ 5 ∷ [])) (octets [] ∷ octets (1 ∷ 2 ∷ 3 ∷ []) ∷ octets (1 ∷ 2 ∷ 3 ∷ 4 ∷ []) ∷ int (pos 1) ∷ []) ≡ None ∷ None ∷ Some WrongLength ∷ Some WrongType ∷ []
 texts = refl
 
-sources : map (alone table (4 ∷ 5 ∷ [])) (name (interface_name 1) ∷ name (interface_name 2) ∷ name [] ∷ int (pos 1) ∷ []) ≡ None ∷ Some WrongValue ∷ Some WrongValue ∷ Some WrongType ∷ []
+sources : map (alone table (4 ∷ 5 ∷ [])) (name (interface_name 1) ∷ name (interface_name 4) ∷ name (interface_name 5) ∷ name [] ∷ int (pos 1) ∷ []) ≡ None ∷ None ∷ Some WrongValue ∷ Some WrongValue ∷ Some WrongType ∷ []
 sources = refl
 
 any_names : map (alone table (5 ∷ 5 ∷ [])) (name [] ∷ name (1 ∷ 2 ∷ 3 ∷ []) ∷ octets [] ∷ []) ≡ None ∷ None ∷ Some WrongType ∷ []

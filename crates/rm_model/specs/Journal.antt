@@ -4,8 +4,8 @@ use Rattle.std.specs.Option.{option_map}
 use Rattle.std.specs.Str.{bytes_eq}
 use Rattle.rm_val.specs.Val.{Val}
 
--- a frame that the probe saw: the number of its interface, its moment in milliseconds, its number in the
--- capture from 1, the octets captured, and how many octets it had where it was captured, its check sequence left out
+-- a frame that the probe saw: the number of its interface, its moment in milliseconds, its number in the capture of that
+-- interface from 1, the octets captured, and how many octets it had where it was captured, its check sequence left out
 pub record Frame : Type 0 where
   pub interface : ℕ
   pub moment : ℕ
