@@ -5,6 +5,7 @@ use Rattle.std.proofs.lemmas.Bool.Decides.{nat_tests}
 use Rattle.rm_model.specs.Counting.{Counting}
 use Rattle.rm_model.specs.Alike.{HasSameColumns}
 use Rattle.rm_model.specs.ControlRows.{is_absent}
+use Rattle.rm_model.specs.Judgement.{is_row_number}
 use Rattle.rm_model.specs.declared.row.State.TheVariants.{Absent, Valid}
 use Rattle.rm_status.specs.declared.row.Row.{Row}
 use Rattle.rm_status.specs.Rows.{row_in, state_seen, columns_seen}
@@ -48,17 +49,31 @@ begun_more number old new was rows longer = record {
     by_number : (i : ℕ) (here : Bool) → nat_eq number i ≡ here → row_in new i ≡ cond here (Some (row_at number)) (row_in old i)
         → row_in new i ≡ cond (nat_le 1 i && nat_lt i (number + 1)) (Some (row_at i)) None
     by_number i true here is =
-        let same : number ≡ i = grind (arith, nat_tests) in
-        let there : (nat_le 1 i && nat_lt i (number + 1)) ≡ true = let low = was.first in grind (arith, nat_tests) in
-        is ∙ ap (λ (n : ℕ). Some (row_at n)) same ∙ rw there refl
+        let same : number ≡ i = grind (arith, nat_tests, here) in
+        let there : (nat_le 1 i && nat_lt i (number + 1)) ≡ true = grind (arith, nat_tests, same, was.first) in
+        let moved : Some (row_at number) ≡ Some (row_at i) = ap (λ (n : ℕ). Some (row_at n)) same in
+        let found : Some (row_at i) ≡ cond (nat_le 1 i && nat_lt i (number + 1)) (Some (row_at i)) None = rw there refl in
+        is ∙ (moved ∙ found)
     by_number i false here is =
-        let alike : (nat_le 1 i && nat_lt i number) ≡ (nat_le 1 i && nat_lt i (number + 1)) = grind (arith, nat_tests) in
-        is ∙ was.rows_are i ∙ ap (λ (t : Bool). cond t (Some (row_at i)) None) alike
+        let alike : (nat_le 1 i && nat_lt i number) ≡ (nat_le 1 i && nat_lt i (number + 1)) = grind (arith, nat_tests, here) in
+        is ∙ (was.rows_are i ∙ ap (λ (t : Bool). cond t (Some (row_at i)) None) alike)
+
+-- the number that comes next is that of a row, and there is none with it yet
+pub is_next_number : (number : ℕ) → 1 ≤ number → number ≤ 4 → is_row_number ether_stats number ≡ true
+is_next_number number some few =
+    let is : (nat_le 1 number && nat_le number 65535) ≡ true = grind (arith, nat_tests, some, few) in
+    is
+
+pub none_yet : (number : ℕ) (rows : List (Row StatisticsRow)) → IsBegunTo number rows → row_in rows number ≡ None
+none_yet number rows begun =
+    let above : (nat_le 1 number && nat_lt number number) ≡ false = grind (arith, nat_tests) in
+    begun.rows_are number ∙ ap (λ (t : Bool). cond t (Some (row_at number)) None) above
 
 -- all of them, so many
-pub begun_all : (n : ℕ) (rows : List (Row StatisticsRow)) → IsBegunTo (n + 1) rows → (i : ℕ) → row_in rows i ≡ cond (is_one n i) (Some (row_at i)) None
-begun_all n rows begun i =
-    let alike : (nat_le 1 i && nat_lt i (n + 1)) ≡ is_one n i = grind (arith, nat_tests) in
+pub begun_all : (n number : ℕ) (rows : List (Row StatisticsRow)) → number ≡ n + 1 → IsBegunTo number rows
+    → (i : ℕ) → row_in rows i ≡ cond (is_one n i) (Some (row_at i)) None
+begun_all n number rows all begun i =
+    let alike : (nat_le 1 i && nat_lt i number) ≡ (nat_le 1 i && nat_le i n) = grind (arith, nat_tests, all) in
     begun.rows_are i ∙ ap (λ (t : Bool). cond t (Some (row_at i)) None) alike
 
 module _ (settings : Counting) (n : ℕ) (so_many : settings.interfaces ≡ n) (rows : List (Row StatisticsRow))

@@ -1,4 +1,3 @@
-use Rattle.std.proofs.Common.{ℕ, ◌≡◌, ◌+◌, length}
 use Rattle.rm_ether.proofs.Begins.{IsBegunTo}
 use Rattle.rm_ether.proofs.ether.Ether.new.Given as goal
 
