@@ -1,8 +1,12 @@
 -- Each figure of a load is a number.
-use Rattle.std.proofs.Common.{ℕ, [], ◌∷◌, Some, refl}
+use Rattle.std.proofs.Common.{◌≡◌, ℕ, [], ◌∷◌, Bool, true, cond, Some, refl, ap, nat_le}
+use Rattle.std.specs.Prelude.{not}
+use Rattle.std.proofs.lemmas.Bool.{le-leb}
 use Rattle.rm_model.specs.Cells.{Table, cell_at}
+use Rattle.rm_model.specs.ControlRows.{is_absent}
 use Rattle.rm_model.specs.Counting.{Counting}
 use Rattle.rm_model.specs.Journal.{Journal}
+use Rattle.rm_model.specs.declared.row.State.TheVariants.{Absent, Valid}
 use Rattle.rm_ether.specs.EtherStats.{ether_table}
 use Rattle.rm_history.specs.Collection.{history_collection}
 use Rattle.rm_sourced.specs.Sourcing.{control_table}
@@ -23,7 +27,7 @@ use Rattle.rm_agent.specs.Groups.{cells}
 use Rattle.rm_agent.specs.Known.{counting_by}
 use Rattle.rm_load.specs.declared.figure.Figure.{Figure}
 use Rattle.rm_load.specs.declared.figure.Figure.TheVariants.{EtherStatsPkts, EtherStatsOctets, HostControlTableSize, HostControlLastDeleteTime, MatrixControlTableSize, MatrixControlLastDeleteTime, HostNlInserts, HostNlDeletes, HostAlInserts, HostAlDeletes, MatrixNlInserts, MatrixNlDeletes, MatrixAlInserts, MatrixAlDeletes}
-use Rattle.rm_load.specs.Acts.{acts_of}
+use Rattle.rm_load.specs.Acts.{rows_made, acts_of}
 use Rattle.rm_load.specs.Names.{variable_of}
 use Rattle.rm_load.specs.Text.{IsNumber}
 use Rattle.rm_load.proofs.NumberLemmas.{in_row, in_three, in_four, in_five}
@@ -40,8 +44,15 @@ module _ (settings : Settings) (start count now : ℕ) where
   abbrev InRow : (Journal → Table) → Type 0
   InRow table = (column : ℕ) → IsNumber (Some ((table acts).value column (1 ∷ []))) → IsNumber (cell_at (table acts) (Some (record { column = column; index = 1 ∷ [] })))
 
+  -- row 1 of etherStats is that of the monitor, since there is an interface
+  has_first : nat_le 1 settings.interfaces ≡ true
+  has_first = le-leb 1 settings.interfaces settings.interfaces_low
+
+  first_there : (ether_table counting rows_made).is_row (1 ∷ []) ≡ true
+  first_there = ap (λ (is_one : Bool). not (is_absent (cond is_one Valid Absent))) has_first
+
   in_ether : InRow (ether_table counting)
-  in_ether = in_row (ether_table counting) refl (λ frame earlier. refl) start count
+  in_ether = in_row (ether_table counting) first_there (λ frame earlier. refl) start count
 
   in_hosts : InRow (control_table host_entry host_sourcing counting)
   in_hosts = in_row (control_table host_entry host_sourcing counting) refl (λ frame earlier. refl) start count
