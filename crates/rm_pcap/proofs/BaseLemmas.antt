@@ -15,8 +15,8 @@ use Rattle.rm_pcap.specs.declared.capture.Capture.{Capture}
 use Rattle.rm_pcap.specs.declared.record.Lengths.{Lengths}
 use Rattle.rm_pcap.specs.declared.record.Seen.{Seen}
 use Rattle.rm_pcap.specs.declared.record.Seen.TheVariants.{Whole as SeenWhole, End as SeenEnd, Cut as SeenCut}
-use Rattle.rm_pcap.specs.Records.{Found, Whole, Stops, Stop, Ended, CutAt, Broken, found_at, found_in, found_with, fault_at, first_of, first_in, first_with, is_late, included_of, time_of, frame_at, reach_after, beginning}
-use Rattle.rm_pcap.specs.Progress.{Progress, Agrees, IsUnseen, next_in, with_base, based_at, reading}
+use Rattle.rm_pcap.specs.Records.{Found, Whole, Stops, Stop, Ended, CutAt, Broken, IsThere, found_at, found_in, found_with, fault_at, first_of, first_in, first_with, is_late, included_of, time_of, frame_at, reach_after, beginning}
+use Rattle.rm_pcap.specs.Progress.{Progress, Agrees, HasRead, IsUnseen, next_in, with_base, based_at, reading}
 use Rattle.rm_pcap.specs.Calls.{IsBroken, IsFaultAt, IsFirst, IsFirstRecordFault, LooksFirst}
 use Rattle.rm_pcap.specs.Seen.{lengths_of, IsWholePart}
 use Rattle.rm_pcap.specs.View.{progress_of, ahead_of}
@@ -88,6 +88,13 @@ agrees_based base capture bytes unseen agrees =
           (agrees.ahead found is ∙ ap (λ (reach : Reach). found_at p.form p.start reach bytes) unseen.first);
       read = subst (λ (reach : Reach). IsFront p.read (drop reach.at bytes)) unseen.first agrees.read;
     }
+
+-- a first record of which all was read is still there
+pub read_based : (base : ℕ) (progress : Progress) → IsUnseen progress → HasRead progress → HasRead (based_at base progress)
+read_based base progress unseen read = record {
+  long = read.long;
+  faultless = fault_based progress.form progress.start base progress.read ∙ ap (λ (r : Reach). fault_at progress.form progress.start r progress.read) (sym unseen.first) ∙ read.faultless;
+}
 
 -- the time of a record that isn't cut short
 abbrev told : Bool → ℕ → Result (Option ℕ) PcapFault
@@ -212,10 +219,12 @@ pub looks_first : (held : Held) (old : Progress) (ahead : Option Found) (octets 
     → ((frame : Frame) (after : Reach) → ahead ≡ Some (Whole frame after) → ⊥)
     → ((bytes : List ℕ) → held ≡ File bytes → IsFront old.read (drop old.reach.at bytes)
     → IsFront octets (drop old.reach.at bytes) × IsFirst old.form old.start bytes result × ((found : Found) → ahead ≡ Some found → found ≡ next_in old bytes))
+    → ((time : ℕ) → result ≡ Ok (Some time) → IsThere old.form old.start old.reach octets × (time_of old.form octets ≡ time))
     → LooksFirst held old (reading old ahead octets) result
-looks_first held old ahead octets result unseen plain there = record {
+looks_first held old ahead octets result unseen plain there all = record {
   place = refl;
   unseen = record { first = unseen.first; unseen = plain };
+  told = all;
   stands = λ bytes is agrees. let t = there bytes is agrees.read in (t.1, record { ahead = t.2; read = t.0 });
 }
 
@@ -225,6 +234,7 @@ pub looks_broken : (held : Held) (old new : Progress) (fault : PcapFault) → ne
 looks_broken held old new fault same unseen broken late = subst (λ (p : Progress). LooksFirst held old p (Err fault)) (sym same) (record {
   place = refl;
   unseen = unseen;
+  told = λ time e. absurd cc;
   stands = λ bytes is agrees. (is_first_broken old.form old.start bytes fault (λ other. found bytes is agrees other broken), agrees);
 })
   where

@@ -10,7 +10,7 @@ use Rattle.rm_pcap.specs.declared.record.Seen.{Seen}
 use Rattle.rm_pcap.specs.declared.record.Seen.TheVariants.{Whole as SeenWhole, End as SeenEnd, Cut as SeenCut}
 use Rattle.rm_pcap.specs.Header.{header_of}
 use Rattle.rm_pcap.specs.Records.{Found, Whole, Stops}
-use Rattle.rm_pcap.specs.Progress.{Progress, Agrees, IsLawfulFind, next_in, looking_at, passing}
+use Rattle.rm_pcap.specs.Progress.{Progress, Agrees, HasRead, IsLawfulFind, next_in, read_next, looking_at, passing}
 use Rattle.rm_pcap.specs.Calls.{Looks, Passes, IsHeaderFault, BeginsAs}
 use Rattle.rm_window.specs.Filling.{Fills, IsFront}
 use Rattle.rm_pcap.specs.Seen.{found_of, Follows, FollowsSeen, IsAhead}
@@ -53,6 +53,7 @@ looks_again held now found is lawful = record {
   finds = record {
     lawful = lawful;
     again = λ was e. let s : Some found ≡ Some was = sym is ∙ e in cc;
+    kept = λ none read. let s : Some found ≡ None = sym is ∙ none in absurd cc;
     stands = λ bytes file agrees. agrees.ahead found is;
     agrees = λ bytes file agrees. agrees;
   };
@@ -63,12 +64,14 @@ agrees_looking old found octets bytes is front = record { ahead = λ was e. let 
 
 -- it is found now
 pub looks_new : (held : Held) (old new : Progress) (found : Found) → old.ahead ≡ None → new ≡ looking_at old found new.read → IsLawfulFind old.reach found
-    → ((bytes : List ℕ) → held ≡ File bytes → IsFront old.read (drop old.reach.at bytes) → IsFront new.read (drop old.reach.at bytes) × (found ≡ next_in old bytes)) → Looks held old new found
-looks_new held old new found none place lawful stands = record {
+    → ((bytes : List ℕ) → held ≡ File bytes → IsFront old.read (drop old.reach.at bytes) → IsFront new.read (drop old.reach.at bytes) × (found ≡ next_in old bytes))
+    → (HasRead old → found ≡ read_next old) → Looks held old new found
+looks_new held old new found none place lawful stands kept = record {
   place = place;
   finds = record {
     lawful = lawful;
     again = λ was e. let s : None ≡ Some was = sym none ∙ e in cc;
+    kept = λ _. kept;
     stands = λ bytes file agrees. (stands bytes file agrees.read).1;
     agrees = λ bytes file agrees.
         let there = stands bytes file agrees.read in subst (λ (p : Progress). Agrees p bytes) (sym place) (agrees_looking old found new.read bytes there.1 there.0);
@@ -88,6 +91,7 @@ passes held old mid new found looks place behind = record {
   finds = record {
     lawful = looks.finds.lawful;
     again = looks.finds.again;
+    kept = looks.finds.kept;
     stands = looks.finds.stands;
     agrees = λ bytes file agrees.
         let same : mid.reach ≡ old.reach = ap (λ (p : Progress). p.reach) looks.place in

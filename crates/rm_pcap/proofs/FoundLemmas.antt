@@ -22,7 +22,7 @@ few_left : (form : Form) (start : Start) (reach : Reach) (xs : List ℕ) → 0 <
 few_left form start reach [] some few = absurd (omega (arith, some))
 few_left form start reach (x ∷ xs) some few = grind (arith, nat_tests)
 
-header_left : (form : Form) (start : Start) (reach : Reach) (xs : List ℕ) → 16 ≤ length xs → found_in form start reach xs ≡ found_with form start reach xs (fault_at form start reach xs)
+pub header_left : (form : Form) (start : Start) (reach : Reach) (xs : List ℕ) → 16 ≤ length xs → found_in form start reach xs ≡ found_with form start reach xs (fault_at form start reach xs)
 header_left form start reach [] enough = absurd (omega (arith, enough))
 header_left form start reach (x ∷ xs) enough = grind (arith, nat_tests)
 
@@ -82,6 +82,11 @@ pub lengths_in : (form : Form) (header octets : List ℕ) (lengths : Lengths) �
 lengths_in form header octets lengths front enough is =
     is ∙ sym (lengths_front form header) ∙ ap (lengths_of form) (front_of 16 header octets front enough) ∙ lengths_front form octets
 
+pub faultless_in : (form : Form) (start : Start) (reach : Reach) (header octets : List ℕ) → IsFront header octets → 16 ≤ length header → fault_at form start reach header ≡ None
+    → fault_at form start reach octets ≡ None
+faultless_in form start reach header octets front enough none =
+    sym (fault_front form start reach octets) ∙ ap (fault_at form start reach) (sym (front_of 16 header octets front enough)) ∙ fault_front form start reach header ∙ none
+
 -- what is found where none is left, and where a record is cut short
 pub found_end : (form : Form) (start : Start) (reach : Reach) (bytes : List ℕ) → length (drop reach.at bytes) ≡ 0 → Stops Ended ≡ found_at form start reach bytes
 unfolding found_at
@@ -107,31 +112,31 @@ by_late form start reach bytes lengths part =
     header_left form start reach xs (omega (arith, part.long)) ∙ ap (found_with form start reach xs) part.faultless ∙ rw long refl
 
 -- by what a record is, or isn't one
-not_late : (late : Bool) (seen is : Record) → Some seen ≡ (if late then None else Some is) → (late ≡ false) × (seen ≡ is)
+pub not_late : (late : Bool) (seen is : Record) → Some seen ≡ (if late then None else Some is) → (late ≡ false) × (seen ≡ is)
 not_late true seen is e = absurd cc
 not_late false seen is e = (refl, cc)
 
-so_late : (late : Bool) (is : Record) → None ≡ (if late then None else Some is) → late ≡ true
+pub so_late : (late : Bool) (is : Record) → None ≡ (if late then None else Some is) → late ≡ true
 so_late true is e = refl
 so_late false is e = absurd cc
 
 -- the octets in the window are at the front of what is left, and a record is whole in both
-pub whole_header : (form : Form) (reach : Reach) (bytes octets : List ℕ) (lengths : Lengths) → IsFront octets (drop reach.at bytes) → IsWholeIn form reach octets lengths → IsHeader reach bytes octets
-whole_header form reach bytes octets lengths front whole = record { front = front; enough = omega (arith, whole.long) }
+pub whole_header : (form : Form) (start : Start) (reach : Reach) (bytes octets : List ℕ) (lengths : Lengths) → IsFront octets (drop reach.at bytes) → IsWholeIn form start reach octets lengths → IsHeader reach bytes octets
+whole_header form start reach bytes octets lengths front whole = record { front = front; enough = omega (arith, whole.long) }
 
-pub found_late : (form : Form) (start : Start) (reach : Reach) (bytes octets : List ℕ) (lengths : Lengths) → IsFront octets (drop reach.at bytes) → IsWholeIn form reach octets lengths
+pub found_late : (form : Form) (start : Start) (reach : Reach) (bytes octets : List ℕ) (lengths : Lengths) → IsFront octets (drop reach.at bytes) → IsWholeIn form start reach octets lengths
     → IsWholePart form start reach (drop reach.at bytes) lengths → None ≡ (if is_late form start reach octets then None else Some (record_of form start reach octets))
     → found_at form start reach bytes ≡ Stops (Broken (Late reach.at))
 found_late form start reach bytes octets lengths front whole part none =
-    let late = sym (late_same form start reach bytes octets (whole_header form reach bytes octets lengths front whole)) ∙ so_late (is_late form start reach octets) (record_of form start reach octets) none in
+    let late = sym (late_same form start reach bytes octets (whole_header form start reach bytes octets lengths front whole)) ∙ so_late (is_late form start reach octets) (record_of form start reach octets) none in
     by_late form start reach bytes lengths part ∙ rw late refl
 
-pub found_whole : (form : Form) (start : Start) (reach : Reach) (bytes octets : List ℕ) (lengths : Lengths) (seen : Record) → IsFront octets (drop reach.at bytes) → IsWholeIn form reach octets lengths
+pub found_whole : (form : Form) (start : Start) (reach : Reach) (bytes octets : List ℕ) (lengths : Lengths) (seen : Record) → IsFront octets (drop reach.at bytes) → IsWholeIn form start reach octets lengths
     → IsWholePart form start reach (drop reach.at bytes) lengths → Some seen ≡ (if is_late form start reach octets then None else Some (record_of form start reach octets))
     → Whole (frame_seen start.interface seen (take seen.included (drop 16 octets))) seen.after ≡ found_at form start reach bytes
 found_whole form start reach bytes octets lengths seen front whole part some =
     let xs = drop reach.at bytes in
-    let h = whole_header form reach bytes octets lengths front whole in
+    let h = whole_header form start reach bytes octets lengths front whole in
     let is = not_late (is_late form start reach octets) seen (record_of form start reach octets) some in
     let late = sym (late_same form start reach bytes octets h) ∙ is.0 in
     let included : seen.included ≡ lengths.included = ap (λ (r : Record). r.included) is.1 ∙ sym (ap (λ (l : Lengths). l.included) whole.numbers) in
@@ -141,7 +146,7 @@ found_whole form start reach bytes octets lengths seen front whole part some =
     ∙ ap (λ (r : Record). Whole (frame_seen start.interface r (take r.included (drop 16 xs))) r.after) there ∙ sym (by_late form start reach bytes lengths part ∙ rw late refl)
 
 -- a record that was seen is whole in the window
-pub long_in : (form : Form) (start : Start) (reach : Reach) (octets : List ℕ) (lengths : Lengths) (seen : Record) → IsWholeIn form reach octets lengths
+pub long_in : (form : Form) (start : Start) (reach : Reach) (octets : List ℕ) (lengths : Lengths) (seen : Record) → IsWholeIn form start reach octets lengths
     → Some seen ≡ (if is_late form start reach octets then None else Some (record_of form start reach octets)) → 16 + seen.included ≤ length octets
 long_in form start reach octets lengths seen whole some =
     let is = not_late (is_late form start reach octets) seen (record_of form start reach octets) some in

@@ -1,5 +1,6 @@
 pub mod FrontLemmas
 pub mod FoundLemmas
+mod KeptLemmas
 mod BaseLemmas
 pub mod CaptureLemmas
 pub mod RecordLaws

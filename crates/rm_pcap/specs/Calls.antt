@@ -9,14 +9,15 @@ use Rattle.rm_pcap.specs.declared.fault.PcapFault.TheVariants.{Magic, Version, L
 use Rattle.rm_pcap.specs.declared.frame.Step.{Step}
 use Rattle.rm_pcap.specs.Header.{header_of}
 use Rattle.rm_window.specs.Filling.{IsFront}
-use Rattle.rm_pcap.specs.Records.{Found, Stops, Broken, found_at, first_of}
-use Rattle.rm_pcap.specs.Progress.{Progress, Agrees, IsLawfulFind, IsUnseen, Shows, next_in, looking_at, passing, moment_found, reading}
+use Rattle.rm_pcap.specs.Records.{Found, Stops, Broken, IsThere, found_at, first_of, time_of}
+use Rattle.rm_pcap.specs.Progress.{Progress, Agrees, HasRead, IsLawfulFind, IsUnseen, Shows, next_in, read_next, looking_at, passing, moment_found, reading}
 
--- What is found is lawful whatever the file is, it is what was found before if it was looked at, and it is what stands next in
--- the file of which the capture was read so far.
+-- What is found is lawful whatever the file is. It is what was found before if it was looked at, and the record that was read, if all of it was,
+-- whatever the file has become. It is what stands next in the file of which the capture was read so far.
 pub record Finds (held : Held) (old new : Progress) (found : Found) : Type 0 where
   pub lawful : IsLawfulFind old.reach found
   pub again : (was : Found) → old.ahead ≡ Some was → found ≡ was
+  pub kept : old.ahead ≡ None → HasRead old → found ≡ read_next old
   pub stands : (bytes : List ℕ) → held ≡ File bytes → Agrees old bytes → found ≡ next_in old bytes
   pub agrees : (bytes : List ℕ) → held ≡ File bytes → Agrees old bytes → Agrees new bytes
 
@@ -56,10 +57,11 @@ pub record Breaks (held : Held) (form : Form) (start : Start) (reach : Reach) (r
 abbrev pub IsBroken : Held → Form → Start → Reach → List ℕ → PcapFault → Type 0
 IsBroken held form start reach read fault = (fault ≡ Read) ⊎ Breaks held form start reach read fault
 
--- a look fails only where nothing was found yet
+-- A look fails only where nothing was found yet. Where all of a record was read, it fails by that record alone.
 pub record Fails (held : Held) (old : Progress) (fault : PcapFault) : Type 0 where
   pub unseen : old.ahead ≡ None
   pub cause : IsBroken held old.form old.start old.reach old.read fault
+  pub kept : HasRead old → Stops (Broken fault) ≡ read_next old
 
 -- the faults of the lengths of a first record, or a failed read
 abbrev pub IsFirstRecordFault : PcapFault → Type 0
@@ -73,11 +75,12 @@ abbrev pub IsFirst : Form → Start → List ℕ → Result (Option ℕ) PcapFau
 IsFirst form start bytes (Err Read) = ⊤
 IsFirst form start bytes result = first_of form start bytes ≡ result
 
--- A look at the first record found its time, or that it isn't whole. The capture stays before it, and what it found there so far is what the file
--- has.
+-- A look at the first record found its time, of which all was read then, or that it isn't whole. The capture stays before it, and what it found
+-- there so far is what the file has.
 pub record LooksFirst (held : Held) (old new : Progress) (result : Result (Option ℕ) PcapFault) : Type 0 where
   pub place : new ≡ reading old new.ahead new.read
   pub unseen : IsUnseen new
+  pub told : (time : ℕ) → result ≡ Ok (Some time) → IsThere old.form old.start old.reach new.read × (time_of old.form new.read ≡ time)
   pub stands : (bytes : List ℕ) → held ≡ File bytes → Agrees old bytes → IsFirst old.form old.start bytes result × Agrees new bytes
 
 -- the faults of a file header

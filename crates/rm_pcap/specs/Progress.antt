@@ -8,7 +8,7 @@ use Rattle.rm_pcap.specs.declared.frame.Frame.{Frame}
 use Rattle.rm_pcap.specs.declared.frame.Step.{Step}
 use Rattle.rm_pcap.specs.declared.frame.Step.TheVariants.{Next, End, Cut}
 use Rattle.rm_window.specs.Filling.{IsFront}
-use Rattle.rm_pcap.specs.Records.{Ended, CutAt, Broken, Found, Whole, Stops, found_at, beginning}
+use Rattle.rm_pcap.specs.Records.{Ended, CutAt, Broken, Found, Whole, Stops, IsThere, found_in, found_at, beginning}
 
 -- A capture that is being read: how its octets are read, where its frames stand, how far its records were passed, what was
 -- found there, if it was looked at, and the octets that were read from there on.
@@ -26,6 +26,14 @@ begun form start = record { form = form; start = start; reach = beginning start;
 -- what stands next in a file of these octets
 abbrev pub next_in : Progress → List ℕ → Found
 next_in progress bytes = found_at progress.form progress.start progress.reach bytes
+
+-- all of the record that stands next was read
+abbrev pub HasRead : Progress → Type 0
+HasRead progress = IsThere progress.form progress.start progress.reach progress.read
+
+-- what the octets that were read are
+abbrev pub read_next : Progress → Found
+read_next progress = found_in progress.form progress.start progress.reach progress.read
 
 -- what was looked at and what was read is what a file of these octets has there
 pub record Agrees (progress : Progress) (bytes : List ℕ) : Type 0 where

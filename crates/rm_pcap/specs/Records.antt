@@ -1,6 +1,6 @@
 -- The records of a capture in the classic pcap format. A record has a header of 16 octets, which are its time in seconds
 -- and a fraction of a second, how many octets were captured, and how many the frame had, and then the captured octets.
-use Rattle.std.specs.Prelude.{◌≡◌, ℕ, ◌+◌, ◌-◌, ◌*◌, ◌/◌, ◌^◌, max, nat_le, nat_lt, if◌then◌else◌, List, [], ◌∷◌, length, take, drop, Bool, ◌&&◌, Option, Some, None, unwrap_or, Result, Ok, Err, MatchResult}
+use Rattle.std.specs.Prelude.{◌≡◌, ◌≤◌, ℕ, ◌+◌, ◌-◌, ◌*◌, ◌/◌, ◌^◌, max, nat_le, nat_lt, if◌then◌else◌, List, [], ◌∷◌, length, take, drop, Bool, ◌&&◌, Option, Some, None, unwrap_or, Result, Ok, Err, MatchResult}
 use Rattle.rm_model.specs.Journal.{Frame}
 use Rattle.rm_pcap.specs.declared.form.TimeUnit.{TimeUnit}
 use Rattle.rm_pcap.specs.declared.form.TimeUnit.TheVariants.{Microseconds, Nanoseconds}
@@ -73,6 +73,11 @@ fault_at form start reach octets =
     else if nat_lt 262144 (original_of form octets) then Some (Original (reach.at + 12))
     else if nat_lt 0 reach.count && is_late form start reach octets then Some (Late reach.at)
     else None
+
+-- All of a record stands first in octets, and its header has no fault. Of the first record the moment may be one.
+pub record IsThere (form : Form) (start : Start) (reach : Reach) (octets : List ℕ) : Type 0 where
+  pub long : 16 + included_of form octets ≤ length octets
+  pub faultless : fault_at form start reach octets ≡ None
 
 -- how the records stop: at the end of the file, within the record that begins at an offset, or by a fault
 pub data Stop : Type 0 where

@@ -28,15 +28,20 @@ pub record AreSound (reach : Reach) (lengths : Lengths) : Type 0 where
   pub few : reach.count < 100000000
 
 -- all of a record stands in the octets of the window, with these lengths
-pub record IsWholeIn (form : Form) (reach : Reach) (octets : List ℕ) (lengths : Lengths) : Type 0 where
+pub record IsWholeIn (form : Form) (start : Start) (reach : Reach) (octets : List ℕ) (lengths : Lengths) : Type 0 where
   pub long : 16 + lengths.included ≤ length octets
   pub numbers : lengths ≡ lengths_of form octets
+  pub faultless : fault_at form start reach octets ≡ None
   pub sound : AreSound reach lengths
 
-abbrev pub IsPartIn : Form → Reach → List ℕ → Part → Type 0
-IsPartIn form reach octets (WholePart lengths) = IsWholeIn form reach octets lengths
-IsPartIn form reach octets EndPart = Unit {0}
-IsPartIn form reach octets CutPart = Unit {0}
+abbrev pub IsPartIn : Form → Start → Reach → List ℕ → Part → Type 0
+IsPartIn form start reach octets (WholePart lengths) = IsWholeIn form start reach octets lengths
+IsPartIn form start reach octets EndPart = Unit {0}
+IsPartIn form start reach octets CutPart = Unit {0}
+
+-- all of the record that stands first in octets
+abbrev pub IsAllOf : Form → List ℕ → Part → Type 0
+IsAllOf form octets part = part ≡ WholePart (lengths_of form octets)
 
 -- all of a record stands first in the octets that are left of a file, with these lengths
 pub record IsWholePart (form : Form) (start : Start) (reach : Reach) (left : List ℕ) (lengths : Lengths) : Type 0 where

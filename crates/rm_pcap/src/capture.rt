@@ -5,7 +5,7 @@ ghost use mathlib.Core.Option.{none};
 ghost use Rattle.rm_edge.specs.Outside.{File, Absent, Rose};
 ghost use Rattle.rm_edge.specs.Shelves.{KeepsShelf};
 ghost use Rattle.rm_pcap.specs.Seen.{IsAhead, IsNear, FollowsSeen};
-ghost use Rattle.rm_pcap.specs.Progress.{Agrees, IsUnseen, based_at, begun};
+ghost use Rattle.rm_pcap.specs.Progress.{Agrees, HasRead, IsUnseen, based_at, begun};
 ghost use Rattle.rm_window.specs.Window.{room_of};
 ghost use Rattle.rm_pcap.specs.Window.{IsHeld, IsPassed};
 ghost use Rattle.rm_pcap.specs.Calls.{LooksAt, LooksFirst, Steps, Fails, IsFirstFault, IsFirstRecordFault, BeginsAs};
@@ -106,7 +106,8 @@ impl Capture {
     /// short.
     ///
     /// Included and Original come where a length of the first record is too great, Read only where a read failed, and no other fault;
-    /// after a fault the capture is as before. `peek` and `next` go on from what was read. It takes no memory.
+    /// after a fault the capture is as before. After an Ok `peek` and `next` go on from what was read, whatever the shelf then gives. It
+    /// takes no memory.
     pub fn first<S: Shelf>(&mut self, shelf: &mut S, name: &str) -> Result<Option<u64>, PcapFault>
         requires unseen { IsUnseen (progress_of self.old) }
         ensures shelf { KeepsShelf S.held S.faults shelf.old shelf.new (λ each. each ≡ name.now)
@@ -144,6 +145,7 @@ impl Capture {
         requires unseen { IsUnseen (progress_of self.old) }
         ensures place { progress_of self.new ≡ based_at base (progress_of self.old) }
         ensures unseen { IsUnseen (progress_of self.new) }
+        ensures read { HasRead (progress_of self.old) → HasRead (progress_of self.new) }
         ensures agrees { (bytes : List ℕ) → Agrees (progress_of self.old) bytes → Agrees (progress_of self.new) bytes }
     {
         self.position.start.base = Some(base);

@@ -1,10 +1,10 @@
-ghost use Rattle.std.specs.Prelude.{◌≡◌, ◌≤◌, ◌<◌, ◌+◌, ℕ, List, length, drop, None, Some, IfOk, IfErr, IfSome, MatchResult, if◌then◌else◌};
+ghost use Rattle.std.specs.Prelude.{◌≡◌, ◌≤◌, ◌<◌, ◌+◌, ℕ, List, length, drop, None, Some, IfOk, IfErr, IfSome, MatchResult, if◌then◌else◌, ⊥};
 ghost use Rattle.rm_edge.specs.Outside.{File, Rose};
 ghost use Rattle.rm_edge.specs.Shelves.{KeepsShelf};
-ghost use Rattle.rm_pcap.specs.Records.{fault_at, is_late, moment_at, time_of, found_at};
+ghost use Rattle.rm_pcap.specs.Records.{Broken, IsThere, Stops, fault_at, is_late, moment_at, time_of, found_at, found_in};
 ghost use Rattle.rm_window.specs.Filling.{IsFront};
 ghost use Rattle.rm_pcap.specs.Calls.{IsFaultAt, IsBroken};
-ghost use Rattle.rm_pcap.specs.Seen.{lengths_of, record_of, found_of, Follows, FollowsSeen, IsNear, IsLong, IsPart, IsPartIn, AreSound};
+ghost use Rattle.rm_pcap.specs.Seen.{lengths_of, record_of, found_of, Follows, FollowsSeen, IsAllOf, IsNear, IsLong, IsPart, IsPartIn, AreSound};
 ghost use Rattle.rm_pcap.specs.declared.fault.PcapFault.TheVariants.{Late};
 
 use crate::fault::PcapFault;
@@ -113,7 +113,8 @@ impl Position {
         })
     }
 
-    /// Sees what of a record stands next in the file, through a window whose octets stand there.
+    /// Sees what of a record stands next in the file, through a window whose octets stand there. Where all of it is in the window, nothing is
+    /// read.
     pub fn part<S: Shelf>(
         self,
         shelf: &mut S,
@@ -128,7 +129,10 @@ impl Position {
             → Rose (S.faults shelf.old name.now) (S.faults shelf.new name.now)) }
         ensures room { room_of window.new ≡ room_of window.old }
         ensures keeps { IsFront (octets_of window.old) (octets_of window.new) }
-        ensures part { IfOk result (IsPartIn self.form self.reach (octets_of window.new)) }
+        ensures part { IfOk result (IsPartIn self.form self.start self.reach (octets_of window.new)) }
+        ensures whole { IfOk result (λ part. IsThere self.form self.start self.reach (octets_of window.old) → IsAllOf self.form (octets_of window.old) part) }
+        ensures faultless { IfErr result (λ fault. IsThere self.form self.start self.reach (octets_of window.old) → ⊥) }
+        ensures same { IsThere self.form self.start self.reach (octets_of window.old) → octets_of window.new ≡ octets_of window.old }
         ensures stands { (bytes : List ℕ) → S.held shelf.old name.now ≡ File bytes → IsFront (octets_of window.old) (drop self.reach.at bytes)
             → IfOk result (λ part. IsFront (octets_of window.new) (drop self.reach.at bytes)
             × IsPart self.form self.start self.reach (drop self.reach.at bytes) part) }
@@ -177,6 +181,10 @@ impl Position {
             → IfOk result (λ seen. IsFront (octets_of window.new) (drop self.reach.at bytes)
             × (found_of self.start.interface self.reach (octets_of window.new) seen ≡ found_at self.form self.start self.reach bytes)) }
         ensures faults { IfErr result (IsBroken (S.held shelf.old name.now) self.form self.start self.reach (octets_of window.old)) }
+        ensures kept { IfOk result (λ seen. IsThere self.form self.start self.reach (octets_of window.old)
+            → found_of self.start.interface self.reach (octets_of window.new) seen ≡ found_in self.form self.start self.reach (octets_of window.old)) }
+        ensures broken { IfErr result (λ fault. IsThere self.form self.start self.reach (octets_of window.old)
+            → Stops (Broken fault) ≡ found_in self.form self.start self.reach (octets_of window.old)) }
     {
         match self.part(shelf, name, window) {
             Ok(Part::Whole(lengths)) => match self.record(window.octets(), lengths) {

@@ -1,4 +1,4 @@
-ghost use Rattle.std.specs.Prelude.{◌≡◌, ◌≤◌, ◌<◌, ◌+◌, ◌-◌, ◌^◌, ℕ, List, [], length, take, drop, vec_len, IfOk, IsErr};
+ghost use Rattle.std.specs.Prelude.{◌≡◌, ◌≤◌, ◌<◌, ◌+◌, ◌-◌, ◌^◌, ℕ, List, [], length, take, drop, vec_len, IfOk, IfErr, IsErr};
 ghost use Rattle.rm_edge.specs.Outside.{File, Absent, HasCause};
 ghost use Rattle.rm_edge.specs.Shelves.{KeepsShelf};
 ghost use Rattle.rm_window.specs.Filling.{IsFront, Holds};
@@ -93,7 +93,8 @@ impl Window {
     ///
     /// The octets that are next stand from place `at` of the file on, and stay so. Where fewer are next than are needed, they
     /// move to the front, and reads fill the room behind them until there is none or the file ends. Failed comes only
-    /// where a read failed. A name without a file always fails where fewer are next than are needed.
+    /// where a read failed. A name without a file always fails where fewer are next than are needed. Where enough are next, nothing is
+    /// read.
     pub fn hold<S: Shelf>(
         &mut self,
         shelf: &mut S,
@@ -111,6 +112,9 @@ impl Window {
         ensures holds { (bytes : List ℕ) → S.held shelf.old name.now ≡ File bytes → IsFront (octets_of self.old) (drop at bytes)
             → IfOk result (λ count. Holds bytes at need (octets_of self.new)) }
         ensures absent { S.held shelf.old name.now ≡ Absent → length (octets_of self.old) < need → IsErr result }
+        ensures few { IfErr result (λ _. length (octets_of self.old) < need) }
+        ensures same { need ≤ length (octets_of self.old) → octets_of self.new ≡ octets_of self.old }
+        ensures unread { need ≤ length (octets_of self.old) → shelf.new ≡ shelf.old }
     {
         let have = self.len();
         if have >= need {

@@ -4,6 +4,7 @@ use Rattle.rm_pcap.specs.Progress.{Progress, reading}
 use Rattle.rm_window.specs.Window.{octets_of}
 use Rattle.rm_pcap.specs.View.{progress_of, ahead_of}
 use Rattle.rm_pcap.proofs.FoundLemmas.{found_end, found_cut}
+use Rattle.rm_pcap.proofs.KeptLemmas.{there_in}
 use Rattle.rm_pcap.proofs.BaseLemmas.{first_plain, first_whole, first_again, none_seen, looks_first, looks_broken, kind_first}
 use Rattle.rm_pcap.proofs.capture.Capture.first.Goals as goal
 
@@ -11,6 +12,7 @@ pub returns-then-is_some-clause-looks : goal.returns-then-is_some-clause-looks
 returns-then-is_some-clause-looks g c = record {
   place = refl;
   unseen = c.requires.unseen;
+  told = λ time e. absurd cc;
   stands = λ bytes is agrees. (first_again c.args.self.now bytes (sym c.is_some.ensures ∙ c.if-is_some.true) c.requires.unseen agrees, agrees);
 }
 
@@ -21,16 +23,19 @@ returns-in-Ok-Whole-clause-looks g c =
     let octets = octets_of c.part.new.window in
     let none : self.seen ≡ None = none_seen self.seen (sym c.is_some.ensures ∙ c.if-is_some.false) in
     let whole = rw c.in-Ok-Whole.field-0-is at c.in-Ok-Whole.ensures.part in
+    let time : time_of self.position.form octets ≡ c.time_of.result = ap (time_of self.position.form) (sym c.octets.ensures) ∙ sym c.time_of.ensures in
     looks_first _ (progress_of self) (ahead_of self.position octets self.seen) octets _ c.requires.unseen
     (λ frame after e. let n = sym (ap (ahead_of self.position octets) none) ∙ e in cc)
     (λ bytes is front.
-    let h = rw c.in-Ok-Whole.field-0-is at (c.in-Ok-Whole.ensures.stands bytes is front) in
-    let time : time_of self.position.form octets ≡ c.time_of.result = ap (time_of self.position.form) (sym c.octets.ensures) ∙ sym c.time_of.ensures in (
+    let h = rw c.in-Ok-Whole.field-0-is at (c.in-Ok-Whole.ensures.stands bytes is front) in (
       h.0,
       first_whole self.position.form self.position.start self.position.reach bytes octets c.in-Ok-Whole.field-0-0 c.requires.unseen.first h.1 h.0 (omega (arith, whole.long))
           ∙ ap (λ (t : ℕ). Ok (Some t)) time,
       λ found e. let n = sym (ap (ahead_of self.position octets) none) ∙ e in cc,
     ))
+    (λ other e.
+    let same : c.time_of.result ≡ other = cc in
+    (there_in self.position.form self.position.start self.position.reach octets c.in-Ok-Whole.field-0-0 whole, time ∙ same))
 
 pub returns-in-Ok-End-clause-looks : goal.returns-in-Ok-End-clause-looks
 unfolding progress_of
@@ -45,6 +50,7 @@ returns-in-Ok-End-clause-looks g c =
       first_plain self.position.form self.position.start self.position.reach bytes Ended c.requires.unseen.first tt found,
       λ other e. let same : Stops Ended ≡ other = cc in sym same ∙ found,
     ))
+    (λ time e. absurd cc)
 
 pub returns-in-Ok-Cut-clause-looks : goal.returns-in-Ok-Cut-clause-looks
 unfolding progress_of
@@ -59,6 +65,7 @@ returns-in-Ok-Cut-clause-looks g c =
       first_plain self.position.form self.position.start self.position.reach bytes (CutAt self.position.reach.at) c.requires.unseen.first tt found,
       λ other e. let same : Stops (CutAt self.position.reach.at) ≡ other = cc in sym same ∙ found,
     ))
+    (λ time e. absurd cc)
 
 pub returns-in-Err-clause-same : goal.returns-in-Err-clause-same
 unfolding progress_of

@@ -21,7 +21,7 @@ returns-in-Ok-clause-looks g c =
     let none : self.seen ≡ None = c.in_default.is in
     let octets = octets_of c.see.new.window in
     looks_new _ (progress_of self) _ (found_of self.position.start.interface self.position.reach octets c.in-Ok.seen) (ap (ahead_of self.position (octets_of self.window)) none) refl
-    (lawful_find self.position.start.interface self.position.reach octets c.in-Ok.seen c.in-Ok.ensures.follows) c.in-Ok.ensures.found
+    (lawful_find self.position.start.interface self.position.reach octets c.in-Ok.seen c.in-Ok.ensures.follows) c.in-Ok.ensures.found c.in-Ok.ensures.kept
 
 pub returns-in-Err-clause-looks : goal.returns-in-Err-clause-looks
 unfolding progress_of
@@ -35,4 +35,5 @@ pub returns-in-Err-clause-faults : goal.returns-in-Err-clause-faults
 unfolding progress_of
 returns-in-Err-clause-faults g c =
     let self = c.args.self.now in
-    let none : self.seen ≡ None = c.in_default.is in record { unseen = ap (ahead_of self.position (octets_of self.window)) none; cause = c.in-Err.ensures.faults }
+    let none : self.seen ≡ None = c.in_default.is in
+    record { unseen = ap (ahead_of self.position (octets_of self.window)) none; cause = c.in-Err.ensures.faults; kept = c.in-Err.ensures.broken }

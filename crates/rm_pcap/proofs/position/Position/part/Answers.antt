@@ -1,8 +1,11 @@
-use Rattle.std.proofs.Common.{◌∙◌, ap, arith, inr}
+use Rattle.std.proofs.Common.{◌∙◌, length, sym, ap, arith, inr}
 use Rattle.std.proofs.lemmas.Result.{err_from_is_err_and}
 use Rattle.rm_window.specs.Window.{octets_of}
+use Rattle.rm_pcap.specs.declared.record.Part.TheVariants.{Whole as WholePart}
+use Rattle.rm_pcap.specs.Records.{fault_at}
 use Rattle.rm_pcap.specs.Seen.{lengths_of, within}
-use Rattle.rm_pcap.proofs.FoundLemmas.{is_header, found_broken, cut_behind, whole_part, lengths_in}
+use Rattle.rm_pcap.proofs.FoundLemmas.{is_header, found_broken, cut_behind, whole_part, lengths_in, faultless_in}
+use Rattle.rm_pcap.proofs.KeptLemmas.{fault_there, included_there, lengths_there}
 use Rattle.rm_pcap.proofs.position.Position.part.Goals as goal
 
 pub returns-then-count-eq0-clause-stands : goal.returns-then-count-eq0-clause-stands
@@ -55,5 +58,82 @@ returns-clause-part g c = record {
   long = omega (arith, c.in-Ok-hold.ensures.count, c.if-count-whole.false);
   numbers = lengths_in c.args.self.form (octets_of c.hold.new.self) (octets_of c.hold-2.new.self) c.in_ok-lengths.lengths c.hold-2.ensures.keeps
       (omega (arith, c.in-Ok.ensures.count, c.if-count-lt-RECORD_HEADER.false)) (c.in_ok-lengths.ensures.judged.1 ∙ ap (lengths_of c.args.self.form) c.octets.ensures);
+  faultless = faultless_in c.args.self.form c.args.self.start c.args.self.reach (octets_of c.hold.new.self) (octets_of c.hold-2.new.self) c.hold-2.ensures.keeps
+      (omega (arith, c.in-Ok.ensures.count, c.if-count-lt-RECORD_HEADER.false))
+      (ap (fault_at c.args.self.form c.args.self.start c.args.self.reach) (sym c.octets.ensures) ∙ c.in_ok-lengths.ensures.judged.0);
   sound = c.in_ok-lengths.ensures.sound;
 }
+
+-- where all of the record was read already, no read is needed
+pub returns-in_default-clause-faultless : goal.returns-in_default-clause-faultless
+returns-in_default-clause-faultless g c = λ there. omega (arith, there.long, c.in_default.ensures.few)
+
+pub returns-in_default-clause-same : goal.returns-in_default-clause-same
+returns-in_default-clause-same g c = λ there. absurd (omega (arith, there.long, c.in_default.ensures.few))
+
+pub returns-then-count-eq0-clause-whole : goal.returns-then-count-eq0-clause-whole
+returns-then-count-eq0-clause-whole g c = λ there.
+    let same = c.hold.ensures.same (omega (arith, there.long)) in
+    absurd (omega (arith, there.long, c.in-Ok.ensures.count, c.if-count-eq0.true, ap length same))
+
+pub returns-then-count-eq0-clause-same : goal.returns-then-count-eq0-clause-same
+returns-then-count-eq0-clause-same g c = λ there. c.hold.ensures.same (omega (arith, there.long))
+
+pub returns-then-count-lt-RECORD_HEADER-clause-whole :
+    goal.returns-then-count-lt-RECORD_HEADER-clause-whole
+returns-then-count-lt-RECORD_HEADER-clause-whole g c = λ there.
+    let same = c.hold.ensures.same (omega (arith, there.long)) in
+    absurd (omega (arith, there.long, c.in-Ok.ensures.count, c.if-count-lt-RECORD_HEADER.true, ap length same))
+
+pub returns-then-count-lt-RECORD_HEADER-clause-same :
+    goal.returns-then-count-lt-RECORD_HEADER-clause-same
+returns-then-count-lt-RECORD_HEADER-clause-same g c = λ there. c.hold.ensures.same (omega (arith, there.long))
+
+pub returns-in_err-lengths-clause-faultless : goal.returns-in_err-lengths-clause-faultless
+returns-in_err-lengths-clause-faultless g c =
+    let p = err_from_is_err_and c.from_residual.result c.from_residual.ensures.1 in
+    let position = c.args.self in
+    rw (p.1, p.2)
+    (λ there.
+    let same = c.hold.ensures.same (omega (arith, there.long)) in
+    fault_there position.form position.start position.reach c.octets.result.now (octets_of c.args.window.now) c.in_err-lengths.field-0.0 (c.octets.ensures ∙ same) there
+    c.in_err-lengths.ensures.judged)
+
+pub returns-in_err-lengths-clause-same : goal.returns-in_err-lengths-clause-same
+returns-in_err-lengths-clause-same g c = λ there. c.hold.ensures.same (omega (arith, there.long))
+
+pub returns-in_default-hold-clause-faultless : goal.returns-in_default-hold-clause-faultless
+returns-in_default-hold-clause-faultless g c = λ there.
+    let same = c.hold.ensures.same (omega (arith, there.long)) in
+    let included = included_there c.args.self.form c.octets.result.now (octets_of c.args.window.now) c.in_ok-lengths.lengths (c.octets.ensures ∙ same) c.in_ok-lengths.ensures.judged.1 in
+    omega (arith, there.long, included, c.in_default-hold.ensures.few, ap length same)
+
+pub returns-in_default-hold-clause-same : goal.returns-in_default-hold-clause-same
+returns-in_default-hold-clause-same g c = λ there.
+    let same = c.hold.ensures.same (omega (arith, there.long)) in
+    let included = included_there c.args.self.form c.octets.result.now (octets_of c.args.window.now) c.in_ok-lengths.lengths (c.octets.ensures ∙ same) c.in_ok-lengths.ensures.judged.1 in
+    absurd (omega (arith, there.long, included, c.in_default-hold.ensures.few, ap length same))
+
+pub returns-then-count-whole-clause-whole : goal.returns-then-count-whole-clause-whole
+returns-then-count-whole-clause-whole g c = λ there.
+    let same = c.hold.ensures.same (omega (arith, there.long)) in
+    let included = included_there c.args.self.form c.octets.result.now (octets_of c.args.window.now) c.in_ok-lengths.lengths (c.octets.ensures ∙ same) c.in_ok-lengths.ensures.judged.1 in
+    let again = c.hold-2.ensures.same (omega (arith, there.long, included, ap length same)) in
+    absurd (omega (arith, there.long, included, c.in-Ok-hold.ensures.count, c.if-count-whole.true, ap length same, ap length again))
+
+pub returns-then-count-whole-clause-same : goal.returns-then-count-whole-clause-same
+returns-then-count-whole-clause-same g c = λ there.
+    let same = c.hold.ensures.same (omega (arith, there.long)) in
+    let included = included_there c.args.self.form c.octets.result.now (octets_of c.args.window.now) c.in_ok-lengths.lengths (c.octets.ensures ∙ same) c.in_ok-lengths.ensures.judged.1 in
+    c.hold-2.ensures.same (omega (arith, there.long, included, ap length same)) ∙ same
+
+pub returns-clause-whole : goal.returns-clause-whole
+returns-clause-whole g c = λ there.
+    let same = c.hold.ensures.same (omega (arith, there.long)) in
+    ap WholePart (lengths_there c.args.self.form c.octets.result.now (octets_of c.args.window.now) c.in_ok-lengths.lengths (c.octets.ensures ∙ same) c.in_ok-lengths.ensures.judged.1)
+
+pub returns-clause-same : goal.returns-clause-same
+returns-clause-same g c = λ there.
+    let same = c.hold.ensures.same (omega (arith, there.long)) in
+    let included = included_there c.args.self.form c.octets.result.now (octets_of c.args.window.now) c.in_ok-lengths.lengths (c.octets.ensures ∙ same) c.in_ok-lengths.ensures.judged.1 in
+    c.hold-2.ensures.same (omega (arith, there.long, included, ap length same)) ∙ same

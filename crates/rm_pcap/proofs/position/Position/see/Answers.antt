@@ -1,6 +1,9 @@
-use Rattle.std.proofs.Common.{inr, refl}
+use Rattle.std.proofs.Common.{◌≡◌, inr, refl}
 use Rattle.rm_window.specs.Window.{octets_of}
+use Rattle.rm_pcap.specs.declared.record.Part.TheVariants.{Whole as WholePart, End as EndPart, Cut as CutPart}
+use Rattle.rm_pcap.specs.Seen.{lengths_of}
 use Rattle.rm_pcap.proofs.FoundLemmas.{found_end, found_cut, found_late, found_whole}
+use Rattle.rm_pcap.proofs.KeptLemmas.{kept_whole, kept_late}
 use Rattle.rm_pcap.proofs.position.Position.see.Goals as goal
 
 pub returns-in-Some-clause-found : goal.returns-in-Some-clause-found
@@ -33,3 +36,29 @@ pub returns-in-Ok-Cut-clause-found : goal.returns-in-Ok-Cut-clause-found
 returns-in-Ok-Cut-clause-found g c = λ bytes is front.
     let h = rw c.in-Ok-Cut.field-0-is at (c.in-Ok-Cut.ensures.stands bytes is front) in
     (h.0, found_cut c.args.self.form c.args.self.start c.args.self.reach bytes h.1)
+
+-- where all of the record was read already
+pub returns-in-Some-clause-kept : goal.returns-in-Some-clause-kept
+returns-in-Some-clause-kept g c = λ there.
+    let position = c.args.self in
+    kept_whole position.form position.start position.reach (octets_of c.part.new.window) (octets_of c.args.window.now) c.in-Some.record (c.part.ensures.same there) there
+    (rw c.octets.ensures at c.in-Some.ensures.numbers)
+
+pub returns-in-None-clause-broken : goal.returns-in-None-clause-broken
+returns-in-None-clause-broken g c = λ there.
+    let position = c.args.self in
+    kept_late position.form position.start position.reach (octets_of c.part.new.window) (octets_of c.args.window.now) (c.part.ensures.same there) there
+    (rw c.octets.ensures at c.in-None.ensures.numbers)
+
+pub returns-in-Ok-End-clause-kept : goal.returns-in-Ok-End-clause-kept
+returns-in-Ok-End-clause-kept g c = λ there.
+    let is : EndPart ≡ WholePart (lengths_of c.args.self.form (octets_of c.args.window.now)) = rw c.in-Ok-End.field-0-is at (c.in-Ok-End.ensures.whole there) in
+    absurd cc
+
+pub returns-in-Ok-Cut-clause-kept : goal.returns-in-Ok-Cut-clause-kept
+returns-in-Ok-Cut-clause-kept g c = λ there.
+    let is : CutPart ≡ WholePart (lengths_of c.args.self.form (octets_of c.args.window.now)) = rw c.in-Ok-Cut.field-0-is at (c.in-Ok-Cut.ensures.whole there) in
+    absurd cc
+
+pub returns-in-Err-clause-broken : goal.returns-in-Err-clause-broken
+returns-in-Err-clause-broken g c = λ there. absurd (c.in-Err.ensures.faultless there)

@@ -1,4 +1,5 @@
-use Rattle.std.proofs.Common.{◌≡◌, ◌≤◌, ◌+◌, ◌-◌, ℕ, List, length, take, drop, sym, ap, subst, ◌∙◌, arith}
+use Rattle.std.proofs.Common.{◌≡◌, ◌≤◌, ◌+◌, ◌-◌, ℕ, List, length, take, drop, refl, sym, ap, subst, ◌∙◌, arith}
+use Rattle.std.proofs.lemmas.Result.{err_from_is_err_and}
 use Rattle.std.proofs.lemmas.List.{with_items_is, length-take, length-drop}
 use borrow.Rule.Slice.PartMut.{put_mid, mid_len, same_len_mid}
 use Rattle.rm_window.specs.Filling.{IsFront, Holds}
@@ -26,3 +27,29 @@ returns-clause-holds g c = λ bytes is front.
     subst (λ (t : List ℕ). Holds bytes c.args.at c.args.need t) (sym window)
     (read_holds bytes items piece c.args.at have count room c.args.need within (omega (arith, long, c.requires.fits, c.turn.ensures.room, c.deref_mut.ensures.len, within))
     (c.in_ok-count.ensures.octets bytes is) (subst (λ (t : List ℕ). IsFront t (drop c.args.at bytes)) here front))
+
+-- enough are next
+pub returns-then-have-need-clause-same : goal.returns-then-have-need-clause-same
+returns-then-have-need-clause-same g c = λ enough. refl
+
+pub returns-then-have-need-clause-unread : goal.returns-then-have-need-clause-unread
+returns-then-have-need-clause-unread g c = λ enough. refl
+
+-- a read failed
+pub returns-in_err-count-clause-few : goal.returns-in_err-count-clause-few
+returns-in_err-count-clause-few g c =
+    let p = err_from_is_err_and c.from_residual.result c.from_residual.ensures.1 in
+    rw (p.1, p.2) (omega (arith, c.if-have-need.false, c.len-have.ensures))
+
+pub returns-in_err-count-clause-same : goal.returns-in_err-count-clause-same
+returns-in_err-count-clause-same g c = λ enough. absurd (omega (arith, enough, c.if-have-need.false, c.len-have.ensures))
+
+pub returns-in_err-count-clause-unread : goal.returns-in_err-count-clause-unread
+returns-in_err-count-clause-unread g c = λ enough. absurd (omega (arith, enough, c.if-have-need.false, c.len-have.ensures))
+
+-- reads were needed
+pub returns-clause-same : goal.returns-clause-same
+returns-clause-same g c = λ enough. absurd (omega (arith, enough, c.if-have-need.false, c.len-have.ensures))
+
+pub returns-clause-unread : goal.returns-clause-unread
+returns-clause-unread g c = λ enough. absurd (omega (arith, enough, c.if-have-need.false, c.len-have.ensures))
