@@ -22,7 +22,7 @@ const MOST_TIME: u32 = 2_147_483_647;
 pub struct PacketInfo {
     /// captureBufferIndex: its number among those that the buffer accepted, from 1.
     pub number: u32,
-    /// captureBufferPacketID: its number in the capture.
+    /// captureBufferPacketID: its number in the capture of its interface.
     pub id: u32,
     /// captureBufferPacketLength: its octets on the wire, the check sequence included.
     pub length: u32,

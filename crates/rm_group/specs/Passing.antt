@@ -5,7 +5,7 @@ use Rattle.rm_model.specs.Journal.{Frame}
 use Rattle.rm_model.specs.FrameFacts.{frame_facts}
 use Rattle.rm_proto.specs.declared.known.Facts.{Facts}
 
--- these are the facts of a frame, its captured octets, its number in the capture and its moment
+-- these are the facts of a frame, its captured octets, its number in the capture of its interface and its moment
 pub record IsOf (settings : Counting) (frame : Frame) (facts : Facts) (octets : List ℕ) (number moment : ℕ) : Type 0 where
   pub known : facts ≡ frame_facts settings frame
   pub captured : octets ≡ frame.octets

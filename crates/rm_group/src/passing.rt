@@ -8,7 +8,7 @@ pub struct Passing<'a> {
     pub facts: Facts,
     /// Its captured octets.
     pub octets: &'a [u8],
-    /// Its number in the capture, from 1.
+    /// Its number in the capture of its interface, from 1.
     pub number: u32,
     /// Its moment, in milliseconds.
     pub moment: u32,
