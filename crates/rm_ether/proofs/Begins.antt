@@ -6,6 +6,7 @@ use Rattle.rm_model.specs.Counting.{Counting}
 use Rattle.rm_model.specs.Alike.{HasSameColumns}
 use Rattle.rm_model.specs.ControlRows.{is_absent}
 use Rattle.rm_model.specs.Judgement.{is_row_number}
+use Rattle.rm_model.specs.declared.interface.TheConstants.{INTERFACES}
 use Rattle.rm_model.specs.declared.row.State.TheVariants.{Absent, Valid}
 use Rattle.rm_status.specs.declared.row.Row.{Row}
 use Rattle.rm_status.specs.Rows.{row_in, state_seen, columns_seen}
@@ -59,9 +60,10 @@ begun_more number old new was rows longer = record {
         is ∙ (was.rows_are i ∙ ap (λ (t : Bool). cond t (Some (row_at i)) None) alike)
 
 -- the number that comes next is that of a row, and there is none with it yet
-pub is_next_number : (number : ℕ) → 1 ≤ number → number ≤ 4 → is_row_number ether_stats number ≡ true
+pub is_next_number : (number : ℕ) → 1 ≤ number → number ≤ INTERFACES → is_row_number ether_stats number ≡ true
 is_next_number number some few =
-    let is : (nat_le 1 number && nat_le number 65535) ≡ true = grind (arith, nat_tests, some, few) in
+    let low : number ≤ 65535 = omega (arith, few) in
+    let is : (nat_le 1 number && nat_le number 65535) ≡ true = grind (arith, nat_tests, some, low) in
     is
 
 pub none_yet : (number : ℕ) (rows : List (Row StatisticsRow)) → IsBegunTo number rows → row_in rows number ≡ None

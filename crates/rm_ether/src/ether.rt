@@ -8,7 +8,7 @@ use rm_group::{
     Assigns, Commits, Group, Look, MOST_FRAMES, NeverDue, Passing, Readable, Storeless,
     TableObjects, Tables, Unfired, Unsampled,
 };
-use rm_model::{State, Verdict};
+use rm_model::{INTERFACES, State, Verdict};
 use rm_proto::Facts;
 use rm_status::Controls;
 use rm_val::{Oid, Value};
@@ -35,7 +35,7 @@ impl Ether {
 
     /// The statistics of so many interfaces before the first frame, of which each has a row of the monitor, with its number.
     pub fn new(interfaces: u32) -> Ether
-        requires few { interfaces ≤ 4 }
+        requires few { interfaces ≤ INTERFACES }
         ensures stands { (settings : Counting) → settings.interfaces ≡ interfaces → Stands result settings [] }
         ensures frames { frames_given result ≡ 0 }
         ensures last { last_given result ≡ 0 }
