@@ -66,12 +66,12 @@ agrees_looking old found octets bytes is front = record { ahead = λ was e. let 
 pub looks_new : (held : Held) (old new : Progress) (found : Found) → old.ahead ≡ None → new ≡ looking_at old found new.read → IsLawfulFind old.reach found
     → ((bytes : List ℕ) → held ≡ File bytes → IsFront old.read (drop old.reach.at bytes) → IsFront new.read (drop old.reach.at bytes) × (found ≡ next_in old bytes))
     → (HasRead old → found ≡ read_next old) → Looks held old new found
-looks_new held old new found none place lawful stands kept = record {
+looks_new held old new found none place lawful stands all = record {
   place = place;
   finds = record {
     lawful = lawful;
     again = λ was e. let s : None ≡ Some was = sym none ∙ e in cc;
-    kept = λ _. kept;
+    kept = λ _. all;
     stands = λ bytes file agrees. (stands bytes file agrees.read).1;
     agrees = λ bytes file agrees.
         let there = stands bytes file agrees.read in subst (λ (p : Progress). Agrees p bytes) (sym place) (agrees_looking old found new.read bytes there.1 there.0);

@@ -113,8 +113,8 @@ impl Position {
         })
     }
 
-    /// Sees what of a record stands next in the file, through a window whose octets stand there. Where all of it is in the window, nothing is
-    /// read.
+    /// Sees what of a record stands next in the file, through a window whose octets stand there. Where all of it is in the window already, it
+    /// is seen whatever the shelf gives.
     pub fn part<S: Shelf>(
         self,
         shelf: &mut S,
