@@ -79,29 +79,18 @@ def read_capture(octets, lead):
     return capture
 
 
-def is_tagged(octets):
-    """Whether a tag (IEEE 802.1Q) stands behind the addresses of a frame."""
-    return octets[12:14] == b"\x81\x00"
-
-
-def most_good(octets):
-    """The most octets of a good frame, its check sequence included."""
-    return 1522 if is_tagged(octets) else 1518
-
-
 def has_ipv4(octets):
-    """Whether a frame has type 0800, behind a tag where it has one, and a whole header of IPv4."""
-    at = 16 if is_tagged(octets) else 12
-    if len(octets) < at + 22 or octets[at : at + 2] != b"\x08\x00":
+    """Whether a frame has type 0800 and a whole header of IPv4."""
+    if len(octets) < 34 or octets[12:14] != b"\x08\x00":
         return False
-    version, words = divmod(octets[at + 2], 16)
-    return version == 4 and words >= 5 and len(octets) >= at + 2 + 4 * words
+    version, words = divmod(octets[14], 16)
+    return version == 4 and words >= 5 and len(octets) >= 14 + 4 * words
 
 
 def summary_of(capture, lead):
     """The lines that sum a capture up."""
     lengths = [max(frame.length, 60) + 4 for frame in capture.frames]
-    good = [frame for frame, length in zip(capture.frames, lengths) if length <= most_good(frame.octets)]
+    good = [frame for frame, length in zip(capture.frames, lengths) if length <= 1518]
     broadcast = sum(frame.octets[:6] == b"\xff" * 6 and len(frame.octets) >= 12 for frame in good)
     grouped = sum(len(frame.octets) >= 12 and frame.octets[0] & 1 for frame in good)
     counts = {
