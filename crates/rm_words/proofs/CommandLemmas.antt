@@ -1,5 +1,5 @@
 -- The command that words stand for.
-use Rattle.std.proofs.Common.{◌≡◌, ℕ, List, [], ◌∷◌, drop, Option, Some, None, Bool, true, false, MatchOption, refl, sym, ap, subst, ◌∙◌}
+use Rattle.std.proofs.Common.{◌≡◌, ℕ, List, [], ◌∷◌, length, drop, Option, Some, None, Bool, true, false, MatchOption, refl, sym, ap, subst, ◌∙◌}
 use Rattle.std.specs.Prelude.{slice_get}
 use Rattle.std.specs.Option.{is_some}
 use Rattle.rm_words.specs.Names.{commands, word_of, command_named}
@@ -10,6 +10,7 @@ use Rattle.rm_words.specs.declared.names.CommandName.{CommandName}
 use Rattle.rm_words.specs.declared.names.CommandName.TheVariants.{Replay, Serve, Summary, Decode, Load}
 use Rattle.rm_words.specs.declared.command.Command as code
 use Rattle.rm_words.specs.declared.parts.Expected.TheVariants.{Any}
+use Rattle.rm_words.proofs.CaptureLemmas.{in_some, same_setting, same_captures}
 use Rattle.rm_words.proofs.PartLemmas.{found}
 use Rattle.rm_words.proofs.SpellLemmas.{spelled_read, whole_spelled}
 use Rattle.rm_words.proofs.WordLemmas.{left_at}
@@ -29,9 +30,6 @@ three_operands (x ∷ []) first second third a b c d = absurd cc
 three_operands (x ∷ y ∷ []) first second third a b c d = absurd cc
 three_operands (x ∷ y ∷ z ∷ []) first second third a b c d = cc
 three_operands (x ∷ y ∷ z ∷ w ∷ more) first second third a b c d = absurd cc
-
-in_some : {A : Type 0} (x y : A) → ◌≡◌ {A = Option A} (Some x) (Some y) → x ≡ y
-in_some x y e = cc
 
 -- one operand of two
 pub one_operand : (texts : List (List ℕ)) (first : List ℕ) → slice_get texts 0 ≡ Some first → slice_get texts 1 ≡ None → texts ≡ first ∷ []
@@ -65,8 +63,8 @@ with_word name word words pieces command is spells are = record {
 }
 
 is_of : (all : List (List ℕ)) (command : Command) → StandFor all command → IsOf all command
-is_of all command (for_replay word words pieces capture requests options is spells are) = with_word Replay word words pieces command is spells are
-is_of all command (for_serve word words pieces capture port count trap_port options is spells are) = with_word Serve word words pieces command is spells are
+is_of all command (for_replay word words pieces captures requests options is spells are) = with_word Replay word words pieces command is spells are
+is_of all command (for_serve word words pieces captures port count trap_port options is spells are) = with_word Serve word words pieces command is spells are
 is_of all command (for_summary word words pieces capture lead keep_short is spells are) = with_word Summary word words pieces command is spells are
 is_of all command (for_decode word words pieces hex is spells are) = with_word Decode word words pieces command is spells are
 is_of all command (for_load word words pieces start count options is spells are) = with_word Load word words pieces command is spells are
@@ -74,8 +72,8 @@ is_of all command (for_load word words pieces start count options is spells are)
 -- words that stand for what stands behind the word of a command
 stand : (name : CommandName) (word : List ℕ) (words : List (List ℕ)) (pieces : List Piece) (command : Command) → word ≡ word_of name → Spells name words pieces → AreOf name pieces command
     → StandFor (word ∷ words) command
-stand Replay word words pieces (replay capture requests options) is spells are = for_replay word words pieces capture requests options is spells are
-stand Serve word words pieces (serve capture port count trap_port options) is spells are = for_serve word words pieces capture port count trap_port options is spells are
+stand Replay word words pieces (replay captures requests options) is spells are = for_replay word words pieces captures requests options is spells are
+stand Serve word words pieces (serve captures port count trap_port options) is spells are = for_serve word words pieces captures port count trap_port options is spells are
 stand Summary word words pieces (summary capture lead keep_short) is spells are = for_summary word words pieces capture lead keep_short is spells are
 stand Decode word words pieces (decode hex) is spells are = for_decode word words pieces hex is spells are
 stand Load word words pieces (load start count options) is spells are = for_load word words pieces start count options is spells are
@@ -150,11 +148,8 @@ read_is name all first (Some found) at named whole read =
     subst (λ (ws : List (List ℕ)). StandFor ws (command_of found)) (sym (left_at all 0 first at)) stands
 
 -- words stand for one command at most
-same_setting : {A : Type 0} (o : Option A) (x y : A) → o ≡ Some x → o ≡ Some y → x ≡ y
-same_setting o x y a b = in_some x y (sym a ∙ b)
-
-same_options : (pieces : List Piece) (one other : Options) → AreOptions pieces one → AreOptions pieces other → one ≡ other
-same_options pieces one other a b =
+same_options : (pieces : List Piece) (one other : Options) → AreOptions pieces one → AreOptions pieces other → one.interfaces ≡ other.interfaces → one ≡ other
+same_options pieces one other a b interfaces =
     let hosts : one.hosts ≡ other.hosts = same_setting _ _ _ a.hosts b.hosts in
     let pairs : one.pairs ≡ other.pairs = same_setting _ _ _ a.pairs b.pairs in
     let upper : one.upper ≡ other.upper = same_setting _ _ _ a.upper b.upper in
@@ -165,31 +160,36 @@ same_options pieces one other a b =
     ap (λ (h : ℕ). record one { hosts = h }) hosts
     ∙ ap (λ (p : ℕ). record one { hosts = other.hosts; pairs = p }) pairs
     ∙ ap (λ (u : ℕ). record one { hosts = other.hosts; pairs = other.pairs; upper = u }) upper
-    ∙ ap (λ (l : ℕ). record other { lead = l; keep_short = one.keep_short; read = one.read; write = one.write }) lead
-    ∙ ap (λ (k : Bool). record other { keep_short = k; read = one.read; write = one.write }) keep_short
+    ∙ ap (λ (l : ℕ). record other { lead = l; keep_short = one.keep_short; interfaces = one.interfaces; read = one.read; write = one.write }) lead
+    ∙ ap (λ (k : Bool). record other { keep_short = k; interfaces = one.interfaces; read = one.read; write = one.write }) keep_short
+    ∙ ap (λ (i : ℕ). record other { interfaces = i; read = one.read; write = one.write }) interfaces
     ∙ ap (λ (r : List ℕ). record other { read = r; write = one.write }) read
     ∙ ap (λ (w : List ℕ). record other { write = w }) write
 
-same_replay : (pieces : List Piece) (capture requests capture' requests' : List ℕ) (options options' : Options) → AreOfReplay pieces capture requests options → AreOfReplay pieces capture' requests' options'
-    → replay capture requests options ≡ replay capture' requests' options'
-same_replay pieces capture requests capture' requests' options options' a b =
-    let same = same_options pieces options options' a.options_are b.options_are in
-    let texts : ◌≡◌ {A = List (List ℕ)} (capture ∷ requests ∷ []) (capture' ∷ requests' ∷ []) = sym a.operands_are ∙ b.operands_are in
-    let first : capture ≡ capture' = cc in
+same_replay : (pieces : List Piece) (captures captures' : List (List ℕ)) (requests requests' : List ℕ) (options options' : Options) → AreOfReplay pieces captures requests options
+    → AreOfReplay pieces captures' requests' options' → replay captures requests options ≡ replay captures' requests' options'
+same_replay pieces captures captures' requests requests' options options' a b =
+    let texts : ◌≡◌ {A = List (List ℕ)} (a.capture ∷ requests ∷ []) (b.capture ∷ requests' ∷ []) = sym a.operands_are ∙ b.operands_are in
+    let first : a.capture ≡ b.capture = cc in
     let second : requests ≡ requests' = cc in
-    cc
+    let all : captures ≡ captures' = same_captures pieces a.capture b.capture captures captures' first a.captures_are b.captures_are in
+    let many : options.interfaces ≡ options'.interfaces = a.interfaces_are ∙ ap (λ (names : List (List ℕ)). length names) all ∙ sym b.interfaces_are in
+    let same : options ≡ options' = same_options pieces options options' a.options_are b.options_are many in
+    ap (λ (names : List (List ℕ)). replay names requests options) all ∙ ap (λ (name : List ℕ). replay captures' name options) second ∙ ap (λ (o : Options). replay captures' requests' o) same
 
-same_serve : (pieces : List Piece) (capture capture' : List ℕ) (port count trap_port port' count' trap_port' : ℕ) (options options' : Options) → AreOfServe pieces capture port count trap_port options
-    → AreOfServe pieces capture' port' count' trap_port' options' → serve capture port count trap_port options ≡ serve capture' port' count' trap_port' options'
-same_serve pieces capture capture' port count trap_port port' count' trap_port' options options' a b =
-    let texts : ◌≡◌ {A = List (List ℕ)} (capture ∷ a.port_text ∷ a.count_text ∷ []) (capture' ∷ b.port_text ∷ b.count_text ∷ []) = sym a.operands_are ∙ b.operands_are in
-    let first : capture ≡ capture' = cc in
+same_serve : (pieces : List Piece) (captures captures' : List (List ℕ)) (port count trap_port port' count' trap_port' : ℕ) (options options' : Options) → AreOfServe pieces captures port count trap_port options
+    → AreOfServe pieces captures' port' count' trap_port' options' → serve captures port count trap_port options ≡ serve captures' port' count' trap_port' options'
+same_serve pieces captures captures' port count trap_port port' count' trap_port' options options' a b =
+    let texts : ◌≡◌ {A = List (List ℕ)} (a.capture ∷ a.port_text ∷ a.count_text ∷ []) (b.capture ∷ b.port_text ∷ b.count_text ∷ []) = sym a.operands_are ∙ b.operands_are in
+    let first : a.capture ≡ b.capture = cc in
     let second : a.port_text ≡ b.port_text = cc in
     let third : a.count_text ≡ b.count_text = cc in
     let ports : port ≡ port' = same_setting _ _ _ a.port_is (ap port_of second ∙ b.port_is) in
     let counts : count ≡ count' = same_setting _ _ _ a.count_is (ap (number_within 1 1000000) third ∙ b.count_is) in
     let trap_ports : trap_port ≡ trap_port' = same_setting _ _ _ a.trap_port_is b.trap_port_is in
-    let same = same_options pieces options options' a.options_are b.options_are in
+    let all : captures ≡ captures' = same_captures pieces a.capture b.capture captures captures' first a.captures_are b.captures_are in
+    let many : options.interfaces ≡ options'.interfaces = a.interfaces_are ∙ ap (λ (names : List (List ℕ)). length names) all ∙ sym b.interfaces_are in
+    let same : options ≡ options' = same_options pieces options options' a.options_are b.options_are many in
     cc
 
 same_operand : (text text' : List ℕ) → ◌≡◌ {A = List (List ℕ)} (text ∷ []) (text' ∷ []) → text ≡ text'
@@ -210,17 +210,17 @@ same_load pieces start count start' count' options options' a b =
     let second : a.count_text ≡ b.count_text = cc in
     let starts : start ≡ start' = same_setting _ _ _ a.start_is (ap (number_within 0 2147483647) first ∙ b.start_is) in
     let counts : count ≡ count' = same_setting _ _ _ a.count_is (ap (number_within 1 10000000) second ∙ b.count_is) in
-    let same = same_options pieces options options' a.options_are b.options_are in
+    let same = same_options pieces options options' a.options_are b.options_are (a.interfaces_are ∙ sym b.interfaces_are) in
     cc
 
 same_are : (name : CommandName) (pieces : List Piece) (one other : Command) → AreOf name pieces one → AreOf name pieces other → one ≡ other
-same_are Replay pieces (replay capture requests options) (replay capture' requests' options') a b = same_replay pieces capture requests capture' requests' options options' a b
-same_are Serve pieces (serve capture port count trap_port options) (serve capture' port' count' trap_port' options') a b = same_serve pieces capture capture' port count trap_port port' count' trap_port' options options' a b
+same_are Replay pieces (replay captures requests options) (replay captures' requests' options') a b = same_replay pieces captures captures' requests requests' options options' a b
+same_are Serve pieces (serve captures port count trap_port options) (serve captures' port' count' trap_port' options') a b = same_serve pieces captures captures' port count trap_port port' count' trap_port' options options' a b
 same_are Summary pieces (summary capture lead keep_short) (summary capture' lead' keep_short') a b = same_summary pieces capture capture' lead lead' keep_short keep_short' a b
 same_are Decode pieces (decode hex) (decode hex') a b = ap decode (same_operand hex hex' (sym a.operand_is ∙ b.operand_is))
 same_are Load pieces (load start count options) (load start' count' options') a b = same_load pieces start count start' count' options options' a b
-same_are Replay pieces (replay capture requests options) other a b = absurd b
-same_are Serve pieces (serve capture port count trap_port options) other a b = absurd b
+same_are Replay pieces (replay captures requests options) other a b = absurd b
+same_are Serve pieces (serve captures port count trap_port options) other a b = absurd b
 same_are Summary pieces (summary capture lead keep_short) other a b = absurd b
 same_are Decode pieces (decode hex) other a b = absurd b
 same_are Load pieces (load start count options) other a b = absurd b

@@ -1,3 +1,4 @@
+pub mod CaptureLemmas
 pub mod CommandLemmas
 pub mod PartLemmas
 pub mod SpellLemmas

@@ -1,18 +1,21 @@
 -- What a word is, by its octets.
-use Rattle.std.proofs.Common.{◌≡◌, ℕ, suc, ◌+◌, ◌<◌, List, [], ◌∷◌, ◌++◌, length, take, drop, Option, Some, None, Bool, true, false, refl, sym, ap, ◌∙◌, arith, position, get_or, length-append, append_assoc}
+use Rattle.std.proofs.Common.{◌≡◌, ℕ, suc, ◌+◌, ◌<◌, List, [], ◌∷◌, ◌++◌, length, take, drop, Option, Some, None, Bool, true, false, refl, sym, ap, subst, ◌∙◌, arith, position, get_or, length-append, append_assoc, IsUtf8, IsCharBoundary}
 use Rattle.std.specs.Prelude.{◌==◌, find, if◌then◌else◌, codes, not}
 use Rattle.std.specs.List.{position_or_len}
 use Rattle.std.specs.Str.{bytes_eq}
 use Rattle.std.proofs.Math.Seq.{drop-append-add, take-append_seam}
 use Rattle.std.proofs.lemmas.Bool.{lt-ltb, eqb-true}
-use Rattle.std.proofs.lemmas.List.{take-append-drop, drop_more}
+use Rattle.std.proofs.lemmas.List.{take-append-drop, drop_more, get_or-append-add}
 use Rattle.std.proofs.lemmas.List.Quantifiers.{position-Some}
 use Rattle.std.proofs.lemmas.Slice.Eq.{bytes_eq-Decides}
-use Rattle.rm_words.specs.Names.{name_of, takes_value, options, option_named}
+use Rattle.std.proofs.lemmas.Str.{IsCharBoundary-after_ascii}
+use Rattle.rm_words.specs.Names.{name_of, takes_value, options, option_named, follows}
 use Rattle.rm_words.specs.Grammar.{dashes, is_plain}
-use Rattle.rm_words.specs.Parts.{is_equals, alone_part, joined_part, cut_part, named_part, dashed_part, plain_part}
+use Rattle.rm_words.specs.Parts.{is_equals, alone_part, joined_part, cut_part, named_part, dashed_part, plain_part, value_part, part_of, IsCut}
 use Rattle.rm_words.specs.declared.names.OptionName.{OptionName}
-use Rattle.rm_words.specs.declared.names.OptionName.TheVariants.{Hosts, Pairs, Upper, Lead, KeepShort, Read, Write, TrapPort}
+use Rattle.rm_words.specs.declared.names.OptionName.TheVariants.{Hosts, Pairs, Upper, Lead, KeepShort, Read, Write, TrapPort, If2, If3, If4}
+use Rattle.rm_words.specs.declared.parts.Expected.{Expected}
+use Rattle.rm_words.specs.declared.parts.Expected.TheVariants as expected
 use Rattle.rm_words.specs.declared.parts.Part.{Part}
 use Rattle.rm_words.specs.declared.parts.Part.TheVariants.{Operand, End, Flag, Name, Joined, Value, Unknown}
 
@@ -27,6 +30,9 @@ named KeepShort = refl
 named Read = refl
 named Write = refl
 named TrapPort = refl
+named If2 = refl
+named If3 = refl
+named If4 = refl
 
 -- what is found by a text has that text
 pub found : {X : Type 0} (of : X → List ℕ) (text : List ℕ) (some : List X) (one : X) → find (λ x. bytes_eq (of x) text) some ≡ Some one → text ≡ of one
@@ -52,6 +58,9 @@ no_mark KeepShort = refl
 no_mark Read = refl
 no_mark Write = refl
 no_mark TrapPort = refl
+no_mark If2 = refl
+no_mark If3 = refl
+no_mark If4 = refl
 
 -- a name alone
 pub alone : (option : OptionName) → plain_part (dashes ++ name_of option) ≡ alone_part (Some option)
@@ -64,6 +73,9 @@ alone KeepShort = refl
 alone Read = refl
 alone Write = refl
 alone TrapPort = refl
+alone If2 = refl
+alone If3 = refl
+alone If4 = refl
 
 -- a name with a value
 joins : (name value : List ℕ) → 45 ∷ 45 ∷ (name ++ 61 ∷ value) ≡ dashes ++ name ++ codes "=" ++ value
@@ -167,3 +179,35 @@ plain_tells (c ∷ d ∷ cs) = by_dash (c == 45) refl
     by_dash : (dash : Bool) → (c == 45) ≡ dash → Tells (if dash then dashed_part d cs else Operand) (c ∷ d ∷ cs)
     by_dash true e = dashed cs (d == 45) refl (eqb-true _ _ e)
     by_dash false e = rw e refl
+
+-- behind a mark a character begins
+behind_mark : (front value word : List ℕ) → IsUtf8 word → word ≡ front ++ 61 ∷ value → IsCharBoundary word (length front + 1)
+behind_mark front value word text is =
+    let same : length front ≡ length front + 0 = omega arith in
+    let at : get_or word (length front) 0 ≡ 61 =
+    ap (λ (w : List ℕ). get_or w (length front) 0) is ∙ ap (λ (n : ℕ). get_or (front ++ 61 ∷ value) n 0) same ∙ get_or-append-add front (61 ∷ value) 0 0 in
+    let long : length word ≡ length (front ++ 61 ∷ value) = ap (λ (w : List ℕ). length w) is in
+    let within : length front < length word = omega (arith, long, length-append front (61 ∷ value)) in
+    let ascii : get_or word (length front) 0 < 128 = omega (arith, at) in
+    IsCharBoundary-after_ascii word (length front) text within ascii
+
+-- so the value of an option begins there
+joined_cut : (before : Expected) (word : List ℕ) (option : OptionName) (from : ℕ) → IsUtf8 word → part_of before word ≡ Joined option from → IsCharBoundary word from
+joined_cut expected.Any word option from text is =
+    let tells : Tells (Joined option from) word = subst (λ (part : Part). Tells part word) is (plain_tells word) in
+    let value = drop from word in
+    let same : Joined option from ≡ Joined option (length (name_of option) + 3) =
+    sym is ∙ ap plain_part tells.1 ∙ with_value option value ∙ ap (λ (b : Bool). if b then Joined option (length (name_of option) + 3) else Unknown) tells.0 in
+    let from_is : from ≡ length (name_of option) + 3 = cc in
+    let front = dashes ++ name_of option in
+    let stands : length front + 1 ≡ from = omega (arith, from_is, length-append dashes (name_of option)) in
+    subst (λ (n : ℕ). IsCharBoundary word n) stands (behind_mark front value word text (tells.1 ∙ append_assoc front (codes "=") value))
+joined_cut (expected.Value given) word option from text is = by_fit (follows given word) is
+  where
+    by_fit : (fits : Bool) → value_part given fits ≡ Joined option from → IsCharBoundary word from
+    by_fit true e = absurd cc
+    by_fit false e = absurd cc
+joined_cut expected.Operand word option from text is = absurd cc
+
+pub is_cut : (before : Expected) (word : List ℕ) (part : Part) → IsUtf8 word → part ≡ part_of before word → IsCut part word
+is_cut before word part text is = λ option from joined. joined_cut before word option from text (sym is ∙ joined)

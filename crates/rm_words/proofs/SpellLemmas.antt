@@ -1,10 +1,11 @@
 -- The words that are pieces.
 use Rattle.std.proofs.Common.{◌≡◌, ℕ, ◌+◌, length, List, [], ◌∷◌, ◌++◌, map, drop, Bool, true, false, refl, sym, ap, subst, ◌∙◌}
 use Rattle.std.specs.Prelude.{◌&&◌, ◌==◌, not, if◌then◌else◌}
-use Rattle.rm_words.specs.Names.{name_of}
+use Rattle.rm_words.specs.Names.{takes, name_of, follows}
 use Rattle.rm_words.specs.Grammar.{Piece, operand, gives, dashes, is_plain, Spells, none, end, plain, flag, separate, joined}
-use Rattle.rm_words.specs.Parts.{part_of, next_of, may_stand, are_whole, pieces_in, pieces_from, plain_part, dashed_part}
+use Rattle.rm_words.specs.Parts.{part_of, value_part, next_of, may_stand, are_whole, pieces_in, pieces_from, plain_part, dashed_part}
 use Rattle.rm_words.specs.declared.names.CommandName.{CommandName}
+use Rattle.rm_words.specs.declared.names.OptionName.{OptionName}
 use Rattle.rm_words.specs.declared.parts.Expected.{Expected}
 use Rattle.rm_words.specs.declared.parts.Expected.TheVariants as expected
 use Rattle.rm_words.specs.declared.parts.Part.{Part}
@@ -57,6 +58,13 @@ no_end : (a : Bool) → (a && false) ≡ true → ⊥
 no_end true is = cc
 no_end false is = cc
 
+-- the value of an option
+value_read : (command : CommandName) (option : OptionName) (value : List ℕ) (words : List (List ℕ)) (pieces : List Piece) → follows option value ≡ true
+    → AreRead command expected.Any words pieces → AreRead command (expected.Value option) (value ∷ words) (gives option value ∷ pieces)
+value_read command option value words pieces fits rest =
+    read_by command (Value option) (expected.Value option) value words (gives option value ∷ pieces) (ap (value_part option) fits)
+    (rest.whole, ap (λ (ps : List Piece). gives option value ∷ ps) rest.pieces_are)
+
 -- pieces are read
 pub spelled_read : (command : CommandName) (words : List (List ℕ)) (pieces : List Piece) → Spells command words pieces → AreRead command expected.Any words pieces
 spelled_read command words pieces none = record { whole = refl; pieces_are = refl }
@@ -69,10 +77,10 @@ spelled_read command all all_pieces (flag option word words pieces taken valued 
     let rest = spelled_read command words pieces more in
     let part : plain_part word ≡ Flag option = ap plain_part is ∙ alone option ∙ ap (λ (b : Bool). if b then Name option else Flag option) valued in
     read_by command (Flag option) expected.Any word words all_pieces part (stand_before _ _ taken rest.whole, ap (λ (ps : List Piece). gives option [] ∷ ps) rest.pieces_are)
-spelled_read command all all_pieces (separate option word value words pieces taken valued is more) =
-    let rest = spelled_read command words pieces more in
+spelled_read command all all_pieces (separate option word value words pieces taken valued fits is more) =
+    let rest = value_read command option value words pieces fits (spelled_read command words pieces more) in
     let part : plain_part word ≡ Name option = ap plain_part is ∙ alone option ∙ ap (λ (b : Bool). if b then Name option else Flag option) valued in
-    read_by command (Name option) expected.Any word (value ∷ words) all_pieces part (stand_before _ _ taken rest.whole, ap (λ (ps : List Piece). gives option value ∷ ps) rest.pieces_are)
+    read_by command (Name option) expected.Any word (value ∷ words) all_pieces part (stand_before _ _ taken rest.whole, rest.pieces_are)
 spelled_read command all all_pieces (joined option word value words pieces taken valued is more) =
     let rest = spelled_read command words pieces more in
     let from = length (name_of option) + 3 in
@@ -89,6 +97,13 @@ abbrev AreSpelledBehind : CommandName → List (List ℕ) → Type 0
 AreSpelledBehind command [] = Unit {0}
 AreSpelledBehind command (word ∷ words) = AreSpelled command words
 
+-- words behind an option that has a value, by whether the first of them may be it
+by_fit : (command : CommandName) (option : OptionName) (word value : List ℕ) (words : List (List ℕ)) (fits : Bool) → follows option value ≡ fits → Tells (Name option) word → takes command option ≡ true
+    → (may_stand command (value_part option fits) && are_whole command (next_of (expected.Value option) (value_part option fits)) words) ≡ true → AreSpelled command words
+    → Spells command (word ∷ value ∷ words) (pieces_in (value_part option fits) value ++ pieces_from (next_of (expected.Value option) (value_part option fits)) words)
+by_fit command option word value words true fits tells taken whole behind = separate option word value words (pieces_from expected.Any words) taken tells.0 fits tells.1 (behind whole)
+by_fit command option word value words false fits tells taken whole behind = absurd cc
+
 by_part : (command : CommandName) (word : List ℕ) (words : List (List ℕ)) (part : Part) → Tells part word → (may_stand command part && are_whole command (next_of expected.Any part) words) ≡ true
     → AreSpelled command words → AreSpelledBehind command words → Spells command (word ∷ words) (pieces_in part word ++ pieces_from (next_of expected.Any part) words)
 by_part command word words Operand tells whole here behind = plain word words (pieces_from expected.Any words) tells (here whole)
@@ -98,7 +113,7 @@ by_part command word words (Flag option) tells whole here behind =
     let (taken, rest) = both_true _ _ whole in flag option word words (pieces_from expected.Any words) taken tells.0 tells.1 (here rest)
 by_part command word [] (Name option) tells whole here behind = absurd (no_end _ whole)
 by_part command word (value ∷ words) (Name option) tells whole here behind =
-    let (taken, rest) = both_true _ _ whole in separate option word value words (pieces_from expected.Any words) taken tells.0 tells.1 (behind rest)
+    let (taken, rest) = both_true _ _ whole in by_fit command option word value words (follows option value) refl tells taken rest behind
 by_part command word words (Joined option from) tells whole here behind =
     let (taken, rest) = both_true _ _ whole in joined option word (drop from word) words (pieces_from expected.Any words) taken tells.0 tells.1 (here rest)
 by_part command word words (Value option) tells whole here behind = absurd tells

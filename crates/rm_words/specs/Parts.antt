@@ -1,8 +1,8 @@
 -- The words one by one, as they are read.
-use Rattle.std.specs.Prelude.{ℕ, ◌+◌, List, [], ◌∷◌, ◌++◌, ◌&&◌, ◌==◌, Bool, true, false, if◌then◌else◌, Option, Some, None, position, take, drop}
-use Rattle.std.specs.Str.{bytes_eq}
+use Rattle.std.specs.Prelude.{◌≡◌, ℕ, ◌+◌, List, [], ◌∷◌, ◌++◌, ◌&&◌, ◌==◌, Bool, true, false, if◌then◌else◌, Option, Some, None, position, take, drop}
+use Rattle.std.specs.Str.{bytes_eq, IsCharBoundary}
 use Rattle.rm_words.specs.Grammar.{Piece, operand, gives}
-use Rattle.rm_words.specs.Names.{takes, name_of, takes_value, option_named}
+use Rattle.rm_words.specs.Names.{takes, name_of, takes_value, option_named, follows}
 use Rattle.rm_words.specs.declared.names.CommandName.{CommandName}
 use Rattle.rm_words.specs.declared.names.OptionName.{OptionName}
 use Rattle.rm_words.specs.declared.parts.Expected.{Expected}
@@ -41,10 +41,15 @@ plain_part [] = Operand
 plain_part (c ∷ []) = Operand
 plain_part (c ∷ d ∷ cs) = if c == 45 then dashed_part d cs else Operand
 
+-- what a word is behind an option that has a value
+abbrev pub value_part : OptionName → Bool → Part
+value_part option true = Value option
+value_part option false = Unknown
+
 -- what a word is
 abbrev pub part_of : Expected → List ℕ → Part
 part_of expected.Any word = plain_part word
-part_of (expected.Value option) word = Value option
+part_of (expected.Value option) word = value_part option (follows option word)
 part_of expected.Operand word = Operand
 
 -- what stands next behind a part
@@ -88,6 +93,10 @@ values_in option Operand word = []
 values_in option End word = []
 values_in option (Name given) word = []
 values_in option Unknown word = []
+
+-- where a part says that a value begins in a word, a character begins
+abbrev pub IsCut : Part → List ℕ → Type 0
+IsCut part word = (option : OptionName) (from : ℕ) → part ≡ Joined option from → IsCharBoundary word from
 
 -- the piece that a part makes up, if it makes one up
 abbrev pub pieces_in : Part → List ℕ → List Piece

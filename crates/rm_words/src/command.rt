@@ -1,6 +1,6 @@
 // Commands with their operands and options.
-ghost use Rattle.std.specs.Prelude.{◌≡◌, ◌≤◌, length, drop, MatchOption};
-ghost use Rattle.rm_words.specs.Grammar.{AreOptions, Options, StandFor, is_name, lead_of, operands, port_of, setting, values_of};
+ghost use Rattle.std.specs.Prelude.{◌≡◌, ◌≤◌, length, drop, IfSome, MatchOption};
+ghost use Rattle.rm_words.specs.Grammar.{AreOptions, Options, StandFor, lead_of, operands, port_of, setting, values_of};
 ghost use Rattle.rm_words.specs.Grammar.{Command as Meant};
 ghost use Rattle.rm_words.specs.Parts.{pieces_from};
 ghost use Rattle.rm_words.specs.Told.{AreThreeTexts, AreTwoTexts, IsOneText, IsRead, command_of, options_of};
@@ -8,26 +8,27 @@ ghost use Rattle.rm_words.specs.declared.names.CommandName.TheVariants.{Decode, 
 ghost use Rattle.rm_words.specs.declared.names.OptionName.TheVariants.{TrapPort};
 ghost use Rattle.rm_words.specs.declared.parts.Expected.TheVariants.{Any};
 
+use crate::captures::Captures;
 use crate::names::{CommandName, OptionName};
 use crate::options::RunOptions;
 use crate::scan::{are_whole, community_of, is_given, number_of, operand};
-use crate::values::{is_hex, number, port};
+use crate::values::{is_hex, is_name, number, port};
 use rm_edge::Words;
 use rm_settings::Settings;
 
 /// A command, with its operands and options.
 #[derive(Drop)]
 pub enum Command<'a> {
-    /// Replays a capture against the datagrams of a request file.
+    /// Replays captures against the datagrams of a request file.
     Replay {
-        capture: &'a str,
+        captures: Captures<'a>,
         requests: &'a str,
         options: RunOptions,
     },
-    /// Answers as many datagrams as `count` says, 1 to 1,000,000, that come to a port of UDP, while the frames of a capture pass.
+    /// Answers as many datagrams as `count` says, 1 to 1,000,000, that come to a port of UDP, while the frames of captures pass.
     /// Notifications are sent to the port `trap_port`. A port is 1 to 65535.
     Serve {
-        capture: &'a str,
+        captures: Captures<'a>,
         port: u16,
         count: u32,
         trap_port: u16,
@@ -59,7 +60,9 @@ pub enum Command<'a> {
 /// option stands once at most, as `--name value` or `--name=value`, and its name isn't shortened; `--keep-short` has no value.
 /// Behind a word `--` all words are operands. Before it, a word that begins with a dash and has more characters is an option.
 /// An operand isn't empty. Octets are an even number of hexadecimal digits, at most 131,070. A number is one to ten decimal digits
-/// within its range, and a community 1 to 64 characters from `!` to `~` that don't begin with a dash.
+/// within its range, and a community 1 to 64 characters from `!` to `~` that don't begin with a dash. The captures of interfaces 2 to 4
+/// aren't empty and, as words of their own, don't begin with a dash; each of their options stands only where those of the lower
+/// interfaces do.
 pub fn read_command(words: &Words) -> Option<Command<'_>>
     ensures { MatchOption result ((command : Meant) → StandFor words.now command → ⊥) (λ found. StandFor words.now (command_of found)) }
 {
@@ -98,9 +101,10 @@ fn read_replay(words: &Words) -> Option<Command<'_>>
     if !is_name(capture) || !is_name(requests) {
         return None;
     }
-    let options = run_options(words)?;
+    let captures = Captures::read(words, capture)?;
+    let options = run_options(words, captures.count())?;
     Some(Command::Replay {
-        capture,
+        captures,
         requests,
         options,
     })
@@ -115,12 +119,14 @@ fn read_serve(words: &Words) -> Option<Command<'_>>
     if !is_name(capture) {
         return None;
     }
+    let captures = Captures::read(words, capture)?;
+    let options = run_options(words, captures.count())?;
     Some(Command::Serve {
-        capture,
+        captures,
         port: port(port_text.as_bytes())?,
         count: number(count_text.as_bytes(), 1, 1_000_000)?,
         trap_port: trap_port_of(words)?,
-        options: run_options(words)?,
+        options,
     })
 }
 
@@ -161,7 +167,7 @@ fn read_load(words: &Words) -> Option<Command<'_>>
     Some(Command::Load {
         start: number(start_text.as_bytes(), 0, 2_147_483_647)?,
         count: number(count_text.as_bytes(), 1, 10_000_000)?,
-        options: run_options(words)?,
+        options: run_options(words, 1)?,
     })
 }
 
@@ -204,12 +210,6 @@ fn three_operands(words: &Words) -> Option<(&str, &str, &str)>
     Some((first, second, third))
 }
 
-fn is_name(text: &str) -> bool
-    ensures { result ≡ is_name text.now }
-{
-    !text.is_empty()
-}
-
 // The moment of the first frame, in milliseconds.
 fn lead_of(words: &Words) -> Option<u32>
     requires { 1 ≤ length words.now }
@@ -227,18 +227,21 @@ fn trap_port_of(words: &Words) -> Option<u16>
     Some(number as u16)
 }
 
-// The options of a run.
-fn run_options(words: &Words) -> Option<RunOptions>
-    requires { 1 ≤ length words.now }
-    ensures { MatchOption result ((options : Options) → AreOptions (pieces_from Any (drop 1 words.now)) options → ⊥)
+// The options of a run with so many interfaces.
+fn run_options(words: &Words, interfaces: u32) -> Option<RunOptions>
+    requires words { 1 ≤ length words.now }
+    requires some { 1 ≤ interfaces }
+    requires few { interfaces ≤ 4 }
+    ensures read { MatchOption result ((options : Options) → AreOptions (pieces_from Any (drop 1 words.now)) options → ⊥)
         (λ found. AreOptions (pieces_from Any (drop 1 words.now)) (options_of found)) }
+    ensures set { IfSome result (λ found. found.settings.interfaces ≡ interfaces) }
 {
     let settings = Settings {
         hosts: number_of(words, OptionName::Hosts, 2, 4096, 1024)?,
         pairs: number_of(words, OptionName::Pairs, 2, 4096, 1024)?,
         upper: number_of(words, OptionName::Upper, 2, 1024, 1024)?,
         keep_short: is_given(words, OptionName::KeepShort)?,
-        interfaces: 1,
+        interfaces,
         read: community_of(words, OptionName::Read, b"public")?,
         write: community_of(words, OptionName::Write, b"private")?,
     };

@@ -1,6 +1,6 @@
 // The names of commands and of options.
 ghost use Rattle.std.specs.Prelude.{◌≡◌};
-ghost use Rattle.rm_words.specs.Names.{word_of, name_of, command_named, option_named, takes, takes_value};
+ghost use Rattle.rm_words.specs.Names.{word_of, name_of, command_named, option_named, takes, takes_value, is_dashed, follows};
 
 /// The word that a command begins with.
 #[derive(Clone, Copy, Debug, PartialEq, Eq)]
@@ -31,6 +31,12 @@ pub enum OptionName {
     Write,
     /// The port that notifications are sent to.
     TrapPort,
+    /// The capture of interface 2.
+    If2,
+    /// The capture of interface 3.
+    If3,
+    /// The capture of interface 4.
+    If4,
 }
 
 /// All commands.
@@ -43,7 +49,7 @@ const COMMANDS: [CommandName; 5] = [
 ];
 
 /// All options.
-const OPTIONS: [OptionName; 8] = [
+const OPTIONS: [OptionName; 11] = [
     OptionName::Hosts,
     OptionName::Pairs,
     OptionName::Upper,
@@ -52,6 +58,9 @@ const OPTIONS: [OptionName; 8] = [
     OptionName::Read,
     OptionName::Write,
     OptionName::TrapPort,
+    OptionName::If2,
+    OptionName::If3,
+    OptionName::If4,
 ];
 
 impl CommandName {
@@ -110,6 +119,9 @@ impl OptionName {
             OptionName::Read => b"read",
             OptionName::Write => b"write",
             OptionName::TrapPort => b"trap-port",
+            OptionName::If2 => b"if2",
+            OptionName::If3 => b"if3",
+            OptionName::If4 => b"if4",
         }
     }
 
@@ -126,5 +138,24 @@ impl OptionName {
         ensures { result ≡ takes_value self }
     {
         !matches!(self, OptionName::KeepShort)
+    }
+
+    /// Whether a word may follow it as its value. Where the value is the name of a file, such a word doesn't begin with a dash.
+    pub fn is_followed_by(self, word: &[u8]) -> bool
+        ensures { result ≡ follows self word.now }
+    {
+        match self {
+            OptionName::If2 | OptionName::If3 | OptionName::If4 => !is_dashed(word),
+            _ => true,
+        }
+    }
+}
+
+fn is_dashed(word: &[u8]) -> bool
+    ensures { result ≡ is_dashed word.now }
+{
+    match word {
+        [first, ..] => *first == b'-',
+        [] => false,
     }
 }

@@ -1,6 +1,6 @@
 // What a word is, by the words before it.
 ghost use Rattle.std.specs.Prelude.{◌≡◌, [], ◌∷◌, MatchOption, position};
-ghost use Rattle.rm_words.specs.Parts.{part_of, plain_part, named_part, next_of, is_equals, is_operand, values_in, may_stand};
+ghost use Rattle.rm_words.specs.Parts.{part_of, plain_part, named_part, next_of, is_equals, is_operand, values_in, may_stand, IsCut};
 
 use crate::names::{CommandName, OptionName};
 
@@ -29,7 +29,7 @@ pub enum Part {
     Joined(OptionName, usize),
     /// The value of an option.
     Value(OptionName),
-    /// It begins with a dash and isn't an option.
+    /// It begins with a dash, and is neither an option nor the value of one.
     Unknown,
 }
 
@@ -40,7 +40,8 @@ impl Expected {
     {
         match self {
             Expected::Any => plain_part(word),
-            Expected::Value(option) => Part::Value(option),
+            Expected::Value(option) if option.is_followed_by(word) => Part::Value(option),
+            Expected::Value(_) => Part::Unknown,
             Expected::Operand => Part::Operand,
         }
     }
@@ -116,12 +117,13 @@ impl Part {
     }
 
     /// The value that the word gives the option. An option without a value is given no octets.
-    pub fn value_for<'a>(self, option: OptionName, word: &'a [u8]) -> Option<&'a [u8]>
+    pub fn value_for<'a>(self, option: OptionName, word: &'a str) -> Option<&'a str>
+        requires { IsCut self word.now }
         ensures { MatchOption result (values_in option self word.now ≡ []) (λ value. values_in option self word.now ≡ value.now ∷ []) }
     {
         let (given, value) = match self {
-            Part::Flag(given) => (given, &word[..0]),
-            Part::Joined(given, from) => (given, word.get(from..).unwrap_or(&[])),
+            Part::Flag(given) => (given, ""),
+            Part::Joined(given, from) => (given, word.split_at(from).1),
             Part::Value(given) => (given, word),
             _ => return None,
         };

@@ -1,20 +1,20 @@
 // What stands behind the word of a command.
-ghost use Rattle.std.specs.Prelude.{◌≡◌, ◌≤◌, length, drop, IfSome, MatchOption, slice_get, Some, None, false};
-ghost use Rattle.rm_words.specs.Grammar.{operands, values_of, number_within, community_of, is_given, setting};
+ghost use Rattle.std.specs.Prelude.{◌≡◌, ◌≤◌, [], length, drop, IfSome, MatchOption, slice_get, Some, None, false};
+ghost use Rattle.rm_words.specs.Grammar.{operands, values_of, number_within, community_of, is_given, named, setting};
 ghost use Rattle.rm_words.specs.Parts.{are_whole, pieces_from};
-ghost use Rattle.rm_words.specs.Scan.{IsGiven};
+ghost use Rattle.rm_words.specs.Scan.{IsGiven, so_far};
 ghost use Rattle.rm_words.specs.declared.parts.Expected.TheVariants.{Any};
 
 use crate::names::{CommandName, OptionName};
 use crate::parts::Expected;
-use crate::values::{community, kept, number};
+use crate::values::{community, is_name, kept, number};
 use rm_edge::Words;
 use rm_settings::Community;
 
 /// What an option is given.
 pub enum Given<'a> {
     Nothing,
-    Once(&'a [u8]),
+    Once(&'a str),
     Again,
 }
 
@@ -64,8 +64,8 @@ pub fn value_of(words: &Words, option: OptionName) -> Given<'_>
     let mut expected = Expected::Any;
     let mut given = None;
     for place in 1..words.len() {
-        let word = words.at(place).as_bytes();
-        let part = expected.part(word);
+        let word = words.at(place);
+        let part = expected.part(word.as_bytes());
         if let Some(value) = part.value_for(option, word) {
             if given.is_some() {
                 return Given::Again;
@@ -96,7 +96,7 @@ pub fn number_of(
 {
     match value_of(words, option) {
         Given::Nothing => Some(default),
-        Given::Once(value) => number(value, low, high),
+        Given::Once(value) => number(value.as_bytes(), low, high),
         Given::Again => None,
     }
 }
@@ -112,7 +112,7 @@ pub fn community_of(words: &Words, option: OptionName, default: &[u8]) -> Option
 {
     match value_of(words, option) {
         Given::Nothing => Some(kept(default)),
-        Given::Once(value) => community(value),
+        Given::Once(value) => community(value.as_bytes()),
         Given::Again => None,
     }
 }
@@ -125,6 +125,24 @@ pub fn is_given(words: &Words, option: OptionName) -> Option<bool>
     match value_of(words, option) {
         Given::Nothing => Some(false),
         Given::Once(_) => Some(true),
+        Given::Again => None,
+    }
+}
+
+/// The name of a file that an option sets, if it sets one. None comes where it is given twice, or an empty name.
+pub fn file_of(words: &Words, option: OptionName) -> Option<Option<&str>>
+    requires { 1 ≤ length words.now }
+    ensures { MatchOption result (setting [] named (values_of option (pieces_from Any (drop 1 words.now))) ≡ None)
+        (λ name. setting [] named (values_of option (pieces_from Any (drop 1 words.now))) ≡ Some (so_far name)) }
+{
+    match value_of(words, option) {
+        Given::Nothing => Some(None),
+        Given::Once(name) => {
+            if !is_name(name) {
+                return None;
+            }
+            Some(Some(name))
+        }
         Given::Again => None,
     }
 }

@@ -2,11 +2,18 @@
 ghost use Rattle.std.specs.Prelude.{◌≡◌, ◌≤◌, IfSome, IsTrue, MatchOption, Some, None, length};
 ghost use Rattle.std.specs.List.{list_all};
 ghost use Rattle.std.specs.Char.{is_ascii_graphic, is_ascii_hexdigit};
-ghost use Rattle.rm_words.specs.Grammar.{number_within, port_of, community_of, is_community, is_hex};
+ghost use Rattle.rm_words.specs.Grammar.{number_within, port_of, community_of, is_community, is_hex, is_name};
 
 use arrayvec::ArrayVec;
 use rm_edge::read_number;
 use rm_settings::Community;
+
+/// Whether a text may be the name of a file: it isn't empty.
+pub fn is_name(text: &str) -> bool
+    ensures { result ≡ is_name text.now }
+{
+    !text.is_empty()
+}
 
 /// The number that one to ten decimal digits are, if it is within a range.
 #[tactic(auto, unfolding(crate::specs::Grammar::number_within, rm_edge::specs::Digits::number_in))]
