@@ -1,6 +1,7 @@
 -- Facts of the command that words stand for, and of its operands.
-use Rattle.std.proofs.Common.{◌≡◌, ◌≤◌, ◌⊎◌, inl, inr, ℕ, ◌-◌, ◌%◌, List, [], ◌∷◌, length, Bool, true, false, Result, Ok, Err, Option, Some, None, refl, subst, eqb-true, leb-true, arith}
+use Rattle.std.proofs.Common.{◌≡◌, ◌≤◌, ◌⊎◌, inl, inr, ℕ, ◌-◌, ◌%◌, List, [], ◌∷◌, ◌++◌, length, Bool, true, false, Result, Ok, Err, Option, Some, None, refl, ap, subst, ◌∙◌, eqb-true, leb-true, arith}
 use Rattle.std.specs.Prelude.{◌&&◌, ◌||◌, ◌==◌, nat_le, if◌then◌else◌, is_some}
+use Rattle.std.specs.Borrow.{Bor}
 use Rattle.std.specs.List.{list_all}
 use Rattle.std.specs.Char.{is_ascii_hexdigit}
 use Rattle.std.specs.Str.{all_ascii_digits}
@@ -8,14 +9,14 @@ use Rattle.std.specs.Str.Parse.{digits_value}
 use Rattle.std.proofs.lemmas.List.Sums.{AllPass-from_list_all}
 use Rattle.hex.specs.Hex.{decode_of, is_hex_digit}
 use Rattle.hex.proofs.HexLemmas.{decode_of-digits}
-use Rattle.rm_words.specs.Grammar.{Command, Options, decode, load, StandFor, for_decode, for_load, is_hex, number_within}
-use Rattle.rm_words.specs.Told.{options_of}
+use Rattle.rm_words.specs.Grammar.{Command, Options, replay, serve, decode, load, StandFor, for_replay, for_serve, for_decode, for_load, is_hex, number_within}
+use Rattle.rm_words.specs.Scan.{so_far}
+use Rattle.rm_words.specs.Told.{captures_of, options_of}
+use Rattle.rm_words.specs.declared.captures.Captures.{Captures}
 use Rattle.rm_words.specs.declared.options.RunOptions.{RunOptions}
 use Rattle.rm_edge.specs.Outside.{Rose}
 use Rattle.rm_edge.specs.Uses.{SinkUse, HasPutFault}
-use Rattle.rm_pcap.specs.declared.fault.PcapFault.{PcapFault}
-use Rattle.rm_pcap.specs.declared.fault.PcapFault.TheVariants.{Magic, Version, LinkType, Included, Original, Late, TooMany, Read, NoMemory as OutOfMemory}
-use Rattle.rm_probe.specs.Capture.{status_of}
+use Rattle.rm_probe.specs.Capture.{given, names_of}
 use Rattle.rm_probe.specs.declared.status.Status.{Status}
 use Rattle.rm_probe.specs.declared.status.Status.TheVariants.{Done, Usage, BadCapture, BadRequests, ReadFault, WriteFault, NoMemory, LinkFault, TooLong}
 use Rattle.rm_load.specs.Ends.{Ends as LoadEnds}
@@ -30,7 +31,28 @@ of_each one words known P stands here command is = subst P (one words known comm
 
 -- a probe is set to its options
 pub are_set : (options : RunOptions) → AreSet options.settings (options_of options)
-are_set options = record { hosts = refl; pairs = refl; upper = refl; keep_short = refl; read = refl; write = refl }
+are_set options = record { hosts = refl; pairs = refl; upper = refl; keep_short = refl; interfaces = refl; read = refl; write = refl }
+
+-- the captures of a run are those of its words
+given_is : (name : Option (Bor (List ℕ))) → given name ≡ so_far name
+given_is None = refl
+given_is (Some name) = refl
+
+pub names_are : (captures : Captures) → names_of captures.capture.now captures.if2 captures.if3 captures.if4 ≡ captures_of captures
+names_are captures =
+    ap (λ (names : List (List ℕ)). captures.capture.now ∷ names ++ given captures.if3 ++ given captures.if4) (given_is captures.if2)
+    ∙ ap (λ (names : List (List ℕ)). captures.capture.now ∷ so_far captures.if2 ++ names ++ given captures.if4) (given_is captures.if3)
+    ∙ ap (λ (names : List (List ℕ)). captures.capture.now ∷ so_far captures.if2 ++ so_far captures.if3 ++ names) (given_is captures.if4)
+
+pub by_names : (captures : Captures) (P : List (List ℕ) → Type 0) → P (names_of captures.capture.now captures.if2 captures.if3 captures.if4) → P (captures_of captures)
+by_names captures P here = subst P (names_are captures) here
+
+-- as many interfaces as captures
+pub many_replayed : (words captures : List (List ℕ)) (requests : List ℕ) (options : Options) → StandFor words (replay captures requests options) → options.interfaces ≡ length captures
+many_replayed words captures requests options (for_replay word others pieces names asked chosen is spells are) = are.interfaces_are
+
+pub many_served : (words captures : List (List ℕ)) (port count trap_port : ℕ) (options : Options) → StandFor words (serve captures port count trap_port options) → options.interfaces ≡ length captures
+many_served words captures port count trap_port options (for_serve word others pieces names from many to chosen is spells are) = are.interfaces_are
 
 -- `decode` without a failed put is done, or found no memory
 pub done_or_none : (octets : List ℕ) (writes writes' : ℕ) (old new : Option (List ℕ)) (result : Status) → Decodes octets writes writes' old new result
@@ -39,7 +61,7 @@ done_or_none octets writes writes' old new Done is none = inl refl
 done_or_none octets writes writes' old new NoMemory is none = inr refl
 done_or_none octets writes writes' old new WriteFault is none = absurd (none is.0)
 done_or_none octets writes writes' old new Usage is none = absurd is
-done_or_none octets writes writes' old new (BadCapture at) is none = absurd is
+done_or_none octets writes writes' old new (BadCapture interface at) is none = absurd is
 done_or_none octets writes writes' old new (BadRequests line) is none = absurd is
 done_or_none octets writes writes' old new ReadFault is none = absurd is
 done_or_none octets writes writes' old new LinkFault is none = absurd is
@@ -54,18 +76,6 @@ loaded_or_none options start count out result is none = by_answer is.answer is.r
     by_answer (Ok done) same ends = inl same
     by_answer (Err load_fault.NoMemory) same ends = inr same
     by_answer (Err load_fault.Put) same ends = absurd (none ends.0)
-
--- a fault of a capture is no fault of the words
-pub no_usage : (fault : PcapFault) → status_of fault ≡ Usage → ⊥
-no_usage Magic is = cc
-no_usage Version is = cc
-no_usage LinkType is = cc
-no_usage (Included at) is = cc
-no_usage (Original at) is = cc
-no_usage (Late at) is = cc
-no_usage TooMany is = cc
-no_usage Read is = cc
-no_usage OutOfMemory is = cc
 
 -- the operand of `decode` is octets in hexadecimal digits
 pub digits_of : (words : List (List ℕ)) (hex : List ℕ) → StandFor words (decode hex) → is_hex hex ≡ true

@@ -1,11 +1,12 @@
 -- What commands ask for.
-use Rattle.std.specs.Prelude.{◌≡◌, ◌⊎◌, ℕ, Bool, List, Option, Result, Ok, Err, false, ⊤}
+use Rattle.std.specs.Prelude.{◌≡◌, ◌⊎◌, ℕ, Bool, List, map, Option, Result, Ok, Err, false, ⊤}
 use Rattle.hex.specs.Hex.{decode_of}
 use Rattle.rm_edge.specs.Outside.{Adds, AddsFront, Rose}
 use Rattle.rm_pdu.specs.Parse.{Parse, IsParse}
 use Rattle.rm_decode.specs.Text.{text_of}
 use Rattle.rm_settings.specs.declared.settings.Settings.{Settings}
-use Rattle.rm_probe.specs.Capture.{status_of}
+use Rattle.rm_captures.specs.Reading.{IsOneOf}
+use Rattle.rm_probe.specs.Capture.{status_by}
 use Rattle.rm_probe.specs.Ends.{Ends, IsComplete, IsExact}
 use Rattle.rm_probe.specs.Serving.{Serves, ServesExactly, local_port}
 use Rattle.rm_edge.specs.Uses.{FileUse, SinkUse, LinkUse, ClockUse}
@@ -20,13 +21,13 @@ use Rattle.rm_load.specs.declared.entry.LoadFault.TheVariants as load_fault
 use Rattle.rm_words.specs.Grammar.{Options, Command, replay, serve, summary, decode, load, StandFor}
 
 -- the words stand for `replay`, and this is a fact of its operands and options
-abbrev pub OfReplay : List (List ℕ) → (List ℕ → List ℕ → Options → Type 0) → Type 0
-OfReplay words P = (capture requests : List ℕ) (options : Options) → StandFor words (replay capture requests options) → P capture requests options
+abbrev pub OfReplay : List (List ℕ) → (List (List ℕ) → List ℕ → Options → Type 0) → Type 0
+OfReplay words P = (captures : List (List ℕ)) (requests : List ℕ) (options : Options) → StandFor words (replay captures requests options) → P captures requests options
 
 -- the words stand for `serve`, and this is a fact of its operands and options
-abbrev pub OfServe : List (List ℕ) → (List ℕ → ℕ → ℕ → ℕ → Options → Type 0) → Type 0
-OfServe words P = (capture : List ℕ) (port count trap_port : ℕ) (options : Options) → StandFor words (serve capture port count trap_port options)
-    → P capture port count trap_port options
+abbrev pub OfServe : List (List ℕ) → (List (List ℕ) → ℕ → ℕ → ℕ → Options → Type 0) → Type 0
+OfServe words P = (captures : List (List ℕ)) (port count trap_port : ℕ) (options : Options) → StandFor words (serve captures port count trap_port options)
+    → P captures port count trap_port options
 
 -- the words stand for `summary`, and this is a fact of its operand, and of the moment of the first frame and whether short frames are kept
 abbrev pub OfSummary : List (List ℕ) → (List ℕ → ℕ → Bool → Type 0) → Type 0
@@ -42,8 +43,8 @@ OfLoad words P = (start count : ℕ) (options : Options) → StandFor words (loa
 
 -- the command reads the file of that name
 abbrev pub Reads : Command → List ℕ → Type 0
-Reads (replay capture requests options) name = (name ≡ capture) ⊎ (name ≡ requests)
-Reads (serve capture port count trap_port options) name = name ≡ capture
+Reads (replay captures requests options) name = IsOneOf captures name ⊎ (name ≡ requests)
+Reads (serve captures port count trap_port options) name = IsOneOf captures name
 Reads (summary capture lead keep_short) name = name ≡ capture
 Reads (decode hex) name = ⊥
 Reads (load start count options) name = ⊥
@@ -54,7 +55,7 @@ IsFileOf words name = (command : Command) × StandFor words command × Reads com
 
 -- the command binds a port
 abbrev pub HasPort : Command → Type 0
-HasPort (serve capture port count trap_port options) = ⊤
+HasPort (serve captures port count trap_port options) = ⊤
 HasPort command = ⊥
 
 -- the words stand for a command that binds one
@@ -75,31 +76,32 @@ pub record AreSet (settings : Settings) (options : Options) : Type 0 where
   pub pairs : settings.pairs ≡ options.pairs
   pub upper : settings.upper ≡ options.upper
   pub keep_short : settings.keep_short ≡ options.keep_short
+  pub interfaces : settings.interfaces ≡ options.interfaces
   pub read : settings.read.items ≡ options.read
   pub write : settings.write.items ≡ options.write
 
 -- how `replay` ends with these options: as a run of a probe that is set to them
-pub record EndsWith (options : Options) (capture requests : FileUse) (out : SinkUse) (result : Status) : Type 0 where
+pub record EndsWith (options : Options) (captures : List FileUse) (requests : FileUse) (out : SinkUse) (result : Status) : Type 0 where
   pub settings : Settings
   pub set : AreSet settings options
-  pub ends : Ends settings options.lead capture requests out result
+  pub ends : Ends settings options.lead captures requests out result
 
 -- how `serve` ends with these options: as a run of a probe that is set to them, whose notifications go to the trap port of this machine
-pub record ServesWith (options : Options) (port count trap_port : ℕ) (capture : FileUse) (out : SinkUse) (link : LinkUse) (clock : ClockUse) (result : Status) : Type 0 where
+pub record ServesWith (options : Options) (port count trap_port : ℕ) (captures : List FileUse) (out : SinkUse) (link : LinkUse) (clock : ClockUse) (result : Status) : Type 0 where
   pub settings : Settings
   pub set : AreSet settings options
-  pub serves : Serves settings options.lead port count (local_port trap_port) capture out link clock result
+  pub serves : Serves settings options.lead port count (local_port trap_port) captures out link clock result
 
--- how a run ends by the answer of a summary
-abbrev pub status_by : {T : Type 0} → Result T SummaryFault → Status
-status_by (Ok done) = Done
-status_by (Err (Capture fault)) = status_of fault
-status_by (Err Put) = WriteFault
+-- how a run ends by the answer of a summary, whose capture is that of interface 1
+abbrev pub status_of_summary : {T : Type 0} → Result T SummaryFault → Status
+status_of_summary (Ok done) = Done
+status_of_summary (Err (Capture fault)) = status_by 1 fault
+status_of_summary (Err Put) = WriteFault
 
 -- How `summary` ends: by the answer of the summary of that capture, which is exact.
 pub record Summarizes (lead : ℕ) (keep_short : Bool) (capture : FileUse) (out : SinkUse) (result : Status) : Type 0 where
   pub answer : Result (Unit {0}) SummaryFault
-  pub result_is : result ≡ status_by answer
+  pub result_is : result ≡ status_of_summary answer
   pub sums : Sums lead keep_short capture out answer
   pub exact : SumsExactly lead keep_short capture out answer
 
@@ -127,10 +129,11 @@ pub record LoadsWith (options : Options) (start count : ℕ) (out : SinkUse) (re
 
 -- What a command does, by what is found and left of each file, of the output, of a link and of a clock.
 abbrev pub Does : (List ℕ → FileUse) → SinkUse → LinkUse → ClockUse → Status → Command → Type 0
-Does file out link clock result (replay capture requests options) = EndsWith options (file capture) (file requests) out result
-    × IsExact options.lead (file capture).held (file requests).held result × IsComplete options.lead (file capture) (file requests) out result
-Does file out link clock result (serve capture port count trap_port options) = ServesWith options port count trap_port (file capture) out link clock result
-    × ServesExactly options.lead (file capture) out link result
+Does file out link clock result (replay captures requests options) = EndsWith options (map file captures) (file requests) out result
+    × IsExact options.lead (map (λ (name : List ℕ). (file name).held) captures) (file requests).held result
+    × IsComplete options.lead (map file captures) (file requests) out result
+Does file out link clock result (serve captures port count trap_port options) = ServesWith options port count trap_port (map file captures) out link clock result
+    × ServesExactly options.lead (map file captures) out link result
 Does file out link clock result (summary capture lead keep_short) = Summarizes lead keep_short (file capture) out result
 Does file out link clock result (decode hex) = (octets : List ℕ) × (decode_of hex ≡ Ok octets)
     × Decodes octets out.faults out.faults_after out.content out.content_after result

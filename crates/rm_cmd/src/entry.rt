@@ -1,24 +1,29 @@
 // Runs the words of a command line.
-ghost use Rattle.std.specs.Prelude.{◌≡◌, ◌≢◌, ◌↔◌, ◌⊎◌, ◌≤◌, ℕ, List, Ok, true};
+ghost use Rattle.std.specs.Prelude.{◌≡◌, ◌≢◌, ◌↔◌, ◌⊎◌, ◌≤◌, ℕ, List, length, map, Ok, true};
 ghost use Rattle.hex.specs.Hex.{decode_of};
 ghost use Rattle.rm_edge.specs.Outside.{Rose};
 ghost use Rattle.rm_edge.specs.Shelves.{KeepsShelf};
 ghost use Rattle.rm_edge.specs.Uses.{clock_use, file_use, link_use, sink_use};
 ghost use Rattle.rm_words.specs.Grammar.{Command as Meant, StandFor, is_hex};
-ghost use Rattle.rm_words.specs.Told.{command_of, options_of};
+ghost use Rattle.rm_words.specs.Told.{captures_of, command_of, options_of};
+ghost use Rattle.rm_captures.specs.Reading.{IsOneOf};
 ghost use Rattle.rm_probe.specs.Ends.{IsComplete, IsExact};
 ghost use Rattle.rm_probe.specs.Serving.{IsIdle, ServesExactly};
 ghost use Rattle.rm_probe.specs.declared.status.Status.TheVariants.{Done, LinkFault, NoMemory, ReadFault, Usage};
 ghost use Rattle.rm_cmd.specs.Commands.{AreUnused, Decodes, Does, EndsWith, HasPort, HavePort, IsFileOf, LoadsWith, OfDecode, OfLoad, OfReplay, OfServe, OfSummary, Reads, ServesWith, Summarizes};
 
+use rm_captures::CaptureFault;
 use rm_decode::Unwritten;
 use rm_edge::{Clock, Link, Shelf, Sink, Words};
 use rm_load::LoadFault;
 use rm_probe::Status;
 use rm_settings::Settings;
 use rm_summary::SummaryFault;
-use rm_words::{Command, RunOptions, one_command, read_command};
+use rm_words::{Captures, Command, RunOptions, one_command, read_command};
 use std::alloc::Global;
+
+/// The interface of a command that has one capture.
+const ALONE: u32 = 1;
 
 /// Runs the words of a command line.
 ///
@@ -28,13 +33,15 @@ use std::alloc::Global;
 /// capture has. `decode HEX` writes what the octets are that the digits stand for, read as a message. `load START N` with its options makes
 /// so many frames from a number, and writes what tables of a probe show after them. Words that stand for no command are `Usage`.
 ///
-/// `replay` judges the capture first, a record at a time, and then the request file, a line at a time. Only then is anything
-/// written, and both are read again meanwhile. After its `WriteFault` and `ReadFault` a front of the text may have been
-/// written. Over a shelf that tells what it holds, nothing was written after the others but `Done`. Over one that
-/// doesn't, the files may be other ones when they are read again, and `BadCapture`, `BadRequests` and `TooLong` may come
-/// after lines were written.
+/// With `replay` and `serve` CAPTURE is that of interface 1, and the options `--if2`, `--if3` and `--if4` name those of other interfaces.
 ///
-/// `serve` judges the capture so too, and only then is the port bound. After its `WriteFault`, `ReadFault` and `LinkFault` a front of the
+/// `replay` judges the captures first, in two rounds: in order of interface the header of each and the two lengths of its first record, and
+/// then the whole of each. Behind them it judges the request file, a line at a time. Only then is anything written, and all are read again
+/// meanwhile. After its `WriteFault` and `ReadFault` a front of the text may have been written. Over a shelf that tells what it holds,
+/// nothing was written after the others but `Done`. Over one that doesn't, the files may be other ones when they are read again, and
+/// `BadCapture`, `BadRequests` and `TooLong` may come after lines were written.
+///
+/// `serve` judges the captures so too, and only then is the port bound. After its `WriteFault`, `ReadFault` and `LinkFault` a front of the
 /// text may have been written, and of the messages of its whole lines the first ones sent. Nothing was written or sent after the others
 /// but `Done`, with the same exception. No other command calls the link, and only with `serve` comes `LinkFault`.
 ///
@@ -50,22 +57,22 @@ pub fn run<F: Shelf, K: Sink, L: Link, T: Clock>(
 ) -> Status
     ensures usage { (result ≡ Usage) ↔ ((command : Meant) → StandFor words.now command → ⊥) }
 
-    // How `replay` ends, status by status. With `Done`, where octets are told, those added are exactly a text of both files.
-    ensures ends { OfReplay words.now (λ capture requests options.
-        EndsWith options (file_use F.held F.faults shelf.old shelf.new capture) (file_use F.held F.faults shelf.old shelf.new requests)
+    // How `replay` ends, status by status. With `Done`, where octets are told, those added are exactly a text of all files.
+    ensures ends { OfReplay words.now (λ captures requests options.
+        EndsWith options (map (file_use F.held F.faults shelf.old shelf.new) captures) (file_use F.held F.faults shelf.old shelf.new requests)
         (sink_use K.content K.faults out.old out.new) result) }
-    ensures exact { OfReplay words.now (λ capture requests options. IsExact options.lead (F.held shelf.old capture) (F.held shelf.old requests) result) }
-    ensures complete { OfReplay words.now (λ capture requests options.
-        IsComplete options.lead (file_use F.held F.faults shelf.old shelf.new capture) (file_use F.held F.faults shelf.old shelf.new requests)
+    ensures exact { OfReplay words.now (λ captures requests options. IsExact options.lead (map (F.held shelf.old) captures) (F.held shelf.old requests) result) }
+    ensures complete { OfReplay words.now (λ captures requests options.
+        IsComplete options.lead (map (file_use F.held F.faults shelf.old shelf.new) captures) (file_use F.held F.faults shelf.old shelf.new requests)
         (sink_use K.content K.faults out.old out.new) result) }
 
-    // `serve` too: with `Done` so many datagrams were received, the octets added are exactly the text of the capture and of them, and
+    // `serve` too: with `Done` so many datagrams were received, the octets added are exactly the text of the captures and of them, and
     // the datagrams sent are exactly its messages.
-    ensures serves { OfServe words.now (λ capture port count trap_port options.
-        ServesWith options port count trap_port (file_use F.held F.faults shelf.old shelf.new capture) (sink_use K.content K.faults out.old out.new)
+    ensures serves { OfServe words.now (λ captures port count trap_port options.
+        ServesWith options port count trap_port (map (file_use F.held F.faults shelf.old shelf.new) captures) (sink_use K.content K.faults out.old out.new)
         (link_use L.bound L.received L.sent L.faults link.old link.new) (clock_use T.told clock.old clock.new) result) }
-    ensures serves_exactly { OfServe words.now (λ capture port count trap_port options.
-        ServesExactly options.lead (file_use F.held F.faults shelf.old shelf.new capture) (sink_use K.content K.faults out.old out.new)
+    ensures serves_exactly { OfServe words.now (λ captures port count trap_port options.
+        ServesExactly options.lead (map (file_use F.held F.faults shelf.old shelf.new) captures) (sink_use K.content K.faults out.old out.new)
         (link_use L.bound L.received L.sent L.faults link.old link.new) result) }
 
     // `summary` too: those added are exactly the summary of the capture.
@@ -123,18 +130,18 @@ fn run_command<F: Shelf, K: Sink, L: Link, T: Clock>(
 {
     match command {
         Command::Replay {
-            capture,
+            captures,
             requests,
             options,
-        } => run_replay(alloc, capture, requests, options, shelf, out),
+        } => run_replay(alloc, captures, requests, options, shelf, out),
         Command::Serve {
-            capture,
+            captures,
             port,
             count,
             trap_port,
             options,
         } => run_serve(
-            alloc, capture, port, count, trap_port, options, shelf, out, link, clock,
+            alloc, captures, port, count, trap_port, options, shelf, out, link, clock,
         ),
         Command::Summary {
             capture,
@@ -153,31 +160,43 @@ fn run_command<F: Shelf, K: Sink, L: Link, T: Clock>(
 // Runs `replay` with its operands and options.
 fn run_replay<F: Shelf, K: Sink>(
     alloc: Global,
-    capture: &str,
+    captures: Captures<'_>,
     requests: &str,
     options: RunOptions,
     shelf: &mut F,
     out: &mut K,
 ) -> Status
-    ensures ends { EndsWith (options_of options) (file_use F.held F.faults shelf.old shelf.new capture.now)
+    requires { options.settings.interfaces ≡ length (captures_of captures) }
+    ensures ends { EndsWith (options_of options) (map (file_use F.held F.faults shelf.old shelf.new) (captures_of captures.entry))
         (file_use F.held F.faults shelf.old shelf.new requests.now) (sink_use K.content K.faults out.old out.new) result }
-    ensures exact { IsExact options.lead (F.held shelf.old capture.now) (F.held shelf.old requests.now) result }
-    ensures complete { IsComplete options.lead (file_use F.held F.faults shelf.old shelf.new capture.now)
+    ensures exact { IsExact options.lead (map (F.held shelf.old) (captures_of captures.entry)) (F.held shelf.old requests.now) result }
+    ensures complete { IsComplete options.lead (map (file_use F.held F.faults shelf.old shelf.new) (captures_of captures.entry))
         (file_use F.held F.faults shelf.old shelf.new requests.now) (sink_use K.content K.faults out.old out.new) result }
     ensures silent { (result ≡ Usage) ⊎ (result ≡ NoMemory) → K.content out.new ≡ K.content out.old }
-    ensures shelf { KeepsShelf F.held F.faults shelf.old shelf.new (λ each. (each ≡ capture.now) ⊎ (each ≡ requests.now)) (result ≡ ReadFault) }
+    ensures shelf { KeepsShelf F.held F.faults shelf.old shelf.new (λ each. IsOneOf (captures_of captures.entry) each ⊎ (each ≡ requests.now)) (result ≡ ReadFault) }
     ensures later { K.faults out.old ≤ K.faults out.new }
     ensures command { (result ≢ Usage) × (result ≢ LinkFault) }
 {
     let lead = options.lead;
     let settings = options.settings;
-    rm_probe::replay(alloc, settings, lead, capture, requests, shelf, out)
+    rm_probe::replay(
+        alloc,
+        settings,
+        lead,
+        captures.capture,
+        captures.if2,
+        captures.if3,
+        captures.if4,
+        requests,
+        shelf,
+        out,
+    )
 }
 
 // Runs `serve` with its operands and options.
 fn run_serve<F: Shelf, K: Sink, L: Link, T: Clock>(
     alloc: Global,
-    capture: &str,
+    captures: Captures<'_>,
     port: u16,
     count: u32,
     trap_port: u16,
@@ -187,13 +206,14 @@ fn run_serve<F: Shelf, K: Sink, L: Link, T: Clock>(
     link: &mut L,
     clock: &mut T,
 ) -> Status
-    ensures serves { ServesWith (options_of options) port count trap_port (file_use F.held F.faults shelf.old shelf.new capture.now)
+    requires { options.settings.interfaces ≡ length (captures_of captures) }
+    ensures serves { ServesWith (options_of options) port count trap_port (map (file_use F.held F.faults shelf.old shelf.new) (captures_of captures.entry))
         (sink_use K.content K.faults out.old out.new) (link_use L.bound L.received L.sent L.faults link.old link.new) (clock_use T.told clock.old clock.new) result }
-    ensures exact { ServesExactly options.lead (file_use F.held F.faults shelf.old shelf.new capture.now) (sink_use K.content K.faults out.old out.new)
-        (link_use L.bound L.received L.sent L.faults link.old link.new) result }
+    ensures exact { ServesExactly options.lead (map (file_use F.held F.faults shelf.old shelf.new) (captures_of captures.entry))
+        (sink_use K.content K.faults out.old out.new) (link_use L.bound L.received L.sent L.faults link.old link.new) result }
     ensures silent { (result ≡ Usage) ⊎ (result ≡ NoMemory)
         → IsIdle (sink_use K.content K.faults out.old out.new) (link_use L.bound L.received L.sent L.faults link.old link.new) }
-    ensures shelf { KeepsShelf F.held F.faults shelf.old shelf.new (λ each. each ≡ capture.now) (result ≡ ReadFault) }
+    ensures shelf { KeepsShelf F.held F.faults shelf.old shelf.new (IsOneOf (captures_of captures.entry)) (result ≡ ReadFault) }
     ensures later { (K.faults out.old ≤ K.faults out.new) × (L.faults link.old ≤ L.faults link.new) }
     ensures link_fault { result ≡ LinkFault → Rose (L.faults link.old) (L.faults link.new) }
     ensures command { result ≢ Usage }
@@ -201,7 +221,20 @@ fn run_serve<F: Shelf, K: Sink, L: Link, T: Clock>(
     let lead = options.lead;
     let settings = options.settings;
     rm_probe::serve(
-        alloc, settings, lead, capture, port, count, trap_port, shelf, out, link, clock,
+        alloc,
+        settings,
+        lead,
+        captures.capture,
+        captures.if2,
+        captures.if3,
+        captures.if4,
+        port,
+        count,
+        trap_port,
+        shelf,
+        out,
+        link,
+        clock,
     )
 }
 
@@ -222,7 +255,10 @@ fn run_summary<F: Shelf, K: Sink>(
 {
     match rm_summary::summary(alloc, lead, keep_short, capture, shelf, out) {
         Ok(()) => Status::Done,
-        Err(SummaryFault::Capture(fault)) => Status::from(fault),
+        Err(SummaryFault::Capture(fault)) => Status::from(CaptureFault {
+            interface: ALONE,
+            fault,
+        }),
         Err(SummaryFault::Put) => Status::WriteFault,
     }
 }

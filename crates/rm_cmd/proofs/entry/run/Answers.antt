@@ -17,11 +17,11 @@ returns-in-Some g c =
     c.in-Some.ensures c.run_command.ensures.does in
     record {
       usage = ((λ e. absurd (c.run_command.ensures.command e)), (λ none. absurd (none _ c.in-Some.ensures)));
-      ends = λ capture requests options is. (does (replay capture requests options) is).0;
-      exact = λ capture requests options is. (does (replay capture requests options) is).1;
-      complete = λ capture requests options is. (does (replay capture requests options) is).2;
-      serves = λ capture port count trap_port options is. (does (serve capture port count trap_port options) is).0;
-      serves_exactly = λ capture port count trap_port options is. (does (serve capture port count trap_port options) is).1;
+      ends = λ captures requests options is. (does (replay captures requests options) is).0;
+      exact = λ captures requests options is. (does (replay captures requests options) is).1;
+      complete = λ captures requests options is. (does (replay captures requests options) is).2;
+      serves = λ captures port count trap_port options is. (does (serve captures port count trap_port options) is).0;
+      serves_exactly = λ captures port count trap_port options is. (does (serve captures port count trap_port options) is).1;
       sums_up = λ capture lead keep_short is. does (summary capture lead keep_short) is;
       decodes = λ hex is. does (decode hex) is;
       decodes_whole = λ hex is. let (octets, same, how) = does (decode hex) is in (octets, same, done_or_none octets _ _ _ _ c.run_command.result how);
