@@ -12,8 +12,9 @@ const HEADER: [u8; 24] = [
 #[derive(Drop)]
 pub struct Capture {
     pub octets: Vec<u8>,
+    /// The moment of its first frame, where it has one.
+    pub first: Option<u32>,
     is_raw: bool,
-    has_frames: bool,
 }
 
 impl Capture {
@@ -21,8 +22,8 @@ impl Capture {
     pub fn new(alloc: Global) -> Result<Capture, Trouble> {
         Ok(Capture {
             octets: Vec::from_slice(alloc, &HEADER)?,
+            first: None,
             is_raw: false,
-            has_frames: false,
         })
     }
 
@@ -54,7 +55,7 @@ impl Capture {
         Ok(())
     }
 
-    /// Adds frames from a moment on, so many milliseconds apart. The first frame of all comes at the moment `lead`.
+    /// Adds frames from a moment on, so many milliseconds apart. The first frame of all captures comes at the moment `lead`.
     pub fn push_frames(
         &mut self,
         lead: u32,
@@ -63,10 +64,9 @@ impl Capture {
         every: u32,
         frame: &Frame,
     ) -> Result<(), Trouble> {
-        if !self.has_frames && moment != lead {
-            return Err(Trouble::Form("a first frame at another moment"));
+        if self.first.is_none() {
+            self.first = Some(moment);
         }
-        self.has_frames = true;
         let mut since = moment
             .checked_sub(lead)
             .ok_or(Trouble::Form("a frame before the first one's moment"))?;

@@ -10,6 +10,19 @@ use rm_cmd::Status;
 use rm_edge::Peer;
 use std::alloc::Global;
 use std::fmt::Write;
+use std::mem;
+
+/// The most interfaces.
+pub const INTERFACES: usize = 4;
+
+/// How much of a capture is there: from so many of its octets to below so many, in a run each.
+#[derive(Clone, Copy)]
+pub struct Fronts {
+    /// The interface of the capture.
+    pub interface: usize,
+    pub low: u32,
+    pub end: u32,
+}
 
 /// A case: what a run is given, and what it is to write.
 #[derive(Drop)]
@@ -21,9 +34,12 @@ pub struct Case {
     pub given: Given,
     /// The words of the command, where the case gives them.
     pub words: Option<String>,
-    pub capture: Capture,
-    /// From how many octets of the capture to below how many there are in a run each, where the case says so.
-    pub fronts: Option<(u32, u32)>,
+    // The captures of the lower interfaces, in their order.
+    lower: Vec<Capture>,
+    // The capture of the last interface.
+    capture: Capture,
+    /// Which capture is cut, and where, if the case says so.
+    pub fronts: Option<Fronts>,
     /// The octets of the request file.
     pub requests: Vec<u8>,
     /// Those of a file of the name `other`.
@@ -58,6 +74,7 @@ impl Case {
             title: String::from_str(alloc, title)?,
             given: Given::new(alloc)?,
             words: None,
+            lower: Vec::new(alloc),
             capture: Capture::new(alloc)?,
             fronts: None,
             requests: Vec::new(alloc),
@@ -93,6 +110,7 @@ impl Case {
                 self.words = Some(with_digits(self.alloc, rest)?);
                 Ok(())
             }
+            "interface" => self.take_interface(rest),
             "capture" => self.capture.push_octets(&octets(self.alloc, rest)?),
             "record" => self.take_record(rest),
             "front" => self.take_fronts(rest),
@@ -121,6 +139,35 @@ impl Case {
         match self.waiting {
             None => Ok(()),
             Some(_) => Err(Trouble::Form("a datagram without an answer before this line")),
+        }
+    }
+
+    /// Whether the first frame of all captures stands at the moment of the first one, as their times say it.
+    pub fn begins(&self) -> Result<(), Trouble> {
+        let mut least = self.capture.first;
+        for capture in &self.lower {
+            least = earlier(least, capture.first);
+        }
+        match least {
+            Some(moment) if moment != self.given.lead => {
+                Err(Trouble::Form("a first frame at another moment before this line"))
+            }
+            _ => Ok(()),
+        }
+    }
+
+    /// How many interfaces have a capture.
+    pub fn interfaces(&self) -> usize {
+        self.lower.len().saturating_add(1)
+    }
+
+    /// The octets of the capture of an interface. There are none where it has no capture.
+    pub fn octets_of(&self, interface: usize) -> &[u8] {
+        let place = interface.saturating_sub(1);
+        match self.lower.get(place) {
+            Some(capture) => &capture.octets,
+            None if place == self.lower.len() => &self.capture.octets,
+            None => &[],
         }
     }
 
@@ -153,6 +200,17 @@ impl Case {
         self.capture.push_record(seconds, fraction, &frame)
     }
 
+    // `N`: the next interface. Frames behind it go into its capture.
+    fn take_interface(&mut self, text: &str) -> Result<(), Trouble> {
+        let next = self.interfaces().saturating_add(1);
+        if next > INTERFACES || number(text)? as usize != next {
+            return Err(Trouble::Form("no interface 2 to 4, or not the next one"));
+        }
+        let higher = Capture::new(self.alloc)?;
+        let capture = mem::replace(&mut self.capture, higher);
+        Ok(self.lower.push(capture)?)
+    }
+
     // `N` or `N to M`.
     fn take_fronts(&mut self, text: &str) -> Result<(), Trouble> {
         let (low, high) = match text.split_once(" to ") {
@@ -165,7 +223,11 @@ impl Case {
         let end = high
             .checked_add(1)
             .ok_or(Trouble::Form("no number below 2^32 - 1"))?;
-        self.fronts = Some((low, end));
+        self.fronts = Some(Fronts {
+            interface: self.interfaces(),
+            low,
+            end,
+        });
         Ok(())
     }
 
@@ -295,6 +357,15 @@ impl Case {
             writeln!(text, "{}", line.text)?;
         }
         Ok(text)
+    }
+}
+
+// The earlier of two moments, where there are any.
+fn earlier(one: Option<u32>, other: Option<u32>) -> Option<u32> {
+    match (one, other) {
+        (Some(one), Some(other)) => Some(one.min(other)),
+        (Some(one), None) => Some(one),
+        (None, other) => other,
     }
 }
 

@@ -1,5 +1,5 @@
 // The settings of a case.
-ghost use Rattle.std.specs.Prelude.{◌≤◌, ◌↔◌, IfOk, IsTrue, length};
+ghost use Rattle.std.specs.Prelude.{◌≡◌, ◌≤◌, ◌↔◌, IfOk, IsTrue, length};
 
 use arrayvec::ArrayVec;
 use case_text::{Trouble, first_word, number, word_octets};
@@ -56,8 +56,10 @@ impl Given {
         Ok(())
     }
 
-    /// The settings of the probe.
-    pub fn settings(&self) -> Result<Settings, Trouble> {
+    /// The settings of the probe, which has one interface.
+    pub fn settings(&self) -> Result<Settings, Trouble>
+        ensures { IfOk result (λ settings. settings.interfaces ≡ 1) }
+    {
         let read = community(&self.read)?;
         let write = community(&self.write)?;
         if !is_within(self.hosts, 4096) || !is_within(self.pairs, 4096) {

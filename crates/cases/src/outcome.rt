@@ -155,6 +155,7 @@ fn finish(
 // Runs a case, and counts it where it is as its run.
 fn end_case(alloc: Global, case: &Case, counts: &mut Counts) -> Result<Option<Outcome>, Trouble> {
     case.end()?;
+    case.begins()?;
     if let Some(difference) = try_case(alloc, case)? {
         let title = String::from_str(alloc, case.title.as_str())?;
         return Ok(Some(Outcome::Bad { title, difference }));

@@ -67,15 +67,19 @@ pub struct Outside {
 }
 
 impl Outside {
-    /// As it is before a run over these octets of the capture, with room for so many octets that are expected.
+    /// As it is before a run, with room for so many octets that are expected. Where the case cuts a capture, only so many octets of
+    /// that are there.
     pub fn new(
         alloc: Global,
         case: &Case,
-        capture: &[u8],
+        front: Option<u32>,
         expected: usize,
     ) -> Result<Outside, Trouble> {
         let mut shelf = MemShelf::new(alloc);
-        shelf.add("capture", capture)?;
+        shelf.add("capture", capture_of(case, 1, front)?)?;
+        shelf.add("capture2", capture_of(case, 2, front)?)?;
+        shelf.add("capture3", capture_of(case, 3, front)?)?;
+        shelf.add("capture4", capture_of(case, 4, front)?)?;
         shelf.add("requests", &case.requests)?;
         if let Some(other) = &case.other {
             shelf.add("other", other)?;
@@ -137,8 +141,8 @@ impl Outside {
                 &mut clock,
             ));
         }
-        if case.words.is_some() {
-            return Err(Trouble::Form("words beside settings before this line"));
+        if case.words.is_some() || case.interfaces() > 1 {
+            return Err(Trouble::Form("words or interfaces beside settings before this line"));
         }
         let settings = case.given.settings()?;
         let lead = case.given.lead;
@@ -147,10 +151,34 @@ impl Outside {
             settings,
             lead,
             "capture",
+            None,
+            None,
+            None,
             "requests",
             &mut self.shelf,
             &mut self.out,
         ))
+    }
+}
+
+// The octets of the capture of an interface, and only so many of them where the case cuts it.
+fn capture_of(case: &Case, interface: usize, front: Option<u32>) -> Result<&[u8], Trouble> {
+    let octets = case.octets_of(interface);
+    match (&case.fronts, front) {
+        (Some(fronts), Some(front)) if fronts.interface == interface => octets
+            .get(..front as usize)
+            .ok_or(Trouble::Form("a front that is longer than the capture")),
+        _ => Ok(octets),
+    }
+}
+
+// The command of a case with so many interfaces that gives no words.
+fn command_for(interfaces: usize) -> &'static str {
+    match interfaces {
+        0 | 1 => "replay capture requests",
+        2 => "replay capture requests --if2 capture2",
+        3 => "replay capture requests --if2 capture2 --if3 capture3",
+        _ => "replay capture requests --if2 capture2 --if3 capture3 --if4 capture4",
     }
 }
 
@@ -159,7 +187,7 @@ fn words_of(alloc: Global, case: &Case) -> Result<Words, Trouble> {
     let mut words = Words::new(alloc);
     let text = match &case.words {
         Some(text) => text.as_str(),
-        None => "replay capture requests",
+        None => command_for(case.interfaces()),
     };
     for word in text.split_whitespace() {
         words.add(if word == "\"\"" { "" } else { word })?;

@@ -1,12 +1,16 @@
 // How a run ends, as text.
-use case_text::{Trouble, first_word};
+use case_text::{Trouble, first_number, first_word};
 use rm_cmd::Status;
 
-/// The status that a text names, with its number behind it where it has one.
+/// The status that a text names, with its numbers behind it where it has some.
 pub fn status(text: &str) -> Result<Status, Trouble> {
     let (word, rest) = first_word(text);
     match word {
-        "bad-capture" => return Ok(Status::BadCapture(place(rest)?)),
+        "bad-capture" => {
+            let (interface, rest) = first_number(rest)?;
+            let at = place(rest)?;
+            return Ok(Status::BadCapture { interface, at });
+        }
         "bad-requests" => return Ok(Status::BadRequests(place(rest)?)),
         _ => {}
     }

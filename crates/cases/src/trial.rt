@@ -11,33 +11,31 @@ const MOST_CALLS: usize = 10_000;
 
 /// The first difference between a case and its runs, if there is one.
 pub fn try_case(alloc: Global, case: &Case) -> Result<Option<Difference>, Trouble> {
-    let Some((low, end)) = case.fronts else {
-        return difference_over(alloc, case, &case.capture.octets);
+    let Some(fronts) = case.fronts else {
+        return difference_over(alloc, case, None);
     };
-    for octets in low..end {
-        let Some(capture) = case.capture.octets.get(..octets as usize) else {
-            return Err(Trouble::Form("a front that is longer than the capture"));
-        };
-        if let Some(difference) = difference_over(alloc, case, capture)? {
+    for front in fronts.low..fronts.end {
+        if let Some(difference) = difference_over(alloc, case, Some(front))? {
             return Ok(Some(difference));
         }
     }
     Ok(None)
 }
 
-// The run of the case, the one in pieces where it says so, and those in which a call fails where it says that each does.
+// The run of the case, the one in pieces where it says so, and those in which a call fails where it says that each does. Of a capture
+// that the case cuts only so many octets are there.
 fn difference_over(
     alloc: Global,
     case: &Case,
-    capture: &[u8],
+    front: Option<u32>,
 ) -> Result<Option<Difference>, Trouble> {
     let text = case.text()?;
-    let mut outside = Outside::new(alloc, case, capture, text.len())?;
+    let mut outside = Outside::new(alloc, case, front, text.len())?;
     let mut found = difference_of(alloc, case, &mut outside, text.as_str())?;
     if found.is_none()
         && let Some(most) = case.pieces
     {
-        let mut outside = Outside::new(alloc, case, capture, text.len())?;
+        let mut outside = Outside::new(alloc, case, front, text.len())?;
         outside.give_pieces(most)?;
         found = difference_of(alloc, case, &mut outside, text.as_str())?;
     }
@@ -45,7 +43,7 @@ fn difference_over(
         return Ok(found);
     }
     for kind in [Kind::Read, Kind::Put, Kind::Link] {
-        if let Some(difference) = difference_by(alloc, case, capture, text.as_str(), kind)? {
+        if let Some(difference) = difference_by(alloc, case, front, text.as_str(), kind)? {
             return Ok(Some(difference));
         }
     }
@@ -67,13 +65,13 @@ fn difference_of(
 fn difference_by(
     alloc: Global,
     case: &Case,
-    capture: &[u8],
+    front: Option<u32>,
     text: &str,
     kind: Kind,
 ) -> Result<Option<Difference>, Trouble> {
     for number in 1..=MOST_CALLS {
         let call = FailingCall { kind, number };
-        let (is_last, found) = run_failing(alloc, case, capture, text, call)?;
+        let (is_last, found) = run_failing(alloc, case, front, text, call)?;
         if is_last || found.is_some() {
             return Ok(found);
         }
@@ -86,11 +84,11 @@ fn difference_by(
 fn run_failing(
     alloc: Global,
     case: &Case,
-    capture: &[u8],
+    front: Option<u32>,
     text: &str,
     call: FailingCall,
 ) -> Result<(bool, Option<Difference>), Trouble> {
-    let mut outside = Outside::new(alloc, case, capture, text.len())?;
+    let mut outside = Outside::new(alloc, case, front, text.len())?;
     outside.fail(call)?;
     let status = outside.run(alloc, case)?;
     let is_last = outside.fails_at(call.kind);
