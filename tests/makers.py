@@ -69,12 +69,16 @@ def random_octets(chosen, most):
 # Captures.
 
 MAGIC = {0xA1B2C3D4: 1_000, 0xA1B23C4D: 1_000_000}
+# The milliseconds at which captures begin.
+BEGINS = 1_700_000_000_000
 HOSTS = [bytes([2, 0, 0, 0, 0, host]) for host in range(6)] + [b"\xff" * 6, bytes.fromhex("01005e000001")]
 
 
 def good_frame(chosen):
-    """The octets of a frame: often one of IPv4, with options, as a fragment, or too short for what it says."""
+    """The octets of a frame: often one of IPv4, with options, as a fragment, or too short for what it says, and sometimes with a tag or two."""
     octets = chosen.choice(HOSTS) + chosen.choice(HOSTS)
+    for _ in range(chosen.choice((0, 0, 0, 1, 1, 2))):
+        octets += bytes.fromhex("8100") + chosen.randbytes(2)
     kind = chosen.choice(("ip", "ip", "ip", "0806", "86dd", "0100"))
     if kind != "ip":
         octets += bytes.fromhex(kind) + chosen.randbytes(chosen.randint(0, 60))
@@ -88,8 +92,9 @@ def good_frame(chosen):
     return octets[: chosen.randrange(len(octets))] if chosen.random() < 0.2 else octets
 
 
-def good_capture(chosen, most=12, longest=0):
-    """A capture without a fault, of a form and an octet order, whose times mostly rise. Frames may be `longest` octets longer."""
+def good_capture(chosen, most=12, longest=0, begins=BEGINS):
+    """A capture without a fault, of a form and an octet order, whose times mostly rise. Frames may be `longest` octets longer. The first one comes at
+    `begins` milliseconds or a little later."""
     order = chosen.choice(("little", "big"))
     magic, units = chosen.choice(list(MAGIC.items()))
 
@@ -97,11 +102,11 @@ def good_capture(chosen, most=12, longest=0):
         return number.to_bytes(octets, order)
 
     capture = field(magic) + field(2, 2) + field(4, 2) + chosen.randbytes(12) + field(1)
-    milliseconds = 1_700_000_000_000
+    milliseconds = begins
     for _ in range(chosen.randint(0, most)):
         milliseconds += chosen.choice((0, 1, 20, 999, 1000, 1001, 60_000, -5))
         octets = good_frame(chosen) + bytes(chosen.randint(0, longest))
-        length = chosen.choice((len(octets), len(octets), 1514, 1515, 262_144, chosen.randint(0, 2000)))
+        length = chosen.choice((len(octets), len(octets), 1514, 1515, 1518, 1519, 262_144, chosen.randint(0, 2000)))
         seconds, left = divmod(milliseconds, 1000)
         capture += field(seconds) + field(left * units) + field(len(octets)) + field(length) + octets
     return capture
@@ -118,10 +123,25 @@ def broken_capture(chosen):
     return capture if how < 0.3 else changed(chosen, capture)
 
 
+def good_captures(chosen, most=12):
+    """Captures of two to four interfaces whose times overlap, or that come one behind the other."""
+    starts = (BEGINS, BEGINS, BEGINS - 500, BEGINS + 1, BEGINS + 60_000)
+    return [good_capture(chosen, most, begins=chosen.choice(starts)) for _ in range(chosen.choice((2, 2, 3, 4)))]
+
+
+def broken_captures(chosen):
+    """Captures of two to four interfaces, of which some may be broken."""
+    captures = good_captures(chosen)
+    for place in chosen.sample(range(len(captures)), chosen.choice((0, 1, 1, 1, 2))):
+        captures[place] = broken_capture(chosen)
+    return captures
+
+
 # Requests.
 
 RESPONSE, TRAP = 0xA2, 0xA7
-INTERFACE = (1, 3, 6, 1, 2, 1, 2, 2, 1, 1, 1)
+INTERFACES = (1, 3, 6, 1, 2, 1, 2, 2, 1, 1)
+INTERFACE = INTERFACES + (1,)
 PKTS = RMON + (1, 1, 1, 5, 1)
 
 # The tables: the entry, the greatest column, and the column of the status of a control table.
@@ -247,7 +267,7 @@ def random_value(chosen):
             lambda: integer(chosen.randint(1, 4)),
             lambda: text(chosen.randbytes(chosen.choice((0, 1, 6, 64, 127, 128)))),
             lambda: name(random_name(chosen)),
-            lambda: name(INTERFACE),
+            lambda: name(INTERFACES + (chosen.choice((1, 1, 1, 2, 3, 4, 0, 5)),)),
             lambda: element(NULL, b""),
             lambda: element(chosen.choice((0x40, 0x41, 0x42, 0x43, 0x44, 0x46)), chosen.randbytes(4)),
             lambda: element(chosen.choice((0x80, 0x81, 0x82)), b""),

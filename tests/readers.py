@@ -49,29 +49,58 @@ def header_fault(octets):
     return None
 
 
-def read_capture(octets, lead):
-    """The capture that these octets are, whose first frame stands at the moment `lead`."""
+def record_at(octets, at):
+    """The record at a place, by its time in nanoseconds and its two lengths, or None where its own 16 octets aren't all there."""
+    if len(octets) - at < 16:
+        return None
+    order, unit = MAGIC[octets[:4]]
+    seconds, fraction, included, original = (int.from_bytes(octets[at + n : at + n + 4], order) for n in (0, 4, 8, 12))
+    return seconds * NANOSECONDS + fraction * unit, included, original
+
+
+def length_fault(at, included, original):
+    """The offset of the first length that is too great of the record at a place, or None."""
+    if included > MOST_OCTETS:
+        return at + 8
+    return at + 12 if original > MOST_OCTETS else None
+
+
+def first_round(octets):
+    """What is found of a capture before its clock is known: the offset of the first fault of its header and of the lengths of its first record, or
+    None; and the time of that record where it is whole."""
+    fault = header_fault(octets)
+    first = record_at(octets, 24) if fault is None else None
+    if first is None:
+        return fault, None
+    time, included, original = first
+    fault = length_fault(24, included, original)
+    return fault, time if fault is None and len(octets) - 40 >= included else None
+
+
+def read_capture(octets, lead, began=None):
+    """The capture that these octets are. The time `began` stands at the moment `lead`: that of its first record where none is given."""
     fault = header_fault(octets)
     if fault is not None:
         return Capture([], fault)
-    order, unit = MAGIC[octets[:4]]
     capture = Capture([])
-    at, began, moment = 24, None, lead
+    at, moment = 24, lead
     while at < len(octets):
-        if len(octets) - at < 16:
+        record = record_at(octets, at)
+        if record is None:
             capture.cut = True
             return capture
-        seconds, fraction, included, original = (int.from_bytes(octets[at + n : at + n + 4], order) for n in (0, 4, 8, 12))
-        if included > MOST_OCTETS or original > MOST_OCTETS:
-            capture.fault = at + (8 if included > MOST_OCTETS else 12)
+        time, included, original = record
+        capture.fault = length_fault(at, included, original)
+        if capture.fault is not None:
             return capture
-        time = seconds * NANOSECONDS + fraction * unit
         began = time if began is None else began
         moment = max(moment, lead + (time - began) // 1_000_000)
-        if moment > LAST_MOMENT:
+        is_whole = len(octets) - at - 16 >= included
+        # A first record that is cut short is never late.
+        if moment > LAST_MOMENT and (is_whole or capture.frames):
             capture.fault = at
             return capture
-        if len(octets) - at - 16 < included:
+        if not is_whole:
             capture.cut = True
             return capture
         capture.frames.append(Frame(moment, octets[at + 16 : at + 16 + included], max(included, original)))
@@ -79,18 +108,41 @@ def read_capture(octets, lead):
     return capture
 
 
+def first_fault(faults):
+    """The interface, from 1, and the offset of the first fault of these, or None."""
+    return next(((interface, fault) for interface, fault in enumerate(faults, 1) if fault is not None), None)
+
+
+def read_captures(files, lead):
+    """The captures of interfaces 1, 2 and so on, of whose first records the earliest whole one stands at the moment `lead`, and the interface and
+    the offset of their first fault, or None. They are judged in two rounds."""
+    found = [first_round(octets) for octets in files]
+    fault = first_fault(fault for fault, _ in found)
+    if fault:
+        return [], fault
+    times = [time for _, time in found if time is not None]
+    captures = [read_capture(octets, lead, min(times, default=None)) for octets in files]
+    return captures, first_fault(capture.fault for capture in captures)
+
+
+def is_tagged(octets):
+    """Whether a frame has a tag (IEEE 802.1Q)."""
+    return len(octets) >= 14 and octets[12:14] == b"\x81\x00"
+
+
 def has_ipv4(octets):
-    """Whether a frame has type 0800 and a whole header of IPv4."""
-    if len(octets) < 34 or octets[12:14] != b"\x08\x00":
+    """Whether a frame has type 0800, maybe behind a tag, and a whole header of IPv4."""
+    begins = 18 if is_tagged(octets) else 14
+    if len(octets) < begins + 20 or octets[begins - 2 : begins] != b"\x08\x00":
         return False
-    version, words = divmod(octets[14], 16)
-    return version == 4 and words >= 5 and len(octets) >= 14 + 4 * words
+    version, words = divmod(octets[begins], 16)
+    return version == 4 and words >= 5 and len(octets) >= begins + 4 * words
 
 
 def summary_of(capture, lead):
     """The lines that sum a capture up."""
     lengths = [max(frame.length, 60) + 4 for frame in capture.frames]
-    good = [frame for frame, length in zip(capture.frames, lengths) if length <= 1518]
+    good = [frame for frame, length in zip(capture.frames, lengths) if length <= (1522 if is_tagged(frame.octets) else 1518)]
     broadcast = sum(frame.octets[:6] == b"\xff" * 6 and len(frame.octets) >= 12 for frame in good)
     grouped = sum(len(frame.octets) >= 12 and frame.octets[0] & 1 for frame in good)
     counts = {
