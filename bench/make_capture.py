@@ -1,9 +1,10 @@
 """Writes a capture to standard output: so many records, so many milliseconds apart.
 
-    make_capture.py RECORDS APART [mixed | datagrams]
+    make_capture.py RECORDS APART [mixed | datagrams] [HAND/HANDS]
 
 Each is one frame of 60 octets. With `mixed` the frames have 60 to 1514 octets and go to and fro among 64 hosts, the same ones
 each time. With `datagrams` each is a datagram of UDP over IPv4 to the port of DNS, among 2048 addresses, the same ones each time.
+With `2/4` the records are dealt to four captures in turn, and the second one is written.
 """
 
 import random
@@ -63,11 +64,16 @@ def packed_record(milliseconds, octets):
 
 def main():
     records, apart = map(int, sys.argv[1:3])
-    frames = {"mixed": mixed_frames, "datagrams": datagrams}.get("".join(sys.argv[3:]), small_frames)()
+    dealt = [word for word in sys.argv[3:] if "/" in word] or ["1/1"]
+    hand, hands = map(int, dealt[0].split("/"))
+    kind = "".join(word for word in sys.argv[3:] if "/" not in word)
+    frames = {"mixed": mixed_frames, "datagrams": datagrams}.get(kind, small_frames)()
     out = sys.stdout.buffer
     out.write(FILE_HEADER)
     for number in range(records):
-        out.write(packed_record(number * apart, next(frames)))
+        record = packed_record(number * apart, next(frames))
+        if number % hands == hand - 1:
+            out.write(record)
 
 
 if __name__ == "__main__":
