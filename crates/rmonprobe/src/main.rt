@@ -1,4 +1,4 @@
-//! The probe: replays a capture, and answers the datagrams of a request file or those that come to a port.
+//! The probe: replays captures, and answers the datagrams of a request file or those that come to a port.
 #![tactic(auto)]
 
 use rm_cmd::{Status, run};
