@@ -43,8 +43,7 @@ plain_part (c ∷ d ∷ cs) = if c == 45 then dashed_part d cs else Operand
 
 -- what a word is behind an option that has a value
 abbrev pub value_part : OptionName → Bool → Part
-value_part option true = Value option
-value_part option false = Unknown
+value_part option fits = if fits then Value option else Unknown
 
 -- what a word is
 abbrev pub part_of : Expected → List ℕ → Part
