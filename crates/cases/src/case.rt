@@ -12,8 +12,8 @@ use std::alloc::Global;
 use std::fmt::Write;
 use std::mem;
 
-/// The most interfaces.
-pub const INTERFACES: usize = 4;
+// The most interfaces.
+const INTERFACES: usize = 4;
 
 /// How much of a capture is there: from so many of its octets to below so many, in a run each.
 #[derive(Clone, Copy)]
@@ -142,7 +142,7 @@ impl Case {
         }
     }
 
-    /// Whether the first frame of all captures stands at the moment of the first one, as their times say it.
+    /// Whether the earliest frame that a capture begins with stands at the moment of the first frame of all.
     pub fn begins(&self) -> Result<(), Trouble> {
         let mut least = self.capture.first;
         for capture in &self.lower {
@@ -165,8 +165,8 @@ impl Case {
     pub fn octets_of(&self, interface: usize) -> &[u8] {
         let place = interface.saturating_sub(1);
         match self.lower.get(place) {
-            Some(capture) => &capture.octets,
-            None if place == self.lower.len() => &self.capture.octets,
+            Some(capture) => capture.octets.as_slice(),
+            None if place == self.lower.len() => self.capture.octets.as_slice(),
             None => &[],
         }
     }

@@ -164,7 +164,7 @@ impl Outside {
 // The octets of the capture of an interface, and only so many of them where the case cuts it.
 fn capture_of(case: &Case, interface: usize, front: Option<u32>) -> Result<&[u8], Trouble> {
     let octets = case.octets_of(interface);
-    match (&case.fronts, front) {
+    match (case.fronts, front) {
         (Some(fronts), Some(front)) if fronts.interface == interface => octets
             .get(..front as usize)
             .ok_or(Trouble::Form("a front that is longer than the capture")),

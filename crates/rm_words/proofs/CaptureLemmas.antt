@@ -1,5 +1,5 @@
 -- The captures of a command.
-use Rattle.std.proofs.Common.{◌≡◌, ◌≢◌, ℕ, List, [], ◌∷◌, ◌++◌, Option, Some, None, is_some, IsSome, true, false, refl, sym, ap, subst, ◌∙◌}
+use Rattle.std.proofs.Common.{◌≡◌, ◌≢◌, ℕ, List, [], ◌∷◌, ◌++◌, Option, Some, None, is_some, IsSome, false, refl, sym, ap, subst, ◌∙◌}
 use Rattle.std.specs.Borrow.{Bor}
 use Rattle.rm_words.specs.Grammar.{Piece, Options, AreOptions, AreCaptures, AreOfReplay, AreOfServe, Command, replay, serve, summary, decode, load, operands, setting, named, values_of}
 use Rattle.rm_words.specs.Scan.{so_far, IsLadder}
