@@ -1,20 +1,13 @@
 -- What happens in a run, in order.
-use Rattle.std.specs.Prelude.{ℕ, ◌+◌, Bool, nat_le, List, [], ◌∷◌, ◌++◌, drop, map, take_while}
-use Rattle.std.specs.List.{prefix_len}
+use Rattle.std.specs.Prelude.{ℕ, ◌+◌, List, [], ◌∷◌, ◌++◌, map, take_while}
 use Rattle.rm_model.specs.Journal.{Frame}
+use Rattle.rm_captures.specs.Merge.{is_by, frames_after}
 use Rattle.rm_requests.specs.Lines.{TimedDatagram}
 
 -- a frame comes, or a datagram of that number
 pub data Event : Type 0 where
   Comes : Frame → Event
   Asks : ℕ → TimedDatagram → Event
-
-abbrev pub is_by : ℕ → Frame → Bool
-is_by moment frame = nat_le frame.moment moment
-
--- the frames after those up to a moment
-abbrev pub frames_after : ℕ → List Frame → List Frame
-frames_after moment frames = drop (prefix_len (is_by moment) frames) frames
 
 abbrev pub comings : List Frame → List Event
 comings frames = map Comes frames

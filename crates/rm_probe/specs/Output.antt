@@ -1,5 +1,5 @@
 -- What an output has put and sent.
-use Rattle.std.specs.Prelude.{◌≡◌, ◌⊎◌, ◌≤◌, ℕ, List, [], ◌++◌, take, Option, Some, None, Result, Ok, Err}
+use Rattle.std.specs.Prelude.{◌≡◌, ◌⊎◌, ◌≤◌, ℕ, List, [], ◌++◌, length, take, Option, Some, None, Result, Ok, Err}
 use Rattle.std.proofs.Common.{inl, refl, sym, ap, arith}
 use Rattle.std.proofs.lemmas.List.{append-nil}
 use Rattle.rm_edge.specs.Outside.{Adds, AddsFront, Rose}
@@ -58,24 +58,31 @@ abbrev pub failed_by : {T : Type 0} → Result T OutputFault → Option OutputFa
 failed_by (Ok done) = None
 failed_by (Err fault) = Some fault
 
--- Of what was said some lines were put whole, and then a front of the lines behind them; and of the messages that the whole lines tell, the
--- first were sent.
-pub record IsSaidFront (managers : List Peer) (asking : ℕ → List Peer) (content content_after : Option (List ℕ)) (sent sent_after : Option (List Datagram)) (said : List Said) : Type 0 where
-  pub written : List Said
+-- Behind lines that were put and messages that were sent, a front of a line was put and no message sent; or the line was put whole, and of the
+-- messages that it tells the first were sent, maybe none.
+abbrev pub TellsBehind : Option (List ℕ) → Option (List ℕ) → Option (List Datagram) → Option (List Datagram) → List ℕ → List Datagram → List ℕ → List Datagram → Type 0
+TellsBehind content content_after sent sent_after text told line messages =
+    (((n : ℕ) × Adds content content_after (text ++ take n line)) × Adds sent sent_after told)
+    ⊎ (Adds content content_after (text ++ line) × ((n : ℕ) × Adds sent sent_after (told ++ take n messages)))
+
+-- Of what was said the first things were told whole: their lines were put, and their messages sent. Of the next thing, if there is one, a front was
+-- told, and of the rest nothing.
+pub record IsSaidFront (managers : List Peer) (asking : ℕ → List Peer) (content content_after : Option (List ℕ)) (sent sent_after : Option (List Datagram)) (said told : List Said) : Type 0 where
+  pub next : List Said
   pub rest : List Said
-  pub split : said ≡ written ++ rest
-  pub puts : (n : ℕ) × Adds content content_after (lines written ++ take n (lines rest))
-  pub sends : AddsFront sent sent_after (messages managers asking written)
+  pub split : said ≡ told ++ (next ++ rest)
+  pub one : length next ≤ 1
+  pub tells : TellsBehind content content_after sent sent_after (lines told) (messages managers asking told) (lines next) (messages managers asking next)
 
 -- nothing is a front
-pub front_none : (managers : List Peer) (asking : ℕ → List Peer) (content : Option (List ℕ)) (sent : Option (List Datagram)) → IsSaidFront managers asking content content sent sent []
-front_none managers asking content sent = record { written = []; rest = []; split = refl; puts = (0, adds_none content); sends = (0, adds_none sent) }
+pub front_none : (managers : List Peer) (asking : ℕ → List Peer) (content : Option (List ℕ)) (sent : Option (List Datagram)) → IsSaidFront managers asking content content sent sent [] []
+front_none managers asking content sent = record { next = []; rest = []; split = refl; one = omega arith; tells = inl ((0, adds_none content), adds_none sent) }
 
 -- An output has said this: its post is the same, the lines were put, and the messages sent, those to who asks to the one peer that the post has.
 pub record Says {P : Type 0} (peers : P → Addressee → List Peer) (same : P → P → Type 0) (post post' : P) (old new : Shown) (said : List Said) : Type 0 where
   pub still : same post post'
   pub adds : HasAdded old new (lines said) (messages (peers post Manager) (λ (number : ℕ). peers post Asking) said)
-  pub order : old.failed ≡ None → IsSaidFront (peers post Manager) (λ (number : ℕ). peers post Asking) old.content new.content old.sent new.sent said
+  pub order : old.failed ≡ None → (told : List Said) × IsSaidFront (peers post Manager) (λ (number : ℕ). peers post Asking) old.content new.content old.sent new.sent said told
 
 -- A line was put, or a front of it; and where it was put whole, a front of the messages that it tells was sent.
 abbrev pub TellsInOrder : Shown → Shown → List ℕ → List Datagram → Type 0

@@ -1,12 +1,10 @@
 -- What is said in a run, the lines that are written for it, and the messages that are sent.
-use Rattle.std.specs.Prelude.{ℕ, List, [], ◌∷◌, ◌++◌, map, take, flat_map, decimal, codes}
+use Rattle.std.specs.Prelude.{ℕ, zero, suc, Bool, true, false, List, [], ◌∷◌, ◌++◌, map, take, flat_map, decimal, codes}
 use Rattle.hex.specs.Hex.{encode_lower}
 use Rattle.rm_edge.specs.Link.{Datagram}
 use Rattle.rm_edge.specs.declared.outside.link.Peer.{Peer}
 use Rattle.rm_model.specs.Journal.{Frame}
-use Rattle.rm_pcap.specs.Records.{Stop, Ended, CutAt}
-use Rattle.rm_pcap.specs.declared.frame.Step.{Step}
-use Rattle.rm_pcap.specs.declared.frame.Step.TheVariants.{Cut}
+use Rattle.rm_pcap.specs.Records.{Stop, CutAt}
 use Rattle.rm_agent.specs.declared.answer.Reason.{Reason}
 use Rattle.rm_agent.specs.declared.answer.Reason.TheVariants.{TooLong, Malformed, Version, NotRequest, Community}
 use Rattle.rm_agent.specs.declared.answer.Answer.{Answer}
@@ -18,12 +16,12 @@ pub data Response : Type 0 where
   Replied : List ℕ → Response
   Dropped : Reason → Response
 
--- what is said: a notification, the response to the datagram of that number at its moment, or how the records stop and how many frames and
--- datagrams there were
+-- what is said: a notification, the response to the datagram of that number at its moment, or whether a capture is cut short and how many frames
+-- and datagrams there were
 pub data Said : Type 0 where
   Notified : Note → Said
   Responded : ℕ → ℕ → Response → Said
-  Last : Stop → ℕ → ℕ → Said
+  Last : Bool → ℕ → ℕ → Said
 
 -- why there is no reply, in words
 abbrev pub reason_text : Reason → List ℕ
@@ -47,30 +45,30 @@ response_of (Drop reason) out = Dropped reason
 abbrev pub answer_line : ℕ → ℕ → List ℕ → List ℕ
 answer_line moment number text = decimal moment ++ codes " " ++ decimal number ++ codes " " ++ text ++ codes "\n"
 
--- what the last line begins with: whether the capture was cut short
-abbrev pub last_word : Stop → List ℕ
-last_word (CutAt at) = codes "cut"
-last_word stop = codes "end"
+-- what the last line begins with: whether a capture is cut short
+abbrev pub last_word : Bool → List ℕ
+last_word true = codes "cut"
+last_word false = codes "end"
 
--- how the records stop, as the last line says it, by what stands next
-abbrev pub stop_by : Step → Stop
-stop_by (Cut at) = CutAt at
-stop_by step = Ended
+-- whether a capture is cut short, by how the records stop
+abbrev pub is_cut : Stop → Bool
+is_cut (CutAt at) = true
+is_cut stop = false
 
--- and as it says it where frames may be left: the capture was cut short only where none is
-abbrev pub stop_before : List Frame → Stop → Stop
-stop_before [] stop = stop
-stop_before (frame ∷ more) stop = Ended
+-- and as the last line says it where frames may be left: only where none is
+abbrev pub is_cut_behind : List Frame → Stop → Bool
+is_cut_behind [] stop = is_cut stop
+is_cut_behind (frame ∷ more) stop = false
 
 -- the last line: how many frames and how many datagrams there were
-unfoldable pub last_line : Stop → ℕ → ℕ → List ℕ
-last_line stop frames requests = last_word stop ++ codes " " ++ decimal frames ++ codes " " ++ decimal requests ++ codes "\n"
+unfoldable pub last_line : Bool → ℕ → ℕ → List ℕ
+last_line cut frames requests = last_word cut ++ codes " " ++ decimal frames ++ codes " " ++ decimal requests ++ codes "\n"
 
 -- each thing said is one line
 abbrev pub line_of : Said → List ℕ
 line_of (Notified note) = trap_line note
 line_of (Responded number moment response) = answer_line moment number (response_text response)
-line_of (Last stop frames requests) = last_line stop frames requests
+line_of (Last cut frames requests) = last_line cut frames requests
 
 abbrev pub lines : List Said → List ℕ
 lines said = flat_map line_of said
@@ -87,6 +85,13 @@ messages_of managers asking said = []
 
 abbrev pub messages : List Peer → (ℕ → List Peer) → List Said → List Datagram
 messages managers asking said = flat_map (messages_of managers asking) said
+
+-- how many datagrams are answered by what is said
+unfoldable pub answers_in : List Said → ℕ
+answers_in [] = zero
+answers_in (Notified note ∷ more) = answers_in more
+answers_in (Responded number moment response ∷ more) = suc (answers_in more)
+answers_in (Last cut frames requests ∷ more) = answers_in more
 
 -- More was said behind what had been said before, by a relation that says what was said since an earlier state.
 abbrev pub SaysMore : {S : Type 0} → (since : S → S → List Said → Type 0) → S → S → List Said → Type 0

@@ -1,19 +1,21 @@
 -- What a run that serves says: to the datagrams that it receives, at the moments that the clock tells then.
-use Rattle.std.specs.Prelude.{◌≡◌, ◌⊎◌, ℕ, ◌-◌, ◌≤◌, max, List, [], ◌∷◌, ◌++◌, length, map, take, drop, Option, Some, None, ⊤}
-use Rattle.rm_edge.specs.Outside.{File, OfFile, Adds}
+use Rattle.std.specs.Prelude.{◌≡◌, ◌⊎◌, ℕ, ◌+◌, ◌-◌, ◌≤◌, max, List, [], ◌∷◌, ◌++◌, length, map, take, drop, Option, Some, None, ⊤}
+use Rattle.rm_edge.specs.Outside.{File, Adds}
 use Rattle.rm_edge.specs.Link.{Datagram}
-use Rattle.rm_edge.specs.Uses.{FileUse, SinkUse, LinkUse, ClockUse, HasReadFault, HasPutFault, HasLinkFault, IsUntouched}
+use Rattle.rm_edge.specs.Uses.{FileUse, SinkUse, LinkUse, ClockUse, HasPutFault, HasLinkFault, IsUntouched}
 use Rattle.rm_edge.specs.declared.outside.link.Peer.{Peer}
 use Rattle.rm_model.specs.Journal.{Frame}
 use Rattle.rm_pcap.specs.Records.{Stop}
-use Rattle.rm_pcap.specs.declared.fault.PcapFault.{PcapFault}
 use Rattle.rm_settings.specs.declared.settings.Settings.{Settings}
 use Rattle.rm_requests.specs.Lines.{TimedDatagram}
-use Rattle.rm_probe.specs.Capture.{IsCapture, IsCaptureFile, IsBroken, CallsFor, status_of}
+use Rattle.rm_captures.specs.Rounds.{AreCaptures, AreCaptureFiles, IsFirstFault}
+use Rattle.rm_captures.specs.Told.{OfFiles}
+use Rattle.rm_captures.specs.declared.fault.CaptureFault.{CaptureFault}
+use Rattle.rm_probe.specs.Capture.{AreTold, CallsFor, HasReadFaults, helds_of, status_of}
 use Rattle.rm_probe.specs.Ends.{Comes}
 use Rattle.rm_probe.specs.Events.{events_by, frames_left}
 use Rattle.rm_probe.specs.Output.{IsSaidFront}
-use Rattle.rm_probe.specs.Said.{Said, Last, lines, messages, stop_before}
+use Rattle.rm_probe.specs.Said.{Said, Last, answers_in, is_cut_behind, lines, messages}
 use Rattle.rm_probe.specs.Text.{AreSaid, AreSaidBy, Choice}
 use Rattle.rm_probe.specs.declared.status.Status.{Status}
 use Rattle.rm_probe.specs.declared.status.Status.TheVariants.{Done, BadCapture, ReadFault, WriteFault, NoMemory, LinkFault, TooLong}
@@ -45,18 +47,18 @@ abbrev pub local_port : ℕ → Peer
 local_port port = record { ip = 127 ∷ 0 ∷ 0 ∷ 1 ∷ []; port = port }
 
 -- All that is said in a run that serves: of the frames up to the last datagram, and of the datagrams. The last line says `cut` where no frame
--- is left and the capture is cut short, and how many frames were taken.
+-- is left and a capture is cut short, and how many frames were taken.
 pub record IsServed (settings : Settings) (frames : List Frame) (stop : Stop) (arrivals : List Arrival) (said : List Said) : Type 0 where
   pub before : List Said
   pub are_said : AreSaid settings [] (events_by 1 frames (requests_of arrivals)) before
-  pub whole : said ≡ before ++ Last (stop_before (frames_left (requests_of arrivals) frames) stop)
+  pub whole : said ≡ before ++ Last (is_cut_behind (frames_left (requests_of arrivals) frames) stop)
       (length frames - length (frames_left (requests_of arrivals) frames)) (length arrivals) ∷ []
 
 -- the same, said with these answers
 pub record IsServedBy (settings : Settings) (frames : List Frame) (stop : Stop) (arrivals : List Arrival) (choices : List Choice) (said : List Said) : Type 0 where
   pub before : List Said
   pub are_said : AreSaidBy settings [] (events_by 1 frames (requests_of arrivals)) choices before
-  pub whole : said ≡ before ++ Last (stop_before (frames_left (requests_of arrivals) frames) stop)
+  pub whole : said ≡ before ++ Last (is_cut_behind (frames_left (requests_of arrivals) frames) stop)
       (length frames - length (frames_left (requests_of arrivals) frames)) (length arrivals) ∷ []
 
 -- of the moments that a clock told, one earlier than the last is taken as the last
@@ -77,40 +79,34 @@ pub record HaveCome (received received_after : Option (List Datagram)) (told tol
   pub tells : TellsAll told told_after moments
   pub rises : map (λ (arrival : Arrival). arrival.moment) arrivals ≡ rising last moments
 
--- the octets of the capture are these, and P holds of what is said of them
-abbrev pub OfServed : Settings → ℕ → List Arrival → FileUse → (List Said → Type 0) → Type 0
-OfServed settings lead arrivals capture P = OfFile capture.held (IsCaptureFile lead)
-    × OfFile capture.held (λ bytes. (frames : List Frame) (stop : Stop) → IsCapture lead bytes frames stop → (said : List Said) × IsServed settings frames stop arrivals said × P said)
+-- the files are captures, and P holds of what is said of them
+abbrev pub OfServed : Settings → ℕ → List Arrival → List FileUse → (List Said → Type 0) → Type 0
+OfServed settings lead arrivals captures P = OfFiles (helds_of captures) (AreCaptureFiles lead)
+    × OfFiles (helds_of captures) (λ files. (frames : List Frame) (stop : Stop) → AreCaptures lead files frames stop → (said : List Said) × IsServed settings frames stop arrivals said × P said)
 
 -- the messages of what is said: notifications go to the manager, replies to who asked
 abbrev pub served_messages : Peer → List Arrival → List Said → List Datagram
 served_messages manager arrivals said = messages (manager ∷ []) (asking_of arrivals) said
 
 -- the text of what is said was written, and its messages were sent
-abbrev pub WritesServed : Settings → ℕ → Peer → List Arrival → FileUse → SinkUse → LinkUse → Type 0
-WritesServed settings lead manager arrivals capture out link = OfServed settings lead arrivals capture
+abbrev pub WritesServed : Settings → ℕ → Peer → List Arrival → List FileUse → SinkUse → LinkUse → Type 0
+WritesServed settings lead manager arrivals captures out link = OfServed settings lead arrivals captures
     (λ said. Adds out.content out.content_after (lines said) × Adds link.sent link.sent_after (served_messages manager arrivals said))
 
--- a front of the text was written, and of the messages that its whole lines tell the first were sent
-abbrev pub WritesServedFront : Settings → ℕ → Peer → List Arrival → FileUse → SinkUse → LinkUse → Type 0
-WritesServedFront settings lead manager arrivals capture out link = OfServed settings lead arrivals capture
-    (λ said. IsSaidFront (manager ∷ []) (asking_of arrivals) out.content out.content_after link.sent link.sent_after said)
+-- all datagrams that came but the last are answered by what was told
+abbrev pub AreAnswered : List Arrival → List Said → Type 0
+AreAnswered arrivals told = length arrivals ≤ 1 + answers_in told
+
+-- Of what is said a front was told: the first things whole, by which all datagrams but the last are answered, and of the next one a front of its
+-- line, or that line and maybe its message.
+abbrev pub WritesServedFront : Settings → ℕ → Peer → List Arrival → List FileUse → SinkUse → LinkUse → Type 0
+WritesServedFront settings lead manager arrivals captures out link = OfServed settings lead arrivals captures
+    (λ said. (told : List Said) × IsSaidFront (manager ∷ []) (asking_of arrivals) out.content out.content_after link.sent link.sent_after said told × AreAnswered arrivals told)
 
 -- nothing was written or sent
 pub record IsIdle (out : SinkUse) (link : LinkUse) : Type 0 where
   pub unwritten : IsUntouched out
   pub unsent : link.sent_after ≡ link.sent
-
--- How a run that serves ends, status by status.
-abbrev pub EndsServing : Settings → ℕ → Peer → List Arrival → FileUse → SinkUse → LinkUse → Status → Type 0
-EndsServing settings lead manager arrivals capture out link Done = WritesServed settings lead manager arrivals capture out link
-EndsServing settings lead manager arrivals capture out link (BadCapture at) = OfFile capture.held (λ bytes. CallsFor lead (BadCapture at) bytes × IsIdle out link)
-EndsServing settings lead manager arrivals capture out link TooLong = OfFile capture.held (λ bytes. CallsFor lead TooLong bytes × IsIdle out link)
-EndsServing settings lead manager arrivals capture out link ReadFault = HasReadFault capture × (IsIdle out link ⊎ WritesServedFront settings lead manager arrivals capture out link)
-EndsServing settings lead manager arrivals capture out link WriteFault = HasPutFault out × WritesServedFront settings lead manager arrivals capture out link
-EndsServing settings lead manager arrivals capture out link LinkFault = HasLinkFault link × WritesServedFront settings lead manager arrivals capture out link
-EndsServing settings lead manager arrivals capture out link NoMemory = IsIdle out link
-EndsServing settings lead manager arrivals capture out link other = ⊥
 
 -- no port was bound, and nothing was received or sent
 pub record BindsNone (arrivals : List Arrival) (link : LinkUse) : Type 0 where
@@ -118,22 +114,40 @@ pub record BindsNone (arrivals : List Arrival) (link : LinkUse) : Type 0 where
   pub unasked : arrivals ≡ []
   pub unsent : link.sent_after ≡ link.sent
 
+-- the run ended before it bound its port, and before it wrote anything
+pub record HasNotBegun (arrivals : List Arrival) (out : SinkUse) (link : LinkUse) : Type 0 where
+  pub idle : IsIdle out link
+  pub binds : BindsNone arrivals link
+
+-- How a run that serves ends, status by status.
+abbrev pub EndsServing : Settings → ℕ → Peer → List Arrival → List FileUse → SinkUse → LinkUse → Status → Type 0
+EndsServing settings lead manager arrivals captures out link Done = WritesServed settings lead manager arrivals captures out link
+EndsServing settings lead manager arrivals captures out link (BadCapture interface at) =
+    CallsFor lead (BadCapture interface at) (helds_of captures) × (AreTold (helds_of captures) → HasNotBegun arrivals out link)
+EndsServing settings lead manager arrivals captures out link TooLong = CallsFor lead TooLong (helds_of captures) × (AreTold (helds_of captures) → HasNotBegun arrivals out link)
+EndsServing settings lead manager arrivals captures out link ReadFault =
+    HasReadFaults captures × (HasNotBegun arrivals out link ⊎ WritesServedFront settings lead manager arrivals captures out link)
+EndsServing settings lead manager arrivals captures out link WriteFault = HasPutFault out × WritesServedFront settings lead manager arrivals captures out link
+EndsServing settings lead manager arrivals captures out link LinkFault = HasLinkFault link × WritesServedFront settings lead manager arrivals captures out link
+EndsServing settings lead manager arrivals captures out link NoMemory = HasNotBegun arrivals out link
+EndsServing settings lead manager arrivals captures out link other = ⊥
+
 -- The port alone was bound, or none where the run isn't done.
 abbrev pub BindsPort : ℕ → List Arrival → LinkUse → Status → Type 0
 BindsPort port arrivals link Done = Adds link.bound link.bound_after (port ∷ [])
 BindsPort port arrivals link status = Adds link.bound link.bound_after (port ∷ []) ⊎ BindsNone arrivals link
 
 -- How `serve` ends, and what came: at most so many datagrams, and with Done just as many.
-pub record Serves (settings : Settings) (lead : ℕ) (port count : ℕ) (manager : Peer) (capture : FileUse) (out : SinkUse) (link : LinkUse) (clock : ClockUse) (result : Status) : Type 0 where
+pub record Serves (settings : Settings) (lead : ℕ) (port count : ℕ) (manager : Peer) (captures : List FileUse) (out : SinkUse) (link : LinkUse) (clock : ClockUse) (result : Status) : Type 0 where
   pub arrivals : List Arrival
   pub come : HaveCome link.received link.received_after clock.told clock.told_after 0 arrivals
   pub few : length arrivals ≤ count
   pub all : result ≡ Done → length arrivals ≡ count
   pub bound : BindsPort port arrivals link result
-  pub ends : EndsServing settings lead manager arrivals capture out link result
+  pub ends : EndsServing settings lead manager arrivals captures out link result
 
--- The status of a bad capture comes wherever it is one; and where the capture is good and no call failed, the run is done, or found no memory.
-pub record ServesExactly (lead : ℕ) (capture : FileUse) (out : SinkUse) (link : LinkUse) (result : Status) : Type 0 where
-  pub bad_capture : (bytes : List ℕ) (fault : PcapFault) → capture.held ≡ File bytes → IsBroken lead fault bytes → Comes (status_of fault) result
-  pub complete : (bytes : List ℕ) → capture.held ≡ File bytes → IsCaptureFile lead bytes
-      → (HasReadFault capture → ⊥) → (HasPutFault out → ⊥) → (HasLinkFault link → ⊥) → (result ≡ Done) ⊎ (result ≡ NoMemory)
+-- The status of a bad capture comes wherever one of them is bad; and where all captures are good and no call failed, the run is done, or found no memory.
+pub record ServesExactly (lead : ℕ) (captures : List FileUse) (out : SinkUse) (link : LinkUse) (result : Status) : Type 0 where
+  pub bad_capture : (files : List (List ℕ)) (found : CaptureFault) → helds_of captures ≡ map File files → IsFirstFault lead files found → Comes (status_of found) result
+  pub complete : (files : List (List ℕ)) → helds_of captures ≡ map File files → AreCaptureFiles lead files
+      → (HasReadFaults captures → ⊥) → (HasPutFault out → ⊥) → (HasLinkFault link → ⊥) → (result ≡ Done) ⊎ (result ≡ NoMemory)

@@ -8,7 +8,7 @@ use Rattle.rm_probe.specs.declared.status.Status.TheVariants.{Done, Usage, BadCa
 abbrev pub number_of : Status → ℕ
 number_of Done = 0
 number_of Usage = 2
-number_of (BadCapture at) = 3
+number_of (BadCapture interface at) = 3
 number_of (BadRequests line) = 4
 number_of ReadFault = 5
 number_of WriteFault = 6
@@ -24,7 +24,7 @@ status_for Send = LinkFault
 abbrev pub text_of : Status → List ℕ
 text_of Done = codes "done"
 text_of Usage = codes "usage"
-text_of (BadCapture at) = codes "bad capture at " ++ decimal at
+text_of (BadCapture interface at) = codes "bad capture " ++ decimal interface ++ codes " at " ++ decimal at
 text_of (BadRequests line) = codes "bad requests in line " ++ decimal line
 text_of ReadFault = codes "read fault"
 text_of WriteFault = codes "write fault"

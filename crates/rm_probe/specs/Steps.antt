@@ -1,20 +1,26 @@
 -- What the steps of a run do.
-use Rattle.std.specs.Prelude.{◌≡◌, ◌⊎◌, ℕ, ◌+◌, ◌≤◌, List, [], ◌∷◌, ◌++◌, length, map, take_while, Option, Some, None, Result, Ok, Err, ⊤}
-use Rattle.rm_edge.specs.Outside.{Adds, AddsFront, File, Held, OfFile, Rose}
+use Rattle.std.specs.Prelude.{◌≡◌, ◌⊎◌, ℕ, zero, ◌+◌, ◌≤◌, Bool, List, [], ◌∷◌, ◌++◌, length, map, take_while, Option, Some, None, Result, Ok, Err, ⊤}
+use Rattle.rm_edge.specs.Outside.{Adds, AddsFront, Held}
 use Rattle.rm_edge.specs.declared.outside.link.Peer.{Peer}
 use Rattle.rm_model.specs.Journal.{Frame, Journal, passes}
-use Rattle.rm_pcap.specs.Records.{Stop, Broken, Found, Whole, Stops, AreRecords}
-use Rattle.rm_pcap.specs.Progress.{Progress, Agrees}
+use Rattle.rm_pcap.specs.Records.{Stop, Found, Whole, Stops}
+use Rattle.rm_pcap.specs.View.{progress_of}
+use Rattle.rm_pcap.specs.declared.capture.Capture.{Capture}
 use Rattle.rm_pcap.specs.declared.reach.Reach.{Reach}
-use Rattle.rm_pcap.specs.declared.fault.PcapFault.{PcapFault}
+use Rattle.rm_captures.specs.Left.{AreLeft, IsNext, LooksAll, coming_of}
+use Rattle.rm_captures.specs.Merge.{is_by, frames_after}
+use Rattle.rm_captures.specs.Reading.{AreHeld}
+use Rattle.rm_captures.specs.Rounds.{AreCaptureFiles}
+use Rattle.rm_captures.specs.Told.{OfFiles}
+use Rattle.rm_captures.specs.declared.coming.Coming.{Coming}
 use Rattle.rm_probe.specs.Advance.{IsAdvanced}
 use Rattle.rm_agent.specs.Orderly.{IsOrderly}
 use Rattle.rm_probe.specs.Notes.{Note}
-use Rattle.rm_probe.specs.Said.{Response, Said, Notified, Responded, Last, messages, stop_before}
-use Rattle.rm_probe.specs.Capture.{IsCaptureFile, IsFaultless, CallsFor, status_of}
+use Rattle.rm_probe.specs.Said.{Response, Said, Notified, Responded, Last, is_cut, is_cut_behind, messages}
+use Rattle.rm_probe.specs.Capture.{CallsFor}
 use Rattle.rm_requests.specs.Lines.{TimedDatagram, IsRequestFile}
 use Rattle.rm_probe.specs.declared.replaying.NumberedDatagram.{NumberedDatagram}
-use Rattle.rm_probe.specs.Events.{Event, Asks, comings, is_by, frames_after}
+use Rattle.rm_probe.specs.Events.{Event, Asks, comings}
 use Rattle.rm_probe.specs.Text.{IsAnswered, AreSaid, IsRun, IsText}
 use Rattle.rm_probe.specs.Status.{status_for}
 use Rattle.rm_probe.specs.declared.output.OutputFault.{OutputFault}
@@ -27,24 +33,19 @@ use Rattle.rm_probe.specs.declared.status.Status.TheVariants.{Done, Usage, BadCa
 
 -- what the fault of a record ends by, or a failed read
 abbrev pub IsOfCapture : Status → Type 0
-IsOfCapture (BadCapture at) = ⊤
+IsOfCapture (BadCapture interface at) = ⊤
 IsOfCapture TooLong = ⊤
 IsOfCapture ReadFault = ⊤
 IsOfCapture status = ⊥
 
--- what judging a capture answers
-abbrev pub JudgesCapture : {T : Type 0} → ℕ → Held → ℕ → ℕ → Result T Status → Type 0
-JudgesCapture lead held before now (Ok done) = OfFile held (IsCaptureFile lead)
-JudgesCapture lead held before now (Err ReadFault) = Rose before now
-JudgesCapture lead held before now (Err NoMemory) = ⊤
-JudgesCapture lead held before now (Err (BadCapture at)) = OfFile held (CallsFor lead (BadCapture at))
-JudgesCapture lead held before now (Err TooLong) = OfFile held (CallsFor lead TooLong)
-JudgesCapture lead held before now (Err other) = ⊥
-
--- of a file of these octets, the records that aren't passed yet have these frames, and stop so
-pub record Leaves (progress : Progress) (bytes : List ℕ) (frames : List Frame) (stop : Stop) : Type 0 where
-  pub agrees : Agrees progress bytes
-  pub records : AreRecords progress.form progress.start progress.reach bytes frames stop
+-- what judging the captures answers, where Failed says that a read of one failed
+abbrev pub JudgesCaptures : {T : Type 0} → ℕ → List Held → Type 0 → Result T Status → Type 0
+JudgesCaptures lead helds Failed (Ok done) = OfFiles helds (AreCaptureFiles lead)
+JudgesCaptures lead helds Failed (Err ReadFault) = Failed
+JudgesCaptures lead helds Failed (Err NoMemory) = ⊤
+JudgesCaptures lead helds Failed (Err (BadCapture interface at)) = CallsFor lead (BadCapture interface at) helds
+JudgesCaptures lead helds Failed (Err TooLong) = CallsFor lead TooLong helds
+JudgesCaptures lead helds Failed (Err other) = ⊥
 
 -- the frame that stands next isn't before a moment, whatever the file has
 abbrev pub IsNotBefore : ℕ → Reach → Option Found → Type 0
@@ -52,11 +53,47 @@ IsNotBefore moment reach None = moment ≤ reach.last
 IsNotBefore moment reach (Some (Whole frame after)) = moment ≤ frame.moment
 IsNotBefore moment reach (Some (Stops stop)) = ⊤
 
--- The probe was given as many frames as were passed, and nothing later than a moment, before which no frame is left.
-pub record Keeps (moment : ℕ) (probe : Probe) (progress : Progress) : Type 0 where
+unfoldable pub AreNotBefore : ℕ → List Capture → Type 0
+AreNotBefore moment [] = ⊤
+AreNotBefore moment (capture ∷ more) = IsNotBefore moment (progress_of capture).reach (progress_of capture).ahead × AreNotBefore moment more
+
+-- how many records of all were passed
+unfoldable pub passed_of : List Capture → ℕ
+passed_of [] = zero
+passed_of (capture ∷ more) = (progress_of capture).reach.count + passed_of more
+
+-- of none more were passed than a capture has at most
+unfoldable pub AreFew : List Capture → Type 0
+AreFew [] = ⊤
+AreFew (capture ∷ more) = ((progress_of capture).reach.count ≤ 100000000) × AreFew more
+
+-- There are as many captures as names. The probe was given as many frames as were passed, and nothing later than a moment, before which no frame is
+-- left.
+pub record Keeps (named : ℕ) (moment : ℕ) (probe : Probe) (captures : List Capture) : Type 0 where
+  pub all : length captures ≡ named
   pub last : last_given probe ≤ moment
-  pub next : IsNotBefore moment progress.reach progress.ahead
-  pub count : frames_given probe ≡ progress.reach.count
+  pub next : AreNotBefore moment captures
+  pub count : frames_given probe ≡ passed_of captures
+  pub few : AreFew captures
+
+-- which frame comes next is told by a look at all captures
+abbrev pub IsTold : List (List ℕ) → List Capture → Coming → Type 0
+IsTold names captures coming = (held : List ℕ → Held) × (olds : List Capture) × LooksAll held 1 names olds captures (Some coming)
+
+-- what a look for the next frame answers, where these are left
+abbrev pub FindsFrame : List Frame → Result (Option Coming) Status → Type 0
+FindsFrame frames (Ok next) = IsNext frames next
+FindsFrame frames (Err status) = status ≡ ReadFault
+
+-- whether captures are cut short, as a look answers it where no frame is left
+abbrev pub FindsCut : Stop → Result Bool Status → Type 0
+FindsCut stop (Ok cut) = cut ≡ is_cut stop
+FindsCut stop (Err status) = status ≡ ReadFault
+
+-- and where these are left
+abbrev pub FindsCutBehind : List Frame → Stop → Result Bool Status → Type 0
+FindsCutBehind left stop (Ok cut) = cut ≡ is_cut_behind left stop
+FindsCutBehind left stop (Err status) = status ≡ ReadFault
 
 -- Frames pass one after the other, from a journal on, each after the samples that are due up to its moment. These are the
 -- notifications, and that is the journal after.
@@ -65,6 +102,13 @@ ArePassing settings journal [] notes after = (notes ≡ []) × (after ≡ journa
 ArePassing settings journal (frame ∷ frames) notes after =
     (first later : List Note) × (ready : Journal) × IsAdvanced settings frame.moment journal first ready × (notes ≡ first ++ later)
     × ArePassing settings (passes frame ∷ ready) frames later after
+
+-- Whatever frames the captures had left and whatever the journal was, the frame that comes next has passed, with these notifications.
+abbrev pub HasPassed : (List ℕ → Held) → List (List ℕ) → List Capture → List Capture → Probe → Probe → Coming → List Note → Type 0
+HasPassed held names olds news old new coming notes =
+    (files : List (List ℕ)) (frame : Frame) (more : List Frame) (stop : Stop) (journal : Journal) → AreHeld held names files → coming ≡ coming_of frame
+    → AreLeft 1 olds files (frame ∷ more) stop → Stands old journal
+    → AreLeft 1 news files more stop × ((ready : Journal) × IsAdvanced (settings_of old) frame.moment journal notes ready × Stands new (passes frame ∷ ready))
 
 -- some of the frames up to a moment have passed, from a journal on, with these notifications
 pub record HasBegun (settings : Settings) (moment : ℕ) (frames : List Frame) (journal : Journal) (notes : List Note) : Type 0 where
@@ -76,12 +120,12 @@ pub record HasBegun (settings : Settings) (moment : ℕ) (frames : List Frame) (
   pub orderly : IsOrderly reached
 
 -- what the frames up to a moment leave, and what they have made of the probe and the journal, with these notifications
-pub record Advanced (settings : Settings) (moment : ℕ) (bytes : List ℕ) (progress : Progress) (probe : Probe) (before : ℕ) (frames : List Frame) (stop : Stop) (journal : Journal) (notes : List Note) : Type 0 where
-  pub left : Leaves progress bytes (frames_after moment frames) stop
+pub record Advanced (settings : Settings) (moment : ℕ) (files : List (List ℕ)) (captures : List Capture) (probe : Probe) (before : ℕ) (frames : List Frame) (stop : Stop) (journal : Journal) (notes : List Note) : Type 0 where
+  pub left : AreLeft 1 captures files (frames_after moment frames) stop
   pub reached : Journal
   pub passing : ArePassing settings journal (take_while (is_by moment) frames) notes reached
   pub stands : Stands probe reached
-  pub count : progress.reach.count + length (frames_after moment frames) ≡ before + length frames
+  pub count : passed_of captures + length (frames_after moment frames) ≡ before + length frames
 
 -- the datagram of a request, at its moment
 abbrev pub timed : NumberedDatagram → TimedDatagram
@@ -96,9 +140,9 @@ Answers old new request notes response =
 
 -- What is said next: the notifications up to the moment of a datagram, and a response to it. Whatever may be said from there on may
 -- follow.
-pub record IsNextSaid (bytes : List ℕ) (old new : Progress) (settings : Settings) (probe : Probe) (number : ℕ) (request : TimedDatagram) (frames : List Frame) (stop : Stop) (journal : Journal) (said : List Said) : Type 0 where
-  pub left : Leaves new bytes (frames_after request.moment frames) stop
-  pub count : new.reach.count + length (frames_after request.moment frames) ≡ old.reach.count + length frames
+pub record IsNextSaid (files : List (List ℕ)) (old new : List Capture) (settings : Settings) (probe : Probe) (number : ℕ) (request : TimedDatagram) (frames : List Frame) (stop : Stop) (journal : Journal) (said : List Said) : Type 0 where
+  pub left : AreLeft 1 new files (frames_after request.moment frames) stop
+  pub count : passed_of new + length (frames_after request.moment frames) ≡ passed_of old + length frames
   pub after : Journal
   pub goes : (more : List Event) (rest : List Said) → AreSaid settings after more rest
       → AreSaid settings journal (comings (take_while (is_by request.moment) frames) ++ Asks number request ∷ more) (said ++ rest)
@@ -111,14 +155,18 @@ pub record IsResponse (number : ℕ) (said : List Said) : Type 0 where
   pub response : Response
   pub is : said ≡ map Notified notes ++ Responded number moment response ∷ []
 
+-- what is said of one datagram: a response, or notifications alone
+abbrev pub IsOfOne : ℕ → List Said → Type 0
+IsOfOne number said = IsResponse number said ⊎ ((notes : List Note) × (said ≡ map Notified notes))
+
 -- what is said last: the notifications of the frames that are left, and the last line
 abbrev pub IsLastSaid : Settings → ℕ → ℕ → List Frame → Stop → Journal → List Said → Type 0
 IsLastSaid settings passed requests frames stop journal said =
-    (before : List Said) × AreSaid settings journal (comings frames) before × (said ≡ before ++ Last stop (passed + length frames) requests ∷ [])
+    (before : List Said) × AreSaid settings journal (comings frames) before × (said ≡ before ++ Last (is_cut stop) (passed + length frames) requests ∷ [])
 
 -- the last line of so many frames and datagrams, where these frames may be left
 abbrev pub IsLastLine : ℕ → ℕ → List Frame → Stop → List Said → Type 0
-IsLastLine passed requests left stop said = said ≡ Last (stop_before left stop) passed requests ∷ []
+IsLastLine passed requests left stop said = said ≡ Last (is_cut_behind left stop) passed requests ∷ []
 
 -- no message tells it
 abbrev pub TellsNoMessage : List Said → Type 0
@@ -135,20 +183,20 @@ ends_by (Ok done) = Done
 ends_by (Err status) = status
 
 -- What was said by a step: what it was to say, where nothing but a put or a send failed; some of its notifications where a read did.
--- Other faults are how the records stop.
-abbrev pub SaysNext : {T : Type 0} → (List Said → Type 0) → (List Note → Type 0) → Stop → List Said → Result T Status → Type 0
-SaysNext IsNext IsBegun stop said (Ok done) = IsNext said
-SaysNext IsNext IsBegun stop said (Err WriteFault) = IsNext said
-SaysNext IsNext IsBegun stop said (Err LinkFault) = IsNext said
-SaysNext IsNext IsBegun stop said (Err ReadFault) = (notes : List Note) × IsBegun notes × (said ≡ map Notified notes)
-SaysNext IsNext IsBegun stop said (Err status) = (fault : PcapFault) × (stop ≡ Broken fault) × (status ≡ status_of fault)
+-- Captures that are left have no other fault.
+abbrev pub SaysNext : {T : Type 0} → (List Said → Type 0) → (List Note → Type 0) → List Said → Result T Status → Type 0
+SaysNext IsNext IsBegun said (Ok done) = IsNext said
+SaysNext IsNext IsBegun said (Err WriteFault) = IsNext said
+SaysNext IsNext IsBegun said (Err LinkFault) = IsNext said
+SaysNext IsNext IsBegun said (Err ReadFault) = (notes : List Note) × IsBegun notes × (said ≡ map Notified notes)
+SaysNext IsNext IsBegun said (Err status) = ⊥
 
--- What was said by a step, whatever frames the capture had left and whatever the journal was. Where a read failed, some of the frames up to a
+-- What was said by a step, whatever frames the captures had left and whatever the journal was. Where a read failed, some of the frames up to a
 -- moment have passed.
-abbrev pub SaysFrom : {T : Type 0} → Held → Progress → Probe → ℕ → (List ℕ → List Frame → Stop → Journal → List Said → Type 0) → List Said → Result T Status → Type 0
-SaysFrom held progress probe moment IsNext said result =
-    (bytes : List ℕ) (frames : List Frame) (stop : Stop) (journal : Journal) → held ≡ File bytes → Leaves progress bytes frames stop → Stands probe journal
-    → SaysNext (IsNext bytes frames stop journal) (HasBegun (settings_of probe) moment frames journal) stop said result
+abbrev pub SaysFrom : {T : Type 0} → (List ℕ → Held) → List (List ℕ) → List Capture → Probe → ℕ → (List (List ℕ) → List Frame → Stop → Journal → List Said → Type 0) → List Said → Result T Status → Type 0
+SaysFrom held names captures probe moment IsNext said result =
+    (files : List (List ℕ)) (frames : List Frame) (stop : Stop) (journal : Journal) → AreHeld held names files → AreLeft 1 captures files frames stop → Stands probe journal
+    → SaysNext (IsNext files frames stop journal) (HasBegun (settings_of probe) moment frames journal) said result
 
 -- what failed last after a step: nothing, or what it ends by
 abbrev pub FailsBy : {T : Type 0} → Option OutputFault → Result T Status → Type 0
@@ -177,7 +225,7 @@ Writes settings frames stop requests old new ReadFault = (text : List ℕ) × Is
 Writes settings frames stop requests old new NoMemory = new ≡ old
 Writes settings frames stop requests old new other = ⊥
 
--- what isn't of a call on the capture, nor of a put or a send
+-- what isn't of a call on a capture, nor of a put or a send
 abbrev pub IsForeign : Status → Type 0
 IsForeign Done = ⊤
 IsForeign Usage = ⊤
@@ -185,27 +233,26 @@ IsForeign (BadRequests line) = ⊤
 IsForeign NoMemory = ⊤
 IsForeign status = ⊥
 
--- these don't come once both files were judged and the capture was begun
+-- these don't come once all files were judged and the captures were begun
 abbrev pub IsQuiet : Status → Type 0
 IsQuiet Usage = ⊤
 IsQuiet NoMemory = ⊤
 IsQuiet status = ⊥
 
--- no capture is held, or none is left of it
-abbrev pub IsNotCapture : ℕ → Held → Type 0
-IsNotCapture lead held = (bytes : List ℕ) → held ≡ File bytes → IsCaptureFile lead bytes → ⊥
+-- the files held aren't captures, or these aren't left of them
+abbrev pub AreNotCaptures : ℕ → (List ℕ → Held) → List (List ℕ) → Type 0
+AreNotCaptures lead held names = (files : List (List ℕ)) → AreHeld held names files → AreCaptureFiles lead files → ⊥
 
-abbrev pub IsNotLeft : Held → Progress → Type 0
-IsNotLeft held progress =
-    (bytes : List ℕ) (frames : List Frame) (stop : Stop) → held ≡ File bytes → Leaves progress bytes frames stop → progress.reach.count ≡ 0 → IsFaultless stop → ⊥
+abbrev pub AreNotLeft : (List ℕ → Held) → List (List ℕ) → List Capture → Type 0
+AreNotLeft held names captures = (files : List (List ℕ)) (frames : List Frame) (stop : Stop) → AreHeld held names files → AreLeft 1 captures files frames stop → ⊥
 
 -- no request file is held
 abbrev pub IsNotRequests : Held → Type 0
 IsNotRequests held = (bytes : List ℕ) → held ≡ File bytes → IsRequestFile bytes → ⊥
 
--- Both files were judged before they are read again: where a fault of one is found, a shelf held another one then.
+-- All files were judged before they are read again: where a fault of one is found, a shelf held another one then.
 abbrev pub FindsAnother : Type 0 → Type 0 → Status → Type 0
-FindsAnother NoCapture NoRequests (BadCapture at) = NoCapture
+FindsAnother NoCapture NoRequests (BadCapture interface at) = NoCapture
 FindsAnother NoCapture NoRequests (BadRequests line) = NoRequests
 FindsAnother NoCapture NoRequests TooLong = NoCapture ⊎ NoRequests
 FindsAnother NoCapture NoRequests status = ⊤

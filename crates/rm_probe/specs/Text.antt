@@ -14,7 +14,7 @@ use Rattle.rm_requests.specs.Lines.{TimedDatagram}
 use Rattle.rm_probe.specs.Notes.{Note}
 use Rattle.rm_probe.specs.Advance.{IsAdvanced}
 use Rattle.rm_probe.specs.Events.{Event, Comes, Asks, events}
-use Rattle.rm_probe.specs.Said.{Response, Replied, Dropped, Said, Notified, Responded, Last, lines}
+use Rattle.rm_probe.specs.Said.{Response, Replied, Dropped, Said, Notified, Responded, Last, is_cut, lines}
 
 -- What may be answered to a datagram that comes after a journal, at a moment in milliseconds: that it is dropped, and why, or
 -- a reply to it. A SetRequest that is accepted makes the journal longer, and with all else it stays.
@@ -71,11 +71,11 @@ AreSaidBy settings journal (Asks number request ∷ events) choices said =
     × (ReservesNothing ready request.datagram ⊎ (slice_get choices 0 ≡ Some (record { response = response; after = after })))
     × (said ≡ map Notified notes ++ Responded number request.moment response ∷ rest) × AreSaidBy settings after events (drop 1 choices) rest
 
--- All that is said in a run of these frames and datagrams, of which nothing is left, where the capture's records stop so.
+-- All that is said in a run of these frames and datagrams, of which nothing is left, where the captures' records stop so.
 pub record IsRun (settings : Settings) (frames : List Frame) (stop : Stop) (requests : List TimedDatagram) (said : List Said) : Type 0 where
   pub before : List Said
   pub are_said : AreSaid settings [] (events 1 frames requests) before
-  pub whole : said ≡ before ++ Last stop (length frames) (length requests) ∷ []
+  pub whole : said ≡ before ++ Last (is_cut stop) (length frames) (length requests) ∷ []
 
 -- the text may be written for these frames and datagrams
 pub record IsText (settings : Settings) (frames : List Frame) (stop : Stop) (requests : List TimedDatagram) (text : List ℕ) : Type 0 where
@@ -87,4 +87,4 @@ pub record IsText (settings : Settings) (frames : List Frame) (stop : Stop) (req
 pub record IsTextBy (settings : Settings) (frames : List Frame) (stop : Stop) (requests : List TimedDatagram) (choices : List Choice) (text : List ℕ) : Type 0 where
   pub before : List Said
   pub are_said : AreSaidBy settings [] (events 1 frames requests) choices before
-  pub whole : text ≡ lines (before ++ Last stop (length frames) (length requests) ∷ [])
+  pub whole : text ≡ lines (before ++ Last (is_cut stop) (length frames) (length requests) ∷ [])

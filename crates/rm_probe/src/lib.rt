@@ -1,12 +1,12 @@
-//! A probe, to which frames and datagrams come one by one, and the runs that replay a capture: one answers the datagrams of a request
-//! file, the other those that come over a link.
+//! A probe, to which frames and datagrams come one by one, and the runs that replay up to four captures: one answers the datagrams of a
+//! request file, the other those that come over a link.
 #![tactic(auto)]
 
-mod capture;
 mod entry;
 mod judging;
 mod laws;
 mod line;
+mod names;
 mod notes;
 mod output;
 mod post;

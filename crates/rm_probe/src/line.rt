@@ -2,13 +2,12 @@
 ghost use Rattle.std.specs.Prelude.{◌≡◌, ◌+◌, ◌≤◌, ◌++◌, [], decimal, length};
 ghost use Rattle.hex.specs.Hex.{encode_lower};
 ghost use Rattle.rm_agent.specs.Answers.{IsShort};
-ghost use Rattle.rm_probe.specs.Said.{Responded, answer_line, last_line, line_of, reason_text, response_of, response_text, stop_by};
+ghost use Rattle.rm_probe.specs.Said.{Responded, answer_line, last_line, line_of, reason_text, response_of, response_text};
 ghost use Rattle.rm_probe.specs.Notes.{trap_line};
 
 use arrayvec::ArrayVec;
 use itoa::Buffer;
 use rm_agent::{Answer, MOST_REPLY, Reason};
-use rm_pcap::Step;
 
 /// The octets of a line, its line feed included.
 pub type Line = ArrayVec<u8, 3072>;
@@ -114,15 +113,16 @@ pub fn answer_line(
     push(line, b"\n");
 }
 
-/// Writes the last line into an empty line. The step tells whether the capture was cut short.
+/// Writes the last line into an empty line: whether a capture is cut short, and how many frames and datagrams there were.
 #[tactic(auto, unfolding(crate::specs::Said::last_line))]
-pub fn last_line(step: Step<'_>, frames: u64, requests: u64, line: &mut Line)
+pub fn last_line(is_cut: bool, frames: u64, requests: u64, line: &mut Line)
     requires { line.old.items ≡ [] }
-    ensures { line.new.items ≡ last_line (stop_by step.entry) frames requests }
+    ensures { line.new.items ≡ last_line is_cut frames requests }
 {
-    match step {
-        Step::Cut(_) => push(line, b"cut"),
-        _ => push(line, b"end"),
+    if is_cut {
+        push(line, b"cut");
+    } else {
+        push(line, b"end");
     }
     push(line, b" ");
     push_number(line, frames);

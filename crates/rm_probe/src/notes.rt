@@ -2,13 +2,12 @@
 ghost use Rattle.std.specs.Prelude.{◌≡◌, ◌≤◌, List, [], ◌∷◌, Option, length};
 ghost use Rattle.rm_agent.specs.Answers.{IsShort};
 ghost use Rattle.rm_probe.specs.Output.{failed_by};
-ghost use Rattle.rm_probe.specs.Said.{Last, Notified, Responded, Said, SaysMore, response_of, stop_by};
+ghost use Rattle.rm_probe.specs.Said.{Last, Notified, Responded, Said, SaysMore, response_of};
 ghost use Rattle.rm_probe.specs.declared.output.OutputFault.{OutputFault as Failing};
 
 use crate::output::OutputFault;
 use crate::replaying::NumberedDatagram;
 use rm_agent::{Answer, MOST_REPLY};
-use rm_pcap::Step;
 
 /// Where the notifications of a probe go (RFC 1905, section 4.2.6).
 pub trait Notes {
@@ -40,8 +39,8 @@ pub(crate) trait Outlet: Notes {
         ensures says { SaysMore Self.since self.old self.new (Responded request.entry.number request.entry.moment (response_of answer out.now) ∷ []) }
         ensures failed { failed self.new ≡ failed_by result };
 
-    /// Says how the records stop, by the step that was found, and how many frames and datagrams there were.
-    fn last(&mut self, step: Step<'_>, frames: u64, requests: u64) -> Result<(), OutputFault>
-        ensures says { SaysMore Self.since self.old self.new (Last (stop_by step.entry) frames requests ∷ []) }
+    /// Says whether a capture is cut short, and how many frames and datagrams there were.
+    fn last(&mut self, is_cut: bool, frames: u64, requests: u64) -> Result<(), OutputFault>
+        ensures says { SaysMore Self.since self.old self.new (Last is_cut frames requests ∷ []) }
         ensures failed { failed self.new ≡ failed_by result };
 }

@@ -10,7 +10,6 @@ use crate::post::{Addressee, Post, Unsent};
 use crate::replaying::NumberedDatagram;
 use rm_agent::{Answer, MOST_REPLY};
 use rm_edge::Sink;
-use rm_pcap::Step;
 
 /// Why an output takes nothing more.
 #[derive(Clone, Copy, Debug, PartialEq, Eq)]
@@ -108,7 +107,7 @@ impl<K: Sink, P: Post> Notes for Output<'_, K, P> {
       record {
         still = P.still state.post;
         adds = nothing_added (shown K.content K.faults P.sent P.faults state.sink.now state.post state.failed);
-        order = λ none. front_none (P.peers state.post Manager) (λ number. P.peers state.post Asking) (K.content state.sink.now) (P.sent state.post);
+        order = λ none. ([], front_none (P.peers state.post Manager) (λ number. P.peers state.post Asking) (K.content state.sink.now) (P.sent state.post));
       },
     ) };
 
@@ -138,9 +137,9 @@ impl<K: Sink, P: Post> Outlet for Output<'_, K, P> {
         }
     }
 
-    fn last(&mut self, step: Step<'_>, frames: u64, requests: u64) -> Result<(), OutputFault> {
+    fn last(&mut self, is_cut: bool, frames: u64, requests: u64) -> Result<(), OutputFault> {
         let mut line = Line::new();
-        line::last_line(step, frames, requests, &mut line);
+        line::last_line(is_cut, frames, requests, &mut line);
         self.put(&line)
     }
 }

@@ -1,6 +1,7 @@
 // How a run ended.
 ghost use Rattle.std.specs.Prelude.{◌≡◌, Some};
 
+use rm_captures::CaptureFault;
 use rm_pcap::PcapFault;
 use rm_requests::RequestsFault;
 use std::fmt::{self, Display, Formatter, Write};
@@ -12,8 +13,8 @@ pub enum Status {
     Done,
     /// The words aren't a command.
     Usage,
-    /// The capture breaks a rule of its form first at that offset.
-    BadCapture(u64),
+    /// The capture of that interface breaks a rule of its form first at that offset.
+    BadCapture { interface: u32, at: u64 },
     /// That line of the request file, from 1, is the first that isn't of the form or whose moment falls.
     BadRequests(u64),
     /// A read failed.
@@ -24,7 +25,7 @@ pub enum Status {
     NoMemory,
     /// A call on the socket failed.
     LinkFault,
-    /// The capture has too many records, or the request file too many lines.
+    /// A capture has too many records, or the request file too many lines.
     TooLong,
 }
 
@@ -39,7 +40,7 @@ impl Status {
         match self {
             Status::Done => 0,
             Status::Usage => 2,
-            Status::BadCapture(_) => 3,
+            Status::BadCapture { .. } => 3,
             Status::BadRequests(_) => 4,
             Status::ReadFault => 5,
             Status::WriteFault => 6,
@@ -61,19 +62,20 @@ impl Status {
     }
 }
 
-/// How a run ends by a fault of its capture.
-impl From<PcapFault> for Status {
+/// How a run ends by a fault of one of its captures.
+impl From<CaptureFault> for Status {
     ghost use Rattle.rm_probe.specs.Capture.{status_of};
 
-    ghost from_gives = { λ fault status. status ≡ status_of fault };
+    ghost from_gives = { λ found status. status ≡ status_of found };
 
-    fn from(fault: PcapFault) -> Status {
-        match fault {
-            PcapFault::Magic => Status::BadCapture(0),
-            PcapFault::Version => Status::BadCapture(4),
-            PcapFault::LinkType => Status::BadCapture(20),
+    fn from(found: CaptureFault) -> Status {
+        let interface = found.interface;
+        match found.fault {
+            PcapFault::Magic => Status::BadCapture { interface, at: 0 },
+            PcapFault::Version => Status::BadCapture { interface, at: 4 },
+            PcapFault::LinkType => Status::BadCapture { interface, at: 20 },
             PcapFault::Included(at) | PcapFault::Original(at) | PcapFault::Late(at) => {
-                Status::BadCapture(at)
+                Status::BadCapture { interface, at }
             }
             PcapFault::TooMany => Status::TooLong,
             PcapFault::Read => Status::ReadFault,
@@ -92,7 +94,7 @@ impl Display for Status {
         match self {
             Status::Done => f.write_str("done"),
             Status::Usage => f.write_str("usage"),
-            Status::BadCapture(at) => write!(f, "bad capture at {at}"),
+            Status::BadCapture { interface, at } => write!(f, "bad capture {interface} at {at}"),
             Status::BadRequests(line) => write!(f, "bad requests in line {line}"),
             Status::ReadFault => f.write_str("read fault"),
             Status::WriteFault => f.write_str("write fault"),
