@@ -1,8 +1,9 @@
 pub mod ComingLemmas
+pub mod EndingLemmas
 pub mod MergeLemmas
-mod NameLemmas
+pub mod NameLemmas
 pub mod NextLemmas
 mod OrderLemmas
 pub mod PassLemmas
 pub mod RoundLemmas
-mod ToldLemmas
+pub mod ToldLemmas

@@ -7,7 +7,7 @@ use Rattle.rm_pcap.specs.declared.form.Form.{Form}
 use Rattle.rm_pcap.specs.declared.start.Start.{Start}
 use Rattle.rm_pcap.specs.declared.reach.Reach.{Reach}
 use Rattle.rm_pcap.specs.declared.fault.PcapFault.{PcapFault}
-use Rattle.rm_pcap.specs.declared.fault.PcapFault.TheVariants.{Read}
+use Rattle.rm_pcap.specs.declared.fault.PcapFault.TheVariants.{Magic, Version, LinkType, Included, Original, Late, TooMany, Read, NoMemory}
 use Rattle.rm_pcap.specs.declared.capture.Capture.{Capture}
 use Rattle.rm_pcap.specs.Records.{Stop, Broken, Found, Whole, Stops as StopsAt, found_at, AreRecords}
 use Rattle.rm_pcap.specs.Progress.{Progress, moment_found}
@@ -17,7 +17,7 @@ use Rattle.rm_pcap.proofs.RecordLaws.{taken}
 use Rattle.rm_captures.specs.Merge.{merge}
 use Rattle.rm_captures.specs.Rounds.{IsFaultless}
 use Rattle.rm_captures.specs.Reading.{AreHeld}
-use Rattle.rm_captures.specs.Left.{Leaves, AreLeft, IsNext, sooner}
+use Rattle.rm_captures.specs.Left.{Leaves, AreLeft, IsNext, IsOfRecords, sooner}
 use Rattle.rm_captures.specs.declared.coming.Coming.{Coming}
 use Rattle.rm_captures.proofs.MergeLemmas.{merge_first, merge_second, merge_none, merge_alone}
 
@@ -135,3 +135,15 @@ next_fails_behind held name names interface old new olds news [] frames stop mom
 next_fails_behind held name names interface old new olds news (bytes ∷ files) frames stop moment fault are looks rest (own, more, end, last, leaves, behind, frames_are, stop_is) =
     let still = leaves_looking interface (held name) (progress_of old) (progress_of new) bytes own end moment are.0 looks leaves in
     let r = rest files more last are.1 behind in (r.0, (own, more, end, last, still, r.1, frames_are, stop_is))
+
+-- a look fails by a read or by a rule of records
+pub of_records : (held : Held) (progress : Progress) (fault : PcapFault) → Fails held progress fault → IsOfRecords fault
+of_records held progress Read fails = tt
+of_records held progress (Included at) fails = tt
+of_records held progress (Original at) fails = tt
+of_records held progress (Late at) fails = tt
+of_records held progress TooMany fails = tt
+of_records held progress Magic fails = elim fails.cause [ inl e ↦ absurd cc | inr breaks ↦ breaks.place ]
+of_records held progress Version fails = elim fails.cause [ inl e ↦ absurd cc | inr breaks ↦ breaks.place ]
+of_records held progress LinkType fails = elim fails.cause [ inl e ↦ absurd cc | inr breaks ↦ breaks.place ]
+of_records held progress NoMemory fails = elim fails.cause [ inl e ↦ absurd cc | inr breaks ↦ breaks.place ]

@@ -1,12 +1,13 @@
 -- What is left of captures that are read together, and which frame of theirs comes next.
-use Rattle.std.specs.Prelude.{◌≡◌, ◌⊎◌, ◌<◌, ℕ, ◌+◌, nat_lt, if◌then◌else◌, List, [], ◌∷◌, Option, Some, None, Result, Ok, Err}
+use Rattle.std.specs.Prelude.{◌≡◌, ◌⊎◌, ◌<◌, ℕ, zero, ◌+◌, Bool, true, false, nat_lt, if◌then◌else◌, List, [], ◌∷◌, Option, Some, None, Result, Ok, Err, ⊤}
 use Rattle.rm_edge.specs.Outside.{Held}
 use Rattle.rm_model.specs.Journal.{Frame}
-use Rattle.rm_pcap.specs.declared.fault.PcapFault.TheVariants.{Read}
+use Rattle.rm_pcap.specs.declared.fault.PcapFault.{PcapFault}
+use Rattle.rm_pcap.specs.declared.fault.PcapFault.TheVariants.{Included, Original, Late, TooMany, Read}
 use Rattle.rm_pcap.specs.declared.capture.Capture.{Capture}
 use Rattle.rm_pcap.specs.declared.frame.Step.{Step}
 use Rattle.rm_pcap.specs.declared.frame.Step.TheVariants.{Next}
-use Rattle.rm_pcap.specs.Records.{Stop, Ended, AreRecords}
+use Rattle.rm_pcap.specs.Records.{Stop, Ended, CutAt, AreRecords}
 use Rattle.rm_pcap.specs.Progress.{Progress, Agrees, frame_of}
 use Rattle.rm_pcap.specs.Calls.{LooksAt, Steps, Fails}
 use Rattle.rm_pcap.specs.View.{progress_of}
@@ -73,6 +74,35 @@ StepsOne held from interface (name ∷ names) (old ∷ olds) [] result = ⊥
 StepsOne held from interface (name ∷ names) (old ∷ olds) (new ∷ news) result =
     ((interface ≡ from) × StepsSo interface (held name) (progress_of old) (progress_of new) result × (news ≡ olds))
     ⊎ ((from < interface) × (new ≡ old) × StepsOne held (from + 1) interface names olds news result)
+
+-- how many records of all were passed
+unfoldable pub passed_of : List Capture → ℕ
+passed_of [] = zero
+passed_of (capture ∷ more) = (progress_of capture).reach.count + passed_of more
+
+-- a look at a record or a step fails by that, a read or a rule of records
+abbrev pub IsOfRecords : PcapFault → Type 0
+IsOfRecords Read = ⊤
+IsOfRecords (Included at) = ⊤
+IsOfRecords (Original at) = ⊤
+IsOfRecords (Late at) = ⊤
+IsOfRecords TooMany = ⊤
+IsOfRecords fault = ⊥
+
+-- whether a capture is cut short, by how the records stop
+abbrev pub is_cut : Stop → Bool
+is_cut (CutAt at) = true
+is_cut stop = false
+
+-- whether one is cut short is told, or a read failed
+abbrev pub EndsCut : Stop → Result Bool PcapFault → Type 0
+EndsCut stop (Ok cut) = cut ≡ is_cut stop
+EndsCut stop (Err fault) = fault ≡ Read
+
+-- and of several
+abbrev pub EndCut : Stop → Result Bool CaptureFault → Type 0
+EndCut stop (Ok cut) = cut ≡ is_cut stop
+EndCut stop (Err found) = found.fault ≡ Read
 
 -- the frame is lent
 abbrev pub LendsNext : Step → Frame → Type 0

@@ -3,7 +3,7 @@ ghost use Rattle.std.specs.Prelude.{◌≡◌, ◌<◌, ◌+◌, ◌^◌, ℕ, L
 ghost use Rattle.rm_edge.specs.Shelves.{KeepsShelf};
 ghost use Rattle.rm_model.specs.Journal.{Frame};
 ghost use Rattle.rm_pcap.specs.Records.{Stop};
-ghost use Rattle.rm_captures.specs.Left.{AreLeft, FindsNext, LooksAll, sooner};
+ghost use Rattle.rm_captures.specs.Left.{AreLeft, FindsNext, IsOfRecords, LooksAll, sooner};
 ghost use Rattle.rm_captures.specs.Reading.{texts, AreHeld, IsOneOf, OneRose};
 
 use crate::fault::CaptureFault;
@@ -32,6 +32,7 @@ pub fn next_of<F: Shelf>(
     requires low { interface + length names.now < 2 ^ 32 }
     ensures shelf { KeepsShelf F.held F.faults shelf.old shelf.new (IsOneOf (texts names.now)) ((at : ℕ) × (result ≡ Err (record { interface = at; fault = PcapFault.Read }))) }
     ensures cause { IfErr result (λ found. found.fault ≡ PcapFault.Read → OneRose (F.faults shelf.old) (F.faults shelf.new) (texts names.now)) }
+    ensures kinds { IfErr result (λ found. IsOfRecords found.fault) }
     ensures looks { IfOk result (LooksAll (F.held shelf.old) interface (texts names.now) captures.old captures.new) }
     ensures next { (files : List (List ℕ)) (frames : List Frame) (stop : Stop) → AreHeld (F.held shelf.old) (texts names.now) files
         → AreLeft interface captures.old files frames stop → FindsNext frames result × AreLeft interface captures.new files frames stop }

@@ -3,13 +3,17 @@
 
 mod beginning;
 mod coming;
+mod counting;
+mod ending;
 mod fault;
 mod judging;
 mod laws;
 mod passing;
 
-pub use beginning::begin;
+pub use beginning::{FIRST, begin};
 pub use coming::{Coming, next_of};
+pub use counting::passed;
+pub use ending::is_cut;
 pub use fault::CaptureFault;
 pub use judging::judge;
 pub use laws::merge_in_order;

@@ -4,12 +4,12 @@ use Rattle.rm_edge.specs.Outside.{Held}
 use Rattle.rm_edge.specs.declared.outside.link.Peer.{Peer}
 use Rattle.rm_model.specs.Journal.{Frame}
 use Rattle.rm_pcap.specs.Records.{Stop}
-use Rattle.rm_captures.specs.Left.{AreLeft}
+use Rattle.rm_captures.specs.Left.{AreLeft, passed_of}
 use Rattle.rm_captures.specs.Reading.{AreHeld}
 use Rattle.rm_captures.specs.Rounds.{AreCaptures}
 use Rattle.rm_settings.specs.declared.settings.Settings.{Settings}
 use Rattle.rm_probe.specs.Probe.{IsFresh, settings_of}
-use Rattle.rm_probe.specs.Steps.{Keeps, passed_of}
+use Rattle.rm_probe.specs.Steps.{Keeps}
 use Rattle.rm_probe.specs.Turns.{room}
 use Rattle.rm_probe.specs.declared.serving.Serving.{Serving}
 

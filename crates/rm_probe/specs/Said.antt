@@ -4,7 +4,8 @@ use Rattle.hex.specs.Hex.{encode_lower}
 use Rattle.rm_edge.specs.Link.{Datagram}
 use Rattle.rm_edge.specs.declared.outside.link.Peer.{Peer}
 use Rattle.rm_model.specs.Journal.{Frame}
-use Rattle.rm_pcap.specs.Records.{Stop, CutAt}
+use Rattle.rm_pcap.specs.Records.{Stop}
+use Rattle.rm_captures.specs.Left.{is_cut}
 use Rattle.rm_agent.specs.declared.answer.Reason.{Reason}
 use Rattle.rm_agent.specs.declared.answer.Reason.TheVariants.{TooLong, Malformed, Version, NotRequest, Community}
 use Rattle.rm_agent.specs.declared.answer.Answer.{Answer}
@@ -50,12 +51,7 @@ abbrev pub last_word : Bool → List ℕ
 last_word true = codes "cut"
 last_word false = codes "end"
 
--- whether a capture is cut short, by how the records stop
-abbrev pub is_cut : Stop → Bool
-is_cut (CutAt at) = true
-is_cut stop = false
-
--- and as the last line says it where frames may be left: only where none is
+-- whether a capture is cut short, as the last line says it where frames may be left: only where none is
 abbrev pub is_cut_behind : List Frame → Stop → Bool
 is_cut_behind [] stop = is_cut stop
 is_cut_behind (frame ∷ more) stop = false

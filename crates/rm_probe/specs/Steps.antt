@@ -1,13 +1,13 @@
 -- What the steps of a run do.
-use Rattle.std.specs.Prelude.{◌≡◌, ◌⊎◌, ℕ, zero, ◌+◌, ◌≤◌, Bool, List, [], ◌∷◌, ◌++◌, length, map, take_while, Option, Some, None, Result, Ok, Err, ⊤}
-use Rattle.rm_edge.specs.Outside.{Adds, AddsFront, Held}
+use Rattle.std.specs.Prelude.{◌≡◌, ◌⊎◌, ℕ, ◌+◌, ◌≤◌, Bool, List, [], ◌∷◌, ◌++◌, length, map, take_while, Option, Some, None, Result, Ok, Err, ⊤}
+use Rattle.rm_edge.specs.Outside.{Adds, AddsFront, File, Held}
 use Rattle.rm_edge.specs.declared.outside.link.Peer.{Peer}
 use Rattle.rm_model.specs.Journal.{Frame, Journal, passes}
 use Rattle.rm_pcap.specs.Records.{Stop, Found, Whole, Stops}
 use Rattle.rm_pcap.specs.View.{progress_of}
 use Rattle.rm_pcap.specs.declared.capture.Capture.{Capture}
 use Rattle.rm_pcap.specs.declared.reach.Reach.{Reach}
-use Rattle.rm_captures.specs.Left.{AreLeft, IsNext, LooksAll, coming_of}
+use Rattle.rm_captures.specs.Left.{AreLeft, IsNext, LooksAll, coming_of, is_cut, passed_of}
 use Rattle.rm_captures.specs.Merge.{is_by, frames_after}
 use Rattle.rm_captures.specs.Reading.{AreHeld}
 use Rattle.rm_captures.specs.Rounds.{AreCaptureFiles}
@@ -16,7 +16,7 @@ use Rattle.rm_captures.specs.declared.coming.Coming.{Coming}
 use Rattle.rm_probe.specs.Advance.{IsAdvanced}
 use Rattle.rm_agent.specs.Orderly.{IsOrderly}
 use Rattle.rm_probe.specs.Notes.{Note}
-use Rattle.rm_probe.specs.Said.{Response, Said, Notified, Responded, Last, is_cut, is_cut_behind, messages}
+use Rattle.rm_probe.specs.Said.{Response, Said, Notified, Responded, Last, is_cut_behind, messages}
 use Rattle.rm_probe.specs.Capture.{CallsFor}
 use Rattle.rm_requests.specs.Lines.{TimedDatagram, IsRequestFile}
 use Rattle.rm_probe.specs.declared.replaying.NumberedDatagram.{NumberedDatagram}
@@ -56,11 +56,6 @@ IsNotBefore moment reach (Some (Stops stop)) = ⊤
 unfoldable pub AreNotBefore : ℕ → List Capture → Type 0
 AreNotBefore moment [] = ⊤
 AreNotBefore moment (capture ∷ more) = IsNotBefore moment (progress_of capture).reach (progress_of capture).ahead × AreNotBefore moment more
-
--- how many records of all were passed
-unfoldable pub passed_of : List Capture → ℕ
-passed_of [] = zero
-passed_of (capture ∷ more) = (progress_of capture).reach.count + passed_of more
 
 -- of none more were passed than a capture has at most
 unfoldable pub AreFew : List Capture → Type 0

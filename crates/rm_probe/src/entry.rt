@@ -54,11 +54,19 @@ pub fn replay<F: Shelf, K: Sink>(
     ensures later { K.faults out.old ≤ K.faults out.new }
 {
     let names = Names::new(capture, if2, if3, if4);
-    replay_all(alloc, settings, lead, names.as_slice(), requests, shelf, out)
+    replay_captures(
+        alloc,
+        settings,
+        lead,
+        names.as_slice(),
+        requests,
+        shelf,
+        out,
+    )
 }
 
 // Replays captures, up to four, that have these names.
-fn replay_all<F: Shelf, K: Sink>(
+fn replay_captures<F: Shelf, K: Sink>(
     alloc: Global,
     settings: Settings,
     lead: u32,
@@ -82,16 +90,7 @@ fn replay_all<F: Shelf, K: Sink>(
         return Status::NoMemory;
     };
     match judge(alloc, lead, names, requests, shelf) {
-        Ok(mut reader) => write_run(
-            alloc,
-            shelf,
-            names,
-            lead,
-            probe,
-            requests,
-            &mut reader,
-            out,
-        ),
+        Ok(mut reader) => write_run(alloc, shelf, names, lead, probe, requests, &mut reader, out),
         Err(status) => status,
     }
 }

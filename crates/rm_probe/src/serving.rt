@@ -1,36 +1,39 @@
 // The run that answers the datagrams of a link.
-ghost use Rattle.std.specs.Prelude.{◌≡◌, ◌≤◌, ℕ, List, [], ◌∷◌, Err, OnOk, IfErr, IfOk, length};
-ghost use Rattle.rm_edge.specs.Outside.{Rose, File};
+ghost use Rattle.std.specs.Prelude.{◌≡◌, ◌≤◌, ℕ, List, [], ◌∷◌, Err, OnOk, IfErr, IfOk, length, map};
+ghost use Rattle.rm_edge.specs.Outside.{Rose};
 ghost use Rattle.rm_edge.specs.Shelves.{KeepsShelf};
 ghost use Rattle.rm_edge.specs.Uses.{clock_use, file_use, link_use, sink_use};
 ghost use Rattle.rm_model.specs.Journal.{Frame, Journal};
 ghost use Rattle.rm_pcap.specs.Records.{Stop};
-ghost use Rattle.rm_pcap.specs.View.{progress_of};
-ghost use Rattle.rm_probe.specs.Capture.{IsFaultless};
+ghost use Rattle.rm_captures.specs.Left.{AreLeft, passed_of};
+ghost use Rattle.rm_captures.specs.Reading.{AreHeld, IsOneOf, OneRose, texts};
+ghost use Rattle.rm_probe.specs.Capture.{IsLadder, names_of};
 ghost use Rattle.rm_probe.specs.Probe.{IsFresh, Stands, last_given, settings_of};
 ghost use Rattle.rm_probe.specs.Said.{Said};
 ghost use Rattle.rm_probe.specs.Serving.{Arrival, Serves, ServesExactly, asking_of, local_port, peers_of};
-ghost use Rattle.rm_probe.specs.Steps.{FindsAnother, IsForeign, IsNotLeft, JudgesCapture, Keeps, Leaves, ends_by};
+ghost use Rattle.rm_probe.specs.Steps.{AreNotLeft, FindsAnother, IsForeign, IsOfOne, IsResponse, JudgesCaptures, Keeps, ends_by};
 ghost use Rattle.rm_probe.specs.Ready.{IsReady};
-ghost use Rattle.rm_probe.specs.Turns.{HasServed, IsOfOne, ReceivesOne, SaysServed, SaysTurn, room};
+ghost use Rattle.rm_probe.specs.Turns.{HasServed, ReceivesOne, SaysServed, SaysTurn, room};
 ghost use Rattle.rm_probe.specs.declared.status.Status.TheVariants.{ReadFault};
 
-use crate::capture::{self, INTERFACE};
+use crate::judging::judge_captures;
 use crate::laws::something_said;
+use crate::names::Names;
 use crate::output::Output;
 use crate::post::Posted;
 use crate::probe::Probe;
 use crate::replaying::{NumberedDatagram, Replaying, ended};
 use crate::status::Status;
+use rm_captures::begin;
 use rm_edge::{Clock, Link, Peer, Shelf, Sink};
-use rm_pcap::{Capture, one_reading};
+use rm_pcap::one_reading;
 use rm_settings::Settings;
 use std::alloc::Global;
 
 // One octet more than is read of a datagram: a longer one is too long whatever follows.
 const ROOM: usize = 8193;
 
-/// A capture whose frames pass by a probe, and datagrams that come to it.
+/// Captures whose frames pass by a probe, and datagrams that come to it.
 #[derive(Drop)]
 struct Serving {
     replaying: Replaying,
@@ -71,38 +74,38 @@ impl Serving {
         }
     }
 
-    // Receives the datagram of that number, counts the frames up to its moment, writes what is said of it, and sends the messages of
-    // that.
+    // Receives the datagram of that number, hands the probe what happens up to it, writes what is said of that, and sends the messages.
     fn serve_one<F: Shelf, K: Sink, L: Link, T: Clock>(
         &mut self,
         alloc: Global,
         shelf: &mut F,
-        name: &str,
+        names: &[&str],
         number: u64,
         out: &mut K,
         link: &mut L,
         clock: &mut T,
     ) -> Result<(), Status>
+        requires few { length names.now ≤ 4 }
         requires room { length self.old.datagram.items ≡ room }
         requires later { last_given self.old.replaying.probe ≤ self.old.last }
-        requires keeps { Keeps (last_given self.old.replaying.probe) self.old.replaying.probe (progress_of self.old.replaying.capture) }
+        requires keeps { Keeps (length names.now) (last_given self.old.replaying.probe) self.old.replaying.probe self.old.replaying.captures.items }
         ensures room { length self.new.datagram.items ≡ room }
         ensures served { (arrivals : List Arrival) × (said : List Said) × HasServed self.old.manager (λ number. peers_of arrivals) self.old.last
             (sink_use K.content K.faults out.old out.new) (link_use L.bound L.received L.sent L.faults link.old link.new) (clock_use T.told clock.old clock.new)
             arrivals said result
             × IsOfOne number said
-            × OnOk result ((arrival : Arrival) × (arrivals ≡ arrival ∷ []) × (arrival.moment ≡ self.new.last))
+            × OnOk result (IsResponse number said × ((arrival : Arrival) × (arrivals ≡ arrival ∷ []) × (arrival.moment ≡ self.new.last)))
             × (length arrivals ≤ 1)
-            × ((bytes : List ℕ) (frames : List Frame) (stop : Stop) (journal : Journal) → F.held shelf.old name.now ≡ File bytes
-            → Leaves (progress_of self.old.replaying.capture) bytes frames stop → Stands self.old.replaying.probe journal
-            → SaysTurn bytes (progress_of self.old.replaying.capture) (progress_of self.new.replaying.capture) (settings_of self.old.replaying.probe)
+            × ((files : List (List ℕ)) (frames : List Frame) (stop : Stop) (journal : Journal) → AreHeld (F.held shelf.old) (texts names.now) files
+            → AreLeft 1 self.old.replaying.captures.items files frames stop → Stands self.old.replaying.probe journal
+            → SaysTurn files self.old.replaying.captures.items self.new.replaying.captures.items (settings_of self.old.replaying.probe)
             self.new.replaying.probe number frames stop journal arrivals said result) }
-        ensures shelf { KeepsShelf F.held F.faults shelf.old shelf.new (λ each. each ≡ name.now) (result ≡ Err ReadFault) }
+        ensures shelf { KeepsShelf F.held F.faults shelf.old shelf.new (IsOneOf (texts names.now)) (result ≡ Err ReadFault) }
         ensures manager { self.new.manager ≡ self.old.manager }
         ensures settings { settings_of self.new.replaying.probe ≡ settings_of self.old.replaying.probe }
-        ensures keeps { OnOk result (Keeps (last_given self.new.replaying.probe) self.new.replaying.probe (progress_of self.new.replaying.capture)) }
+        ensures keeps { OnOk result (Keeps (length names.now) (last_given self.new.replaying.probe) self.new.replaying.probe self.new.replaying.captures.items) }
         ensures given { OnOk result (last_given self.new.replaying.probe ≡ self.new.last) }
-        ensures reads { result ≡ Err ReadFault → Rose (F.faults shelf.old name.now) (F.faults shelf.new name.now) }
+        ensures reads { result ≡ Err ReadFault → OneRose (F.faults shelf.old) (F.faults shelf.new) (texts names.now) }
         ensures loud { IfErr result (λ status. IsForeign status → ⊥) }
     {
         let (peer, count) = self.receive(link, clock)?;
@@ -118,7 +121,7 @@ impl Serving {
         };
         let mut output = Output::posting(out, post);
         self.replaying
-            .write_answer(alloc, shelf, name, request, &mut output)
+            .handle_to(alloc, shelf, names, request, &mut output)
     }
 
     // Serves so many datagrams, and writes the last line.
@@ -126,55 +129,58 @@ impl Serving {
         &mut self,
         alloc: Global,
         shelf: &mut F,
-        name: &str,
+        names: &[&str],
         count: u32,
         out: &mut K,
         link: &mut L,
         clock: &mut T,
     ) -> Result<(), Status>
+        requires few { length names.now ≤ 4 }
         requires room { length self.old.datagram.items ≡ room }
         requires first { IsFresh self.old.replaying.probe }
-        requires begun { Keeps 0 self.old.replaying.probe (progress_of self.old.replaying.capture) }
+        requires begun { Keeps (length names.now) 0 self.old.replaying.probe self.old.replaying.captures.items }
+        requires unpassed { passed_of self.old.replaying.captures.items ≡ 0 }
         requires none { self.old.last ≡ 0 }
         ensures served { (arrivals : List Arrival) × (said : List Said) × HasServed self.old.manager (asking_of arrivals) 0
             (sink_use K.content K.faults out.old out.new) (link_use L.bound L.received L.sent L.faults link.old link.new) (clock_use T.told clock.old clock.new)
             arrivals said result
             × (length arrivals ≤ count) × OnOk result (length arrivals ≡ count)
-            × ((bytes : List ℕ) (frames : List Frame) (stop : Stop) → F.held shelf.old name.now ≡ File bytes
-            → Leaves (progress_of self.old.replaying.capture) bytes frames stop → (progress_of self.old.replaying.capture).reach.count ≡ 0 → IsFaultless stop
+            × ((files : List (List ℕ)) (frames : List Frame) (stop : Stop) → AreHeld (F.held shelf.old) (texts names.now) files
+            → AreLeft 1 self.old.replaying.captures.items files frames stop
             → SaysServed (settings_of self.old.replaying.probe) frames stop arrivals said result) }
-        ensures finds { FindsAnother (IsNotLeft (F.held shelf.old name.now) (progress_of self.old.replaying.capture)) ⊥ (ends_by result) }
-        ensures reads { result ≡ Err ReadFault → Rose (F.faults shelf.old name.now) (F.faults shelf.new name.now) }
-        ensures shelf { KeepsShelf F.held F.faults shelf.old shelf.new (λ each. each ≡ name.now) (result ≡ Err ReadFault) }
+        ensures finds { FindsAnother (AreNotLeft (F.held shelf.old) (texts names.now) self.old.replaying.captures.items) ⊥ (ends_by result) }
+        ensures reads { result ≡ Err ReadFault → OneRose (F.faults shelf.old) (F.faults shelf.new) (texts names.now) }
+        ensures shelf { KeepsShelf F.held F.faults shelf.old shelf.new (IsOneOf (texts names.now)) (result ≡ Err ReadFault) }
         ensures loud { IfErr result (λ status. IsForeign status → ⊥) }
     {
         something_said();
         let mut number = 0;
         while number < count {
             number += 1;
-            match self.serve_one(alloc, shelf, name, u64::from(number), out, link, clock) {
+            match self.serve_one(alloc, shelf, names, u64::from(number), out, link, clock) {
                 Ok(()) => (),
                 Err(status) => return Err(status),
             }
         }
         let mut output = Output::new(out);
         self.replaying
-            .put_last(shelf, name, u64::from(count), &mut output)
+            .put_last(shelf, names, u64::from(count), &mut output)
     }
 }
 
-// Judges the capture, and makes ready to serve it: the probe, the capture at its first record, and room for a datagram.
+// Judges the captures, and makes ready to serve them: the probe, the captures at their first records, and room for a datagram.
 fn prepare<F: Shelf>(
     alloc: Global,
     settings: Settings,
     lead: u32,
-    capture: &str,
+    names: &[&str],
     trap_port: u16,
     shelf: &mut F,
 ) -> Result<Serving, Status>
-    ensures judged { JudgesCapture lead (F.held shelf.old capture.now) (F.faults shelf.old capture.now) (F.faults shelf.new capture.now) result }
-    ensures shelf { KeepsShelf F.held F.faults shelf.old shelf.new (λ each. each ≡ capture.now) (result ≡ Err ReadFault) }
-    ensures ready { IfOk result (IsReady settings lead (local_port trap_port) (F.held shelf.old capture.now)) }
+    requires few { length names.now ≤ 4 }
+    ensures judged { JudgesCaptures lead (map (F.held shelf.old) (texts names.now)) (OneRose (F.faults shelf.old) (F.faults shelf.new) (texts names.now)) result }
+    ensures shelf { KeepsShelf F.held F.faults shelf.old shelf.new (IsOneOf (texts names.now)) (result ≡ Err ReadFault) }
+    ensures ready { IfOk result (IsReady settings lead (local_port trap_port) (F.held shelf.old) (texts names.now)) }
 {
     let Ok(probe) = Probe::new(alloc, settings) else {
         return Err(Status::NoMemory);
@@ -182,16 +188,13 @@ fn prepare<F: Shelf>(
     let Ok(datagram) = vec![in alloc; 0u8; ROOM] else {
         return Err(Status::NoMemory);
     };
-    match capture::judge(alloc, shelf, capture, lead) {
+    match judge_captures(alloc, lead, names, shelf) {
         Ok(()) => (),
         Err(status) => return Err(status),
     }
-    match Capture::begin(alloc, shelf, capture, INTERFACE, lead) {
-        Ok(records) => Ok(Serving {
-            replaying: Replaying {
-                capture: records,
-                probe,
-            },
+    match begin(alloc, shelf, names, lead) {
+        Ok(captures) => Ok(Serving {
+            replaying: Replaying { captures, probe },
             datagram,
             manager: Peer {
                 ip: [127, 0, 0, 1],
@@ -199,24 +202,28 @@ fn prepare<F: Shelf>(
             },
             last: 0,
         }),
-        Err(fault) => Err(Status::from(fault)),
+        Err(found) => Err(Status::from(found)),
     }
 }
 
-/// Serves a capture, whose first frame stands at the moment `lead` in milliseconds: binds a port, receives so many datagrams, and answers
-/// each at the moment that the clock then tells, after the frames up to it. A moment earlier than the last is taken as the last. Each line
-/// is written before what it tells is sent: a reply to who asked, and a notification to the port `trap_port` of this machine.
+/// Serves captures: `capture` on interface 1, and on interfaces 2 to 4 those that are named. Their earliest first record stands at the moment
+/// `lead` in milliseconds. It binds a port, receives so many datagrams, and answers each at the moment that the clock then tells, after the frames
+/// up to it. A moment earlier than the last is taken as the last. Each line is written before what it tells is sent: a reply to who asked, and a
+/// notification to the port `trap_port` of this machine. A datagram is received only once the one before it is answered.
 ///
-/// The capture is judged first, a record at a time. Only then is the port bound, and the capture is read again while datagrams come. After
-/// `WriteFault`, `ReadFault` and `LinkFault` a front of the text may have been written, and of the messages of its whole lines the first ones
-/// sent. Over a shelf that tells what it holds, nothing was written or sent after the others but `Done`. Over one that doesn't, the file may
-/// be another one when it is read again, and `BadCapture` and `TooLong` may come after lines were written. `Usage` and `BadRequests` never
-/// come.
+/// The captures are judged first, in two rounds. Only then is the port bound, and the captures are read again while datagrams come. After
+/// `WriteFault`, `ReadFault` and `LinkFault` a front of the text may have been written, and the messages of its whole lines sent, maybe but for that
+/// of the last. Over a shelf that tells what it holds, no port was bound and nothing written after the others but `Done`. Over one that doesn't,
+/// the files may be other ones when they are read again, and `BadCapture` and `TooLong` may come after lines were written. `Usage` and `BadRequests`
+/// never come.
 pub fn serve<F: Shelf, K: Sink, L: Link, T: Clock>(
     alloc: Global,
     settings: Settings,
     lead: u32,
     capture: &str,
+    if2: Option<&str>,
+    if3: Option<&str>,
+    if4: Option<&str>,
     port: u16,
     count: u32,
     trap_port: u16,
@@ -225,20 +232,60 @@ pub fn serve<F: Shelf, K: Sink, L: Link, T: Clock>(
     link: &mut L,
     clock: &mut T,
 ) -> Status
-    ensures serves { Serves settings lead port count (local_port trap_port) (file_use F.held F.faults shelf.old shelf.new capture.now)
+    requires ladder { IsLadder if2 if3 if4 }
+    requires many { length (names_of capture.now if2 if3 if4) ≡ settings.interfaces }
+    ensures serves { Serves settings lead port count (local_port trap_port) (map (file_use F.held F.faults shelf.old shelf.new) (names_of capture.now if2 if3 if4))
         (sink_use K.content K.faults out.old out.new) (link_use L.bound L.received L.sent L.faults link.old link.new) (clock_use T.told clock.old clock.new) result }
-    ensures exact { ServesExactly lead (file_use F.held F.faults shelf.old shelf.new capture.now) (sink_use K.content K.faults out.old out.new)
+    ensures exact { ServesExactly lead (map (file_use F.held F.faults shelf.old shelf.new) (names_of capture.now if2 if3 if4)) (sink_use K.content K.faults out.old out.new)
         (link_use L.bound L.received L.sent L.faults link.old link.new) result }
-    ensures shelf { KeepsShelf F.held F.faults shelf.old shelf.new (λ each. each ≡ capture.now) (result ≡ ReadFault) }
+    ensures shelf { KeepsShelf F.held F.faults shelf.old shelf.new (IsOneOf (names_of capture.now if2 if3 if4)) (result ≡ ReadFault) }
+    ensures later { (K.faults out.old ≤ K.faults out.new) × (L.faults link.old ≤ L.faults link.new) }
+{
+    let names = Names::new(capture, if2, if3, if4);
+    serve_captures(
+        alloc,
+        settings,
+        lead,
+        names.as_slice(),
+        port,
+        count,
+        trap_port,
+        shelf,
+        out,
+        link,
+        clock,
+    )
+}
+
+// Serves captures, up to four, that have these names.
+fn serve_captures<F: Shelf, K: Sink, L: Link, T: Clock>(
+    alloc: Global,
+    settings: Settings,
+    lead: u32,
+    names: &[&str],
+    port: u16,
+    count: u32,
+    trap_port: u16,
+    shelf: &mut F,
+    out: &mut K,
+    link: &mut L,
+    clock: &mut T,
+) -> Status
+    requires few { length names.now ≤ 4 }
+    ensures serves { Serves settings lead port count (local_port trap_port) (map (file_use F.held F.faults shelf.old shelf.new) (texts names.now))
+        (sink_use K.content K.faults out.old out.new) (link_use L.bound L.received L.sent L.faults link.old link.new) (clock_use T.told clock.old clock.new) result }
+    ensures exact { ServesExactly lead (map (file_use F.held F.faults shelf.old shelf.new) (texts names.now)) (sink_use K.content K.faults out.old out.new)
+        (link_use L.bound L.received L.sent L.faults link.old link.new) result }
+    ensures shelf { KeepsShelf F.held F.faults shelf.old shelf.new (IsOneOf (texts names.now)) (result ≡ ReadFault) }
     ensures later { (K.faults out.old ≤ K.faults out.new) × (L.faults link.old ≤ L.faults link.new) }
 {
     one_reading();
-    let mut serving = match prepare(alloc, settings, lead, capture, trap_port, shelf) {
+    let mut serving = match prepare(alloc, settings, lead, names, trap_port, shelf) {
         Ok(serving) => serving,
         Err(status) => return status,
     };
     match link.bind(port) {
-        Ok(()) => ended(serving.serve_all(alloc, shelf, capture, count, out, link, clock)),
+        Ok(()) => ended(serving.serve_all(alloc, shelf, names, count, out, link, clock)),
         Err(_) => Status::LinkFault,
     }
 }

@@ -6,7 +6,7 @@ use Rattle.rm_pcap.specs.declared.capture.Capture.{Capture}
 use Rattle.rm_captures.specs.Left.{AreLeft}
 use Rattle.rm_captures.specs.Reading.{texts}
 use Rattle.rm_captures.proofs.NameLemmas.{no_texts, one_of_first, one_of_rest, rose_first, rose_rest, held_split}
-use Rattle.rm_captures.proofs.NextLemmas.{next_none, no_capture, next_more, next_fails, next_fails_behind}
+use Rattle.rm_captures.proofs.NextLemmas.{next_none, no_capture, next_more, next_fails, next_fails_behind, of_records}
 use Rattle.rm_captures.proofs.ComingLemmas.{looks_none, looks_nowhere, looks_more}
 use Rattle.rm_captures.proofs.RoundLemmas.{held_still}
 use Rattle.rm_captures.proofs.coming.+next_of.Goals as goal
@@ -76,3 +76,9 @@ returns-in-Ok-next_of-clause-looks g t c =
     looks_more _ (g.F.Shelf.held c.peek.new.shelf) c.args.interface (texts c.args.names.now) c.args.captures.now c.in-Some.name.now.now (texts c.in-Some.names.now) c.in-Some-split_first_mut.capture.now c.peek.new.self
     c.in-Some-split_first_mut.captures.now c.next_of.new.captures c.in-Ok.moment c.in-Ok-next_of.others _ (ap texts c.in-Some.ensures.cases.0) c.in-Some-split_first_mut.ensures.cases.0 c.peek.ensures.shelf.constant
     c.in-Ok.ensures.looks c.in-Ok-next_of.ensures.looks c.sooner.ensures
+
+pub returns-in-Err-clause-kinds : goal.returns-in-Err-clause-kinds
+returns-in-Err-clause-kinds g t c = of_records _ _ c.in-Err.fault c.in-Err.ensures.faults
+
+pub returns-in-Err-next_of-clause-kinds : goal.returns-in-Err-next_of-clause-kinds
+returns-in-Err-next_of-clause-kinds g t c = c.in-Err-next_of.ensures.kinds
