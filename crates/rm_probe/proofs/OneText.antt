@@ -3,6 +3,7 @@ use Rattle.std.proofs.Common.{◌≡◌, ◌⊎◌, inl, inr, ℕ, ◌-◌, true
 use Rattle.std.specs.List.{slice_get}
 use Rattle.rm_model.specs.Journal.{Frame, Journal, passes}
 use Rattle.rm_pcap.specs.Records.{Stop}
+use Rattle.rm_captures.specs.Left.{is_cut}
 use Rattle.rm_pdu.specs.Message.{Message, message_octets}
 use Rattle.rm_pdu.specs.Parse.{Parse, message}
 use Rattle.rm_settings.specs.declared.settings.Settings.{Settings}
@@ -11,7 +12,7 @@ use Rattle.rm_agent.specs.Answers.{reason_for, IsReplyAfter}
 use Rattle.rm_requests.specs.Lines.{TimedDatagram}
 use Rattle.rm_probe.specs.Advance.{note_of, IsAdvanced}
 use Rattle.rm_probe.specs.Notes.{Note}
-use Rattle.rm_probe.specs.Said.{Response, Replied, Dropped, Said, Notified, Responded, Last, lines, stop_before}
+use Rattle.rm_probe.specs.Said.{Response, Replied, Dropped, Said, Notified, Responded, Last, is_cut_behind, lines}
 use Rattle.rm_probe.specs.Laws.{IsToldOnce, OneOfEach}
 use Rattle.rm_probe.specs.Events.{Event, Comes, Asks, events, events_by, frames_left}
 use Rattle.rm_probe.specs.Serving.{Arrival, IsServed, IsServedBy, requests_of}
@@ -124,7 +125,7 @@ told_once {T} settings one es make IsTold IsToldBy parts parts_by whole_by = rec
 pub text_once : (settings : Settings) → OneOfEach settings → (frames : List Frame) (stop : Stop) (requests : List TimedDatagram)
     → IsToldOnce settings (events 1 frames requests) (IsText settings frames stop requests) (IsTextBy settings frames stop requests)
 text_once settings one frames stop requests =
-    told_once settings one (events 1 frames requests) (λ (before : List Said). lines (before ++ Last stop (length frames) (length requests) ∷ [])) (IsText settings frames stop requests) (IsTextBy settings frames stop requests)
+    told_once settings one (events 1 frames requests) (λ (before : List Said). lines (before ++ Last (is_cut stop) (length frames) (length requests) ∷ [])) (IsText settings frames stop requests) (IsTextBy settings frames stop requests)
     (λ text is. (is.is_run.before, is.is_run.are_said, is.whole ∙ ap lines is.is_run.whole)) (λ choices text is. (is.before, is.are_said, is.whole))
     (λ choices text before are whole. record { before = before; are_said = are; whole = whole })
 
@@ -132,6 +133,6 @@ pub served_once : (settings : Settings) → OneOfEach settings → (frames : Lis
     → IsToldOnce settings (events_by 1 frames (requests_of arrivals)) (IsServed settings frames stop arrivals) (IsServedBy settings frames stop arrivals)
 served_once settings one frames stop arrivals =
     told_once settings one (events_by 1 frames (requests_of arrivals))
-    (λ (before : List Said). before ++ Last (stop_before (frames_left (requests_of arrivals) frames) stop) (length frames - length (frames_left (requests_of arrivals) frames)) (length arrivals) ∷ [])
+    (λ (before : List Said). before ++ Last (is_cut_behind (frames_left (requests_of arrivals) frames) stop) (length frames - length (frames_left (requests_of arrivals) frames)) (length arrivals) ∷ [])
     (IsServed settings frames stop arrivals) (IsServedBy settings frames stop arrivals) (λ said is. (is.before, is.are_said, is.whole)) (λ choices said is. (is.before, is.are_said, is.whole))
     (λ choices said before are whole. record { before = before; are_said = are; whole = whole })

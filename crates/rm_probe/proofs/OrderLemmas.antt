@@ -7,7 +7,8 @@ use Rattle.std.proofs.Math.Numerals.{one-add}
 use Rattle.std.proofs.lemmas.Bool.{leb-true, leb-false}
 use Rattle.rm_model.specs.Journal.{Frame}
 use Rattle.rm_requests.specs.Lines.{TimedDatagram}
-use Rattle.rm_probe.specs.Events.{Event, Comes, Asks, comings, is_by, events, events_by, frames_left}
+use Rattle.rm_probe.specs.Events.{Event, Comes, Asks, comings, events, events_by, frames_left}
+use Rattle.rm_captures.specs.Merge.{is_by}
 use Rattle.rm_probe.specs.InOrder.{moment_of, coming_in, asking_in, AreInOrder}
 
 -- events are frames and datagrams of which the next is a frame where it doesn't come later, and else a datagram

@@ -11,7 +11,7 @@ use Rattle.rm_probe.specs.declared.output.OutputFault.{OutputFault}
 use Rattle.rm_probe.specs.declared.output.OutputFault.TheVariants.{Put, Send}
 use Rattle.rm_probe.specs.declared.post.Addressee.{Addressee}
 use Rattle.rm_probe.specs.declared.post.Addressee.TheVariants.{Manager, Asking}
-use Rattle.rm_probe.specs.Output.{Shown, HasGrown, HasAdded, IsSaidFront, Says, TellsInOrder, adds_none, front_none, nothing_added}
+use Rattle.rm_probe.specs.Output.{Shown, HasGrown, HasAdded, IsSaidFront, Says, TellsBehind, TellsInOrder, adds_none, front_none, nothing_added}
 use Rattle.rm_probe.specs.Said.{Said, line_of, lines, messages, messages_of}
 
 -- what failed last after a call of a kind
@@ -183,64 +183,74 @@ one_said managers asking old new one added = rw (append-nil (line_of one), appen
 
 -- one thing told in order is a front of it
 pub one_front : (managers : List Peer) (asking : ℕ → List Peer) (old new : Shown) (one : Said) → TellsInOrder old new (line_of one) (messages_of managers asking one)
-    → IsSaidFront managers asking old.content new.content old.sent new.sent (one ∷ [])
-one_front managers asking old new one (inl ((n, front), same)) = record {
-  written = [];
-  rest = one ∷ [];
-  split = refl;
-  puts = (n, subst (λ (line : List ℕ). Adds old.content new.content (take n line)) (sym (append-nil (line_of one))) front);
-  sends = (0, adds_same old.sent new.sent same);
-}
-one_front managers asking old new one (inr (whole, front)) = record {
-  written = one ∷ [];
-  rest = [];
-  split = refl;
-  puts = (0, subst (λ (line : List ℕ). Adds old.content new.content line) (sym (append-nil (line_of one ++ []) ∙ append-nil (line_of one))) whole);
-  sends = subst (λ (all : List Datagram). AddsFront old.sent new.sent all) (sym (append-nil (messages_of managers asking one))) front;
-}
+    → IsSaidFront managers asking old.content new.content old.sent new.sent (one ∷ []) []
+one_front managers asking old new one tells = record { next = one ∷ []; rest = []; split = refl; one = omega arith; tells = by_order tells }
+  where
+    by_order : TellsInOrder old new (line_of one) (messages_of managers asking one)
+        → TellsBehind old.content new.content old.sent new.sent [] [] (lines (one ∷ [])) (messages managers asking (one ∷ []))
+    by_order (inl ((n, front), same)) =
+        inl ((n, subst (λ (line : List ℕ). Adds old.content new.content (take n line)) (sym (append-nil (line_of one))) front), adds_same old.sent new.sent same)
+    by_order (inr (whole, (n, front))) = inr (
+      subst (λ (line : List ℕ). Adds old.content new.content line) (sym (append-nil (line_of one))) whole,
+      (n, subst (λ (all : List Datagram). Adds old.sent new.sent (take n all)) (sym (append-nil (messages_of managers asking one))) front),
+    )
 
 -- a front is one of more that is said
-pub front_longer : (managers : List Peer) (asking : ℕ → List Peer) (a b : Option (List ℕ)) (s t : Option (List Datagram)) (said more : List Said) → IsSaidFront managers asking a b s t said → IsSaidFront managers asking a b s t (said ++ more)
-front_longer managers asking a b s t said more front =
-    let (n, put) = front.puts in
-    let (k, same) = take_longer n (lines front.rest) (lines more) in
-    let longer : take n (lines front.rest) ≡ take k (lines (front.rest ++ more)) = sym same ∙ ap (take k) (sym (more_lines front.rest more)) in
-    record {
-      written = front.written;
-      rest = front.rest ++ more;
-      split = ap (λ (l : List Said). l ++ more) front.split ∙ append_assoc front.written front.rest more;
-      puts = (k, subst (λ (l : List ℕ). Adds a b (lines front.written ++ l)) longer put);
-      sends = front.sends;
-    }
+pub front_longer : (managers : List Peer) (asking : ℕ → List Peer) (a b : Option (List ℕ)) (s t : Option (List Datagram)) (said told more : List Said) → IsSaidFront managers asking a b s t said told
+    → IsSaidFront managers asking a b s t (said ++ more) told
+front_longer managers asking a b s t said told more front = record {
+  next = front.next;
+  rest = front.rest ++ more;
+  split = ap (λ (l : List Said). l ++ more) front.split ∙ append_assoc told (front.next ++ front.rest) more ∙ ap (λ (l : List Said). told ++ l) (append_assoc front.next front.rest more);
+  one = front.one;
+  tells = front.tells;
+}
 
 -- what was said whole, and then a front
-pub said_then_front : (managers : List Peer) (asking : ℕ → List Peer) (a b c : Option (List ℕ)) (s t u : Option (List Datagram)) (said more : List Said) → Adds a b (lines said) → Adds s t (messages managers asking said)
-    → IsSaidFront managers asking b c t u more → IsSaidFront managers asking a c s u (said ++ more)
-said_then_front managers asking a b c s t u said more put sent front =
-    let (n, puts) = front.puts in
-    record {
-      written = said ++ front.written;
-      rest = front.rest;
-      split = ap (λ (l : List Said). said ++ l) front.split ∙ sym (append_assoc said front.written front.rest);
-      puts = (
-        n,
-        subst (λ (l : List ℕ). Adds a c l) (sym (append_assoc (lines said) (lines front.written) (take n (lines front.rest))) ∙ ap (λ (l : List ℕ). l ++ take n (lines front.rest)) (sym (more_lines said front.written)))
-            (adds_then a b c (lines said) (lines front.written ++ take n (lines front.rest)) put puts),
-      );
-      sends = subst (λ (l : List Datagram). AddsFront s u l) (sym (more_messages managers asking said front.written))
-          (front_then s t u (messages managers asking said) (messages managers asking front.written) sent front.sends);
-    }
+pub said_then_front : (managers : List Peer) (asking : ℕ → List Peer) (a b c : Option (List ℕ)) (s t u : Option (List Datagram)) (said more told : List Said) → Adds a b (lines said) → Adds s t (messages managers asking said)
+    → IsSaidFront managers asking b c t u more told → IsSaidFront managers asking a c s u (said ++ more) (said ++ told)
+said_then_front managers asking a b c s t u said more told put sent front = record {
+  next = front.next;
+  rest = front.rest;
+  split = ap (λ (l : List Said). said ++ l) front.split ∙ sym (append_assoc said told (front.next ++ front.rest));
+  one = front.one;
+  tells = by_tells front.tells;
+}
+  where
+    puts : (line : List ℕ) → Adds b c (lines told ++ line) → Adds a c (lines (said ++ told) ++ line)
+    puts line added =
+        subst (λ (l : List ℕ). Adds a c l) (sym (append_assoc (lines said) (lines told) line) ∙ ap (λ (l : List ℕ). l ++ line) (sym (more_lines said told)))
+        (adds_then a b c (lines said) (lines told ++ line) put added)
+
+    sends : (some : List Datagram) → Adds t u (messages managers asking told ++ some) → Adds s u (messages managers asking (said ++ told) ++ some)
+    sends some added =
+        subst (λ (l : List Datagram). Adds s u l)
+        (sym (append_assoc (messages managers asking said) (messages managers asking told) some) ∙ ap (λ (l : List Datagram). l ++ some) (sym (more_messages managers asking said told)))
+        (adds_then s t u (messages managers asking said) (messages managers asking told ++ some) sent added)
+
+    by_tells : TellsBehind b c t u (lines told) (messages managers asking told) (lines front.next) (messages managers asking front.next)
+        → TellsBehind a c s u (lines (said ++ told)) (messages managers asking (said ++ told)) (lines front.next) (messages managers asking front.next)
+    by_tells (inl ((n, put_so), sent_so)) =
+        inl ((n, puts (take n (lines front.next)) put_so), subst (λ (l : List Datagram). Adds s u l) (sym (more_messages managers asking said told)) (adds_then s t u (messages managers asking said) (messages managers asking told) sent sent_so))
+    by_tells (inr (put_so, (n, sent_so))) = inr (puts (lines front.next) put_so, (n, sends (take n (messages managers asking front.next)) sent_so))
 
 -- a front, and then more, of which nothing was put or sent where a call had failed
 fronts_more : (managers : List Peer) (asking : ℕ → List Peer) (a b c : Shown) (said more : List Said) → HasAdded a b (lines said) (messages managers asking said) → HasAdded b c (lines more) (messages managers asking more)
-    → IsSaidFront managers asking a.content b.content a.sent b.sent said → (b.failed ≡ None → IsSaidFront managers asking b.content c.content b.sent c.sent more) → IsSaidFront managers asking a.content c.content a.sent c.sent (said ++ more)
-fronts_more managers asking a b c said more one two first then = by_failed b.failed refl
+    → (told : List Said) × IsSaidFront managers asking a.content b.content a.sent b.sent said told
+    → (b.failed ≡ None → (told : List Said) × IsSaidFront managers asking b.content c.content b.sent c.sent more told)
+    → (told : List Said) × IsSaidFront managers asking a.content c.content a.sent c.sent (said ++ more) told
+fronts_more managers asking a b c said more one two (told, first) then = by_failed b.failed refl
   where
-    by_failed : (failed : Option OutputFault) → b.failed ≡ failed → IsSaidFront managers asking a.content c.content a.sent c.sent (said ++ more)
-    by_failed None well = said_then_front managers asking a.content b.content c.content a.sent b.sent c.sent said more (one.puts.whole well) (one.sends.whole well) (then well)
-    by_failed (Some fault) is =
-        subst (λ (content : Option (List ℕ)). IsSaidFront managers asking a.content content a.sent c.sent (said ++ more)) (sym (two.puts.stays fault is))
-        (subst (λ (sent : Option (List Datagram)). IsSaidFront managers asking a.content b.content a.sent sent (said ++ more)) (sym (two.sends.stays fault is)) (front_longer managers asking a.content b.content a.sent b.sent said more first))
+    by_failed : (failed : Option OutputFault) → b.failed ≡ failed → (told : List Said) × IsSaidFront managers asking a.content c.content a.sent c.sent (said ++ more) told
+    by_failed None well =
+        let (later, front) = then well in
+        (said ++ later, said_then_front managers asking a.content b.content c.content a.sent b.sent c.sent said more later (one.puts.whole well) (one.sends.whole well) front)
+    by_failed (Some fault) is = (
+      told,
+      subst (λ (content : Option (List ℕ)). IsSaidFront managers asking a.content content a.sent c.sent (said ++ more) told) (sym (two.puts.stays fault is))
+          (subst (λ (sent : Option (List Datagram)). IsSaidFront managers asking a.content b.content a.sent sent (said ++ more) told) (sym (two.sends.stays fault is))
+          (front_longer managers asking a.content b.content a.sent b.sent said told more first)),
+    )
 
 module _ {P : Type 0} (peers : P → Addressee → List Peer) (same : P → P → Type 0) where
   -- an output has said nothing
@@ -248,7 +258,7 @@ module _ {P : Type 0} (peers : P → Addressee → List Peer) (same : P → P �
   says_none still post state = record {
     still = still post;
     adds = nothing_added state;
-    order = λ none. front_none (peers post Manager) (λ (number : ℕ). peers post Asking) state.content state.sent;
+    order = λ none. ([], front_none (peers post Manager) (λ (number : ℕ). peers post Asking) state.content state.sent);
   }
 
   -- an output has said some things, and then others
@@ -258,7 +268,7 @@ module _ {P : Type 0} (peers : P → Addressee → List Peer) (same : P → P �
     still = onward p q r one.still two.still;
     adds = added_more (peers p Manager) (λ (number : ℕ). peers p Asking) a b c said more one.adds later_adds;
     order = λ none. fronts_more (peers p Manager) (λ (number : ℕ). peers p Asking) a b c said more one.adds later_adds (one.order none)
-        (λ well. subst (λ (who : Addressee → List Peer). IsSaidFront (who Manager) (λ (number : ℕ). who Asking) b.content c.content b.sent c.sent more) (kept p q one.still) (two.order well));
+        (λ well. subst (λ (who : Addressee → List Peer). (told : List Said) × IsSaidFront (who Manager) (λ (number : ℕ). who Asking) b.content c.content b.sent c.sent more told) (kept p q one.still) (two.order well));
   }
     where
       later_adds : HasAdded b c (lines more) (messages (peers p Manager) (λ (number : ℕ). peers p Asking) more)
@@ -275,7 +285,7 @@ module _ {P : Type 0} (peers : P → Addressee → List Peer) (same : P → P �
           (record {
             still = alike;
             adds = one_said (peers q Manager) (λ (number : ℕ). peers q Asking) b c one added;
-            order = λ none. one_front (peers q Manager) (λ (number : ℕ). peers q Asking) b c one (order none);
+            order = λ none. ([], one_front (peers q Manager) (λ (number : ℕ). peers q Asking) b c one (order none));
           }),
     )
 

@@ -12,7 +12,8 @@ use Rattle.rm_agent.specs.Answers.{reason_for, IsReplyAfter}
 use Rattle.rm_agent.specs.Orderly.{NoneIsDue, IsOrderly}
 use Rattle.rm_agent.specs.Advance.{Notification, IsAdvanced as AgentIsAdvanced}
 use Rattle.rm_probe.specs.Advance.{note_of, IsAdvanced}
-use Rattle.rm_probe.specs.Events.{Event, Comes, Asks, is_by, frames_after, comings}
+use Rattle.rm_probe.specs.Events.{Event, Comes, Asks, comings}
+use Rattle.rm_captures.specs.Merge.{frames_after, is_by}
 use Rattle.rm_probe.specs.Notes.{Note}
 use Rattle.rm_probe.specs.Said.{Response, Said, Notified, Responded}
 use Rattle.rm_probe.specs.Text.{IsAnswered, dropped, replied, AreSaid}

@@ -9,10 +9,11 @@ use Rattle.rm_edge.specs.Uses.{SinkUse, LinkUse, ClockUse, IsUntouched}
 use Rattle.rm_edge.specs.declared.outside.link.Peer.{Peer}
 use Rattle.rm_model.specs.Journal.{Frame, Journal, passes}
 use Rattle.rm_pcap.specs.Records.{Stop}
-use Rattle.rm_pcap.specs.Progress.{Progress}
+use Rattle.rm_pcap.specs.declared.capture.Capture.{Capture}
 use Rattle.rm_pdu.specs.Parse.{Parse, too_long, malformed, other_version, not_request, message, IsParse}
 use Rattle.rm_settings.specs.declared.settings.Settings.{Settings}
-use Rattle.rm_probe.specs.Events.{Event, Asks, Comes, comings, is_by}
+use Rattle.rm_probe.specs.Events.{Event, Asks, Comes, comings}
+use Rattle.rm_captures.specs.Merge.{is_by}
 use Rattle.rm_probe.specs.Notes.{Note}
 use Rattle.rm_probe.specs.Output.{HasAdded, IsSaidFront, Shown, front_none, grown_none}
 use Rattle.rm_probe.specs.Said.{Response, Said, lines, messages}
@@ -63,10 +64,10 @@ asks_whole settings journal (Comes frame ∷ es) number moment read bytes more s
 asks_whole settings journal (Asks n r ∷ es) number moment read bytes more said front (notes, response, rest, ready, after, advanced, answer, is, are) =
     (notes, response, rest, ready, after, advanced, answer, is, asks_whole settings after es number moment read bytes more rest front are)
 
-next_whole : (file : List ℕ) (old new : Progress) (settings : Settings) (probe : Probe) (number moment : ℕ) (read bytes : List ℕ) (frames : List Frame) (stop : Stop) (journal : Journal) → IsReadOf read bytes
-    → (said : List Said) → IsNextSaid file old new settings probe number (record { moment = moment; datagram = read }) frames stop journal said
-    → IsNextSaid file old new settings probe number (record { moment = moment; datagram = bytes }) frames stop journal said
-next_whole file old new settings probe number moment read bytes frames stop journal front said next = record {
+next_whole : (files : List (List ℕ)) (old new : List Capture) (settings : Settings) (probe : Probe) (number moment : ℕ) (read bytes : List ℕ) (frames : List Frame) (stop : Stop) (journal : Journal) → IsReadOf read bytes
+    → (said : List Said) → IsNextSaid files old new settings probe number (record { moment = moment; datagram = read }) frames stop journal said
+    → IsNextSaid files old new settings probe number (record { moment = moment; datagram = bytes }) frames stop journal said
+next_whole files old new settings probe number moment read bytes frames stop journal front said next = record {
   left = next.left;
   count = next.count;
   after = next.after;
@@ -75,26 +76,26 @@ next_whole file old new settings probe number moment read bytes frames stop jour
 }
 
 -- what was said by a step, of which more is known
-says_more : {T : Type 0} (P Q : List Said → Type 0) (IsBegun : List Note → Type 0) (stop : Stop) (said : List Said) (result : Result T Status) → ((said : List Said) → P said → Q said)
-    → SaysNext P IsBegun stop said result → SaysNext Q IsBegun stop said result
-says_more P Q IsBegun stop said (Ok done) more is = more said is
-says_more P Q IsBegun stop said (Err WriteFault) more is = more said is
-says_more P Q IsBegun stop said (Err LinkFault) more is = more said is
-says_more P Q IsBegun stop said (Err ReadFault) more is = is
-says_more P Q IsBegun stop said (Err Done) more is = is
-says_more P Q IsBegun stop said (Err Usage) more is = is
-says_more P Q IsBegun stop said (Err (BadCapture at)) more is = is
-says_more P Q IsBegun stop said (Err (BadRequests at)) more is = is
-says_more P Q IsBegun stop said (Err NoMemory) more is = is
-says_more P Q IsBegun stop said (Err TooLong) more is = is
+says_more : {T : Type 0} (P Q : List Said → Type 0) (IsBegun : List Note → Type 0) (said : List Said) (result : Result T Status) → ((said : List Said) → P said → Q said)
+    → SaysNext P IsBegun said result → SaysNext Q IsBegun said result
+says_more P Q IsBegun said (Ok done) more is = more said is
+says_more P Q IsBegun said (Err WriteFault) more is = more said is
+says_more P Q IsBegun said (Err LinkFault) more is = more said is
+says_more P Q IsBegun said (Err ReadFault) more is = is
+says_more P Q IsBegun said (Err Done) more is = is
+says_more P Q IsBegun said (Err Usage) more is = is
+says_more P Q IsBegun said (Err (BadCapture interface at)) more is = is
+says_more P Q IsBegun said (Err (BadRequests at)) more is = is
+says_more P Q IsBegun said (Err NoMemory) more is = is
+says_more P Q IsBegun said (Err TooLong) more is = is
 
 -- what was said of the octets read was said of the datagram
-pub says_whole : {T : Type 0} (file : List ℕ) (old new : Progress) (settings : Settings) (probe : Probe) (number moment : ℕ) (read bytes : List ℕ) (frames : List Frame) (stop : Stop) (journal : Journal) → IsReadOf read bytes
-    → (said : List Said) (result : Result T Status) → SaysNext (IsNextSaid file old new settings probe number (record { moment = moment; datagram = read }) frames stop journal) (HasBegun settings moment frames journal) stop said result
-    → SaysNext (IsNextSaid file old new settings probe number (record { moment = moment; datagram = bytes }) frames stop journal) (HasBegun settings moment frames journal) stop said result
-says_whole file old new settings probe number moment read bytes frames stop journal front said result says =
-    says_more (IsNextSaid file old new settings probe number (record { moment = moment; datagram = read }) frames stop journal) (IsNextSaid file old new settings probe number (record { moment = moment; datagram = bytes }) frames stop journal)
-    (HasBegun settings moment frames journal) stop said result (next_whole file old new settings probe number moment read bytes frames stop journal front) says
+pub says_whole : {T : Type 0} (files : List (List ℕ)) (old new : List Capture) (settings : Settings) (probe : Probe) (number moment : ℕ) (read bytes : List ℕ) (frames : List Frame) (stop : Stop) (journal : Journal) → IsReadOf read bytes
+    → (said : List Said) (result : Result T Status) → SaysNext (IsNextSaid files old new settings probe number (record { moment = moment; datagram = read }) frames stop journal) (HasBegun settings moment frames journal) said result
+    → SaysNext (IsNextSaid files old new settings probe number (record { moment = moment; datagram = bytes }) frames stop journal) (HasBegun settings moment frames journal) said result
+says_whole files old new settings probe number moment read bytes frames stop journal front said result says =
+    says_more (IsNextSaid files old new settings probe number (record { moment = moment; datagram = read }) frames stop journal) (IsNextSaid files old new settings probe number (record { moment = moment; datagram = bytes }) frames stop journal)
+    (HasBegun settings moment frames journal) said result (next_whole files old new settings probe number moment read bytes frames stop journal front) says
 
 -- a receive adds nothing
 pub receive_adds : (content : Option (List ℕ)) (puts : ℕ) (sent sent' : Option (List Datagram)) (sends sends' : ℕ) → sent' ≡ sent → sends ≤ sends'
@@ -136,8 +137,10 @@ none_served manager asking last out link clock come bound sent untouched count l
     };
     stays = λ fault e. absurd cc;
   };
-  order = subst (λ (content : Option (List ℕ)). IsSaidFront (manager ∷ []) asking out.content content link.sent link.sent_after []) (sym untouched)
-      (subst (λ (sent : Option (List Datagram)). IsSaidFront (manager ∷ []) asking out.content out.content link.sent sent []) (sym sent) (front_none (manager ∷ []) asking out.content link.sent));
+  told = [];
+  order = subst (λ (content : Option (List ℕ)). IsSaidFront (manager ∷ []) asking out.content content link.sent link.sent_after [] []) (sym untouched)
+      (subst (λ (sent : Option (List Datagram)). IsSaidFront (manager ∷ []) asking out.content out.content link.sent sent [] []) (sym sent) (front_none (manager ∷ []) asking out.content link.sent));
+  at_once = omega arith;
   fails = refl;
 }
 
@@ -157,13 +160,15 @@ adds_from out link sent sends last text messages same later added =
 pub one_served : {T : Type 0} (manager : Peer) (last : ℕ) (out : SinkUse) (link : LinkUse) (clock : ClockUse) (sent : Option (List Datagram)) (sends : ℕ) (arrival : Arrival) (said : List Said) (result : Result T Status) (failed : Option OutputFault)
     → HaveCome link.received link.received_after clock.told clock.told_after last (arrival ∷ []) → link.bound_after ≡ link.bound → sent ≡ link.sent → link.faults ≤ sends
     → HasAdded (record { content = out.content; puts = out.faults; sent = sent; sends = sends; failed = None }) (shown_after out link failed) (lines said) (messages (manager ∷ []) (λ (number : ℕ). arrival.peer ∷ []) said)
-    → IsSaidFront (manager ∷ []) (λ (number : ℕ). arrival.peer ∷ []) out.content out.content_after sent link.sent_after said → FailsBy failed result → HasServed manager (λ (number : ℕ). peers_of (arrival ∷ [])) last out link clock (arrival ∷ []) said result
+    → (told : List Said) × IsSaidFront (manager ∷ []) (λ (number : ℕ). arrival.peer ∷ []) out.content out.content_after sent link.sent_after said told → FailsBy failed result → HasServed manager (λ (number : ℕ). peers_of (arrival ∷ [])) last out link clock (arrival ∷ []) said result
 one_served manager last out link clock sent sends arrival said result failed come bound same later adds order fails = record {
   come = come;
   bound = bound;
   failed = failed;
   adds = adds_from out link sent sends (shown_after out link failed) (lines said) (messages (manager ∷ []) (λ (number : ℕ). arrival.peer ∷ []) said) same later adds;
-  order = subst (λ (before : Option (List Datagram)). IsSaidFront (manager ∷ []) (λ (number : ℕ). arrival.peer ∷ []) out.content out.content_after before link.sent_after said) same order;
+  told = order.0;
+  order = subst (λ (before : Option (List Datagram)). IsSaidFront (manager ∷ []) (λ (number : ℕ). arrival.peer ∷ []) out.content out.content_after before link.sent_after said order.0) same order.1;
+  at_once = omega arith;
   fails = fails;
 }
 

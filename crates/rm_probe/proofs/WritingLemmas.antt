@@ -32,7 +32,7 @@ module _ (a b : Shown) (said : List Said) (messages : List Datagram) (added : Ha
   write_rose (Err ReadFault) fails is = absurd cc
   write_rose (Err Done) fails is = absurd cc
   write_rose (Err Usage) fails is = absurd cc
-  write_rose (Err (BadCapture at)) fails is = absurd cc
+  write_rose (Err (BadCapture interface at)) fails is = absurd cc
   write_rose (Err (BadRequests at)) fails is = absurd cc
   write_rose (Err NoMemory) fails is = absurd cc
   write_rose (Err TooLong) fails is = absurd cc
@@ -55,7 +55,7 @@ module _ (a b : Shown) (said : List Said) (messages : List Datagram) (added : Ha
   writes_by first last settings frames stop requests (Err LinkFault) fails (rest, is) = absurd (let rose = send_rose fails in omega (arith, rose, first, last))
   writes_by first last settings frames stop requests (Err Done) fails is = absurd is
   writes_by first last settings frames stop requests (Err Usage) fails is = absurd is
-  writes_by first last settings frames stop requests (Err (BadCapture at)) fails is = absurd is
+  writes_by first last settings frames stop requests (Err (BadCapture interface at)) fails is = absurd is
   writes_by first last settings frames stop requests (Err (BadRequests at)) fails is = absurd is
   writes_by first last settings frames stop requests (Err NoMemory) fails is = absurd is
   writes_by first last settings frames stop requests (Err TooLong) fails is = absurd is
@@ -69,7 +69,7 @@ module _ (a b : Shown) (said : List Said) (messages : List Datagram) (added : Ha
   not_silent first last (Err Done) fails loud silent = silent
   not_silent first last (Err ReadFault) fails loud silent = silent
   not_silent first last (Err WriteFault) fails loud silent = silent
-  not_silent first last (Err (BadCapture at)) fails loud silent = silent
+  not_silent first last (Err (BadCapture interface at)) fails loud silent = silent
   not_silent first last (Err (BadRequests at)) fails loud silent = silent
   not_silent first last (Err TooLong) fails loud silent = silent
 

@@ -9,7 +9,7 @@ ghost use Rattle.rm_captures.specs.Reading.{AreHeld, IsOneOf, OneRose, texts};
 ghost use Rattle.rm_captures.specs.Rounds.{AreCaptures};
 ghost use Rattle.rm_requests.specs.Lines.{TimedDatagram, AreRequests};
 ghost use Rattle.rm_requests.specs.Reading.{beginning, reached_of};
-ghost use Rattle.rm_probe.specs.Events.{frames_after};
+ghost use Rattle.rm_captures.specs.Merge.{frames_after};
 ghost use Rattle.rm_probe.specs.Notes.{Note};
 ghost use Rattle.rm_probe.specs.Said.{Notified, Responded, Response, Said, SaysMore};
 ghost use Rattle.rm_probe.specs.Output.{failed_by};

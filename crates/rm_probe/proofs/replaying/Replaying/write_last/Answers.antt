@@ -3,7 +3,7 @@ use Rattle.std.proofs.Common.{◌≡◌, ◌∙◌, ◌-◌, [], ◌++◌, List,
 use Rattle.rm_model.specs.Journal.{Frame}
 use Rattle.rm_pcap.specs.View.{progress_of}
 use Rattle.rm_requests.specs.Reading.{reached_of}
-use Rattle.rm_probe.specs.Events.{frames_after}
+use Rattle.rm_captures.specs.Merge.{frames_after}
 use Rattle.rm_probe.specs.Probe.{settings_of}
 use Rattle.rm_probe.specs.Said.{Notified}
 use Rattle.rm_probe.specs.Steps.{Advanced, IsLastLine, IsLastSaid, SaysNext}
