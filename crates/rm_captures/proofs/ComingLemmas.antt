@@ -121,6 +121,10 @@ from_least held from (name ∷ names) (old ∷ olds) (new ∷ news) next moment 
 pub told_least : (held : List ℕ → Held) (from : ℕ) (names : List (List ℕ)) (olds news : List Capture) (coming : Coming) → length olds ≤ length names → LooksAll held from names olds news (Some coming) → AreFrom coming.moment news
 told_least held from names olds news coming within looks = from_least held from names olds news (Some coming) coming.moment within looks (omega arith)
 
+-- And where none comes next, none has a frame.
+pub none_least : (held : List ℕ → Held) (from : ℕ) (names : List (List ℕ)) (olds news : List Capture) (moment : ℕ) → length olds ≤ length names → LooksAll held from names olds news None → AreFrom moment news
+none_least held from names olds news moment within looks = from_least held from names olds news None moment within looks tt
+
 -- the frame that was told to come next is lent
 abbrev pub LendsTold : Coming → Result Step CaptureFault → Type 0
 LendsTold coming (Ok (Next lent)) = lent.moment ≡ coming.moment

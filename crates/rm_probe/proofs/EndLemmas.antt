@@ -12,6 +12,7 @@ use Rattle.rm_captures.specs.Rounds.{AreCaptureFiles, AreCaptures, AreRead, IsFi
 use Rattle.rm_captures.specs.Told.{CallFor, OfFiles}
 use Rattle.rm_captures.specs.declared.fault.CaptureFault.{CaptureFault}
 use Rattle.rm_captures.proofs.PassLemmas.{all_left}
+use Rattle.rm_captures.proofs.RoundLemmas.{held_still}
 use Rattle.rm_settings.specs.declared.settings.Settings.{Settings}
 use Rattle.rm_probe.specs.Capture.{AreTold, CallsFor, HasReadFaults, helds_of, status_by, status_of}
 use Rattle.rm_requests.specs.Lines.{TimedDatagram, requests_of, AreRequests, HasTooManyLines, IsRequestFile, IsWrongAt}
@@ -38,6 +39,10 @@ text_none settings every orderly old frames stop requests =
     let (said, is) = said_none settings every orderly frames stop requests in
     (lines said, record { said = said; is_run = is; whole = refl }, (0, adds_none old))
 
+-- the fault of a failed read
+abbrev pub unread : ℕ → CaptureFault
+unread interface = record { interface = interface; fault = Read }
+
 -- a fault of a record or of a read, as a run ends by it
 pub of_records : (interface : ℕ) (fault : PcapFault) → IsOfRecords fault → IsOfCapture (status_by interface fault)
 of_records interface Read kind = tt
@@ -61,6 +66,9 @@ read_by interface Magic is = absurd cc
 read_by interface Version is = absurd cc
 read_by interface LinkType is = absurd cc
 read_by interface OutOfMemory is = absurd cc
+
+pub found_read : (found : CaptureFault) → found.fault ≡ Read → status_of found ≡ ReadFault
+found_read found is = ap (status_by found.interface) is
 
 -- only want of memory is silent
 pub silent_by : (interface : ℕ) (fault : PcapFault) → IsSilent (status_by interface fault) → status_by interface fault ≡ NoMemory
@@ -204,6 +212,21 @@ module _ (lead : ℕ) where
       none never files are (frames, stop, whole) = never files frames stop are (left files frames stop are whole)
 
       by_status : (status : Status) → FindsAnother (AreNotLeft held names captures) NoRequests status → FindsAnother (AreNotCaptures lead held names) NoRequests status
+      by_status (BadCapture interface at) finds = none finds
+      by_status (BadRequests line) finds = finds
+      by_status TooLong (inl never) = inl (none never)
+      by_status TooLong (inr requests) = inr requests
+      by_status status finds = tt
+
+  -- after calls that change nothing
+  pub another_still : (old new : List ℕ → Held) (names : List (List ℕ)) (NoRequests : Type 0) (status : Status) → ((each : List ℕ) → new each ≡ old each)
+      → FindsAnother (AreNotCaptures lead new names) NoRequests status → FindsAnother (AreNotCaptures lead old names) NoRequests status
+  another_still old new names NoRequests status same finds = by_status status finds
+    where
+      none : AreNotCaptures lead new names → AreNotCaptures lead old names
+      none never files are good = never files (held_still old new names files same are) good
+
+      by_status : (status : Status) → FindsAnother (AreNotCaptures lead new names) NoRequests status → FindsAnother (AreNotCaptures lead old names) NoRequests status
       by_status (BadCapture interface at) finds = none finds
       by_status (BadRequests line) finds = finds
       by_status TooLong (inl never) = inl (none never)

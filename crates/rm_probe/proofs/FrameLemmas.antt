@@ -1,7 +1,8 @@
 -- Frames that pass up to a moment.
 use Rattle.std.proofs.Common.{◌≡◌, ℕ, suc, ◌+◌, ◌*◌, ◌<◌, ◌≤◌, true, false, List, [], ◌∷◌, ◌++◌, length, map, take, drop, Option, Some, None, Ok, Err, inl, inr, refl, sym, ap, subst, ◌∙◌, arith, take_while, append_assoc}
 use Rattle.std.specs.List.{prefix_len}
-use Rattle.std.proofs.lemmas.List.{append-nil}
+use Rattle.std.proofs.lemmas.List.{append-nil, take-append-le}
+use Rattle.std.proofs.Math.Seq.{take-length}
 use Rattle.std.proofs.lemmas.Bool.Decides.{nat_tests}
 use Rattle.rm_edge.specs.Outside.{Held}
 use Rattle.rm_model.specs.Journal.{Frame, Journal, passes}
@@ -17,7 +18,7 @@ use Rattle.rm_captures.specs.Left.{AreLeft, IsNext, LooksAll, StepsOne, coming_o
 use Rattle.rm_captures.specs.Merge.{is_by, frames_after}
 use Rattle.rm_captures.specs.Reading.{AreHeld, AreUnseen}
 use Rattle.rm_captures.specs.declared.coming.Coming.{Coming}
-use Rattle.rm_captures.proofs.ComingLemmas.{AreFrom, IsFrom}
+use Rattle.rm_captures.proofs.ComingLemmas.{AreFrom, IsFrom, none_least, told_is_lent, told_least, told_within}
 use Rattle.rm_settings.specs.declared.settings.Settings.{Settings}
 use Rattle.rm_probe.specs.Advance.{IsAdvanced}
 use Rattle.rm_probe.specs.Probe.{IsFresh, settings_of, last_given, frames_given, Stands}
@@ -221,6 +222,11 @@ keeps_looking held names named moment probe probe' olds news next looks same kee
       few = looked_few held 1 names olds news next looks keeps.few;
     })
 
+pub keeps_again : (held : List ℕ → Held) (names : List (List ℕ)) (named : ℕ) (probe probe' : Probe) (olds news : List Capture) (next : Option Coming) → LooksAll held 1 names olds news next → probe' ≡ probe
+    → Keeps named (last_given probe) probe olds → Keeps named (last_given probe') probe' news
+keeps_again held names named probe probe' olds news next looks same keeps =
+    subst (λ (p : Probe). Keeps named (last_given p) p news) (sym same) (keeps_looking held names named (last_given probe) probe probe olds news next looks refl keeps)
+
 -- a capture whose next record is passed
 record OneStep (old new : Progress) (lent : Lent) : Type 0 where
   pub count : new.reach.count ≡ old.reach.count + 1
@@ -387,3 +393,67 @@ pub record Advancing {F N : Type 0} (held : F → List ℕ → Held) (faults : F
   pub keeps : Keeps named (last_given probe') probe' captures
   pub passed : (files : List (List ℕ)) → AreHeld (held first) names files → (frames : List Frame) (stop : Stop) (journal : Journal) → AreLeft 1 olds files frames stop → Stands probe journal
       → Passed (settings_of probe) moment files captures probe' (passed_of olds) frames stop journal more
+
+-- captures that were lent as a slice, and are all there again
+pub whole_slice : (n : ℕ) (news rest : List Capture) → length news ≡ n → take n (news ++ rest) ≡ news
+whole_slice n news rest is = ap (λ (k : ℕ). take k (news ++ rest)) (sym is) ∙ take-append-le (length news) news rest (omega arith) ∙ take-length news
+
+-- a frame that was told to come next is lent, and may pass
+pub told_passes : (held held' : List ℕ → Held) (names : List (List ℕ)) (named : ℕ) (olds mids news : List Capture) (coming : Coming) (lent : Lent) (probe : Probe) → named ≤ 4 → length names ≡ named
+    → LooksAll held 1 names olds mids (Some coming) → StepsOne held' 1 coming.interface names mids news (Ok (Next lent)) → Keeps named (last_given probe) probe mids
+    → MayPass named probe lent mids news × (lent.moment ≡ coming.moment)
+told_passes held held' names named olds mids news coming lent probe few all looks steps keeps =
+    let same = told_is_lent held held' 1 names olds mids news coming (Ok (Next lent)) looks steps in
+    let from = told_least held 1 names olds mids coming (omega (arith, looked_length held 1 names olds mids (Some coming) looks, keeps.all, all)) looks in
+    let step = stepped held' 1 coming.interface names mids news lent coming.moment steps from same keeps.few in
+    (may_pass named probe lent coming.moment mids news few same step keeps, same)
+
+-- how many interfaces there are, as a step of one wants it
+pub told_place : (held : List ℕ → Held) (names : List (List ℕ)) (named : ℕ) (olds mids : List Capture) (coming : Coming) → length names ≡ named → LooksAll held 1 names olds mids (Some coming)
+    → (1 ≤ coming.interface) × (coming.interface ≤ length mids) × (coming.interface ≤ named)
+told_place held names named olds mids coming all looks =
+    let within = told_within held 1 names olds mids coming looks in (within.0, omega (arith, within.1), omega (arith, within.2, all))
+
+-- where no frame comes up to a moment, none is left before it
+before_sooner : (moment later : ℕ) (captures : List Capture) → moment ≤ later → AreNotBefore later captures → AreNotBefore moment captures
+unfolding AreNotBefore
+before_sooner moment later [] le before = tt
+before_sooner moment later (capture ∷ more) le (here, rest) = (by_ahead (progress_of capture).ahead here, before_sooner moment later more le rest)
+  where
+    by_ahead : (ahead : Option Found) → IsNotBefore later (progress_of capture).reach ahead → IsNotBefore moment (progress_of capture).reach ahead
+    by_ahead None is = omega (arith, is, le)
+    by_ahead (Some (Whole frame after)) is = omega (arith, is, le)
+    by_ahead (Some (StopsAt stop)) is = tt
+
+-- a probe that was given nothing later than a moment, where no frame is left before it
+keeps_until : (named moment : ℕ) (probe : Probe) (captures : List Capture) → Keeps named (last_given probe) probe captures → last_given probe ≤ moment → AreNotBefore moment captures → Keeps named moment probe captures
+keeps_until named moment probe captures keeps early before = record { all = keeps.all; last = early; next = before; count = keeps.count; few = keeps.few }
+
+pub keeps_end : (held : List ℕ → Held) (names : List (List ℕ)) (named moment : ℕ) (probe probe' : Probe) (olds news : List Capture) → length names ≡ named → LooksAll held 1 names olds news None → probe' ≡ probe
+    → last_given probe ≤ moment → Keeps named (last_given probe) probe olds → Keeps named moment probe' news
+keeps_end held names named moment probe probe' olds news all looks same early keeps =
+    let there = keeps_looking held names named (last_given probe) probe probe olds news None looks refl keeps in
+    subst (λ (p : Probe). Keeps named moment p news) (sym same)
+    (keeps_until named moment probe news there early (all_before moment news (none_least held 1 names olds news moment (omega (arith, keeps.all, all)) looks)))
+
+pub keeps_later : (held : List ℕ → Held) (names : List (List ℕ)) (named moment : ℕ) (probe probe' : Probe) (olds news : List Capture) (coming : Coming) → length names ≡ named → LooksAll held 1 names olds news (Some coming) → probe' ≡ probe
+    → last_given probe ≤ moment → moment < coming.moment → Keeps named (last_given probe) probe olds → Keeps named moment probe' news
+keeps_later held names named moment probe probe' olds news coming all looks same early later keeps =
+    let there = keeps_looking held names named (last_given probe) probe probe olds news (Some coming) looks refl keeps in
+    subst (λ (p : Probe). Keeps named moment p news) (sym same)
+    (keeps_until named moment probe news there early
+    (before_sooner moment coming.moment news (omega (arith, later)) (all_before coming.moment news (told_least held 1 names olds news coming (omega (arith, keeps.all, all)) looks))))
+
+-- a probe that has answered at a moment
+pub keeps_answered : (named moment : ℕ) (probe probe' : Probe) (captures : List Capture) → last_given probe' ≡ moment → frames_given probe' ≡ frames_given probe → Keeps named moment probe captures → Keeps named (last_given probe') probe' captures
+keeps_answered named moment probe probe' captures last frames keeps = record {
+  all = keeps.all;
+  last = omega arith;
+  next = subst (λ (m : ℕ). AreNotBefore m captures) (sym last) keeps.next;
+  count = frames ∙ keeps.count;
+  few = keeps.few;
+}
+
+-- at most so many frames are passed
+pub most_passed : (named moment : ℕ) (probe : Probe) (captures : List Capture) → named ≤ 4 → Keeps named moment probe captures → passed_of captures ≤ 400000000
+most_passed named moment probe captures few keeps = omega (arith, few_passed captures keeps.few, keeps.all, few)

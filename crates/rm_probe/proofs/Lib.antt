@@ -6,6 +6,7 @@ pub mod FaultLemmas
 pub mod FileLemmas
 pub mod FrameLemmas
 pub mod JudgeLemmas
+pub mod NameLemmas
 pub mod OneText
 pub mod OrderLemmas
 pub mod OutputLemmas

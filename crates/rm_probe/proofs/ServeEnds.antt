@@ -1,33 +1,32 @@
 -- How the parts of a run that serves make its end.
 use Rattle.std.specs.Prelude.{IfErr, OnOk}
-use Rattle.std.proofs.Common.{◌≡◌, ◌⊎◌, inl, inr, ℕ, ◌-◌, List, [], ◌∷◌, ◌++◌, length, Option, Some, None, Result, Ok, Err, refl, sym, ap, subst, ◌∙◌, arith}
-use Rattle.rm_edge.specs.Outside.{Held, File, OfFile, Adds, Rose}
+use Rattle.std.proofs.Common.{◌≡◌, ◌⊎◌, inl, inr, ℕ, ◌-◌, List, [], ◌∷◌, ◌++◌, length, map, Option, Some, None, Result, Ok, Err, refl, sym, ap, subst, ◌∙◌, arith}
+use Rattle.rm_edge.specs.Outside.{Held, File, OfFile, Adds}
 use Rattle.rm_edge.specs.Link.{Datagram, Grows}
-use Rattle.rm_edge.specs.Uses.{FileUse, SinkUse, LinkUse, HasReadFault, HasPutFault, HasLinkFault}
+use Rattle.rm_edge.specs.Uses.{FileUse, SinkUse, LinkUse, HasPutFault, HasLinkFault}
 use Rattle.rm_edge.specs.declared.outside.link.Peer.{Peer}
 use Rattle.rm_model.specs.Journal.{Frame}
-use Rattle.rm_pcap.specs.Records.{Stop, alone}
+use Rattle.rm_pcap.specs.Records.{Stop}
 use Rattle.rm_pcap.specs.declared.fault.PcapFault.{PcapFault}
-use Rattle.rm_pcap.specs.declared.fault.PcapFault.TheVariants.{Magic, Version, LinkType, Read, NoMemory as OutOfMemory}
-use Rattle.rm_pcap.specs.Calls.{IsFirstFault}
-use Rattle.rm_pcap.specs.Progress.{Progress, begun}
-use Rattle.rm_pcap.specs.declared.form.Form.{Form}
+use Rattle.rm_pcap.specs.declared.fault.PcapFault.TheVariants.{Magic, Version, LinkType, Included, Original, Late, TooMany, Read, NoMemory as OutOfMemory}
+use Rattle.rm_captures.specs.Rounds.{AreCaptureFiles, AreCaptures}
+use Rattle.rm_captures.specs.Told.{OfFiles}
+use Rattle.rm_captures.specs.declared.fault.CaptureFault.{CaptureFault}
 use Rattle.rm_settings.specs.declared.settings.Settings.{Settings}
-use Rattle.rm_probe.specs.Capture.{IsCapture, IsCaptureFile, CallsFor, status_of}
+use Rattle.rm_probe.specs.Capture.{AreTold, CallsFor, HasReadFaults, helds_of, status_by, status_of}
 use Rattle.rm_probe.specs.Events.{events_by, frames_left}
 use Rattle.rm_probe.specs.Output.{HasAdded, IsSaidFront, front_none}
-use Rattle.rm_probe.specs.Probe.{IsFresh}
-use Rattle.rm_probe.specs.Said.{Last, Said, lines, stop_before}
-use Rattle.rm_probe.specs.Serving.{Arrival, BindsNone, BindsPort, EndsServing, IsIdle, IsServed, ServesExactly, WritesServedFront, asking_of, served_messages}
-use Rattle.rm_probe.specs.Steps.{FailsBy, FindsAnother, IsForeign, IsNotCapture, IsNotLeft, JudgesCapture, Keeps, Leaves, ends_by}
+use Rattle.rm_probe.specs.Said.{Last, Said, answers_in, is_cut_behind, lines}
+use Rattle.rm_probe.specs.Serving.{Arrival, AreAnswered, BindsNone, BindsPort, EndsServing, HasNotBegun, IsIdle, IsServed, ServesExactly, WritesServedFront, asking_of, served_messages}
+use Rattle.rm_probe.specs.Steps.{FailsBy, FindsAnother, IsForeign, JudgesCaptures, ends_by}
 use Rattle.rm_probe.specs.Text.{AreSaid}
 use Rattle.rm_probe.specs.Turns.{SaysServed, shown_after, shown_before}
 use Rattle.rm_probe.specs.declared.output.OutputFault.{OutputFault}
-use Rattle.rm_probe.specs.declared.probe.Probe.{Probe}
 use Rattle.rm_probe.specs.declared.status.Status.{Status}
 use Rattle.rm_probe.specs.declared.status.Status.TheVariants.{Done, Usage, BadCapture, BadRequests, ReadFault, WriteFault, NoMemory, LinkFault, TooLong}
-use Rattle.rm_probe.proofs.EndLemmas.{OneReading, not_broken, same_fault, told}
-use Rattle.rm_probe.proofs.RecordLemmas.{of_told}
+use Rattle.rm_probe.proofs.EndLemmas.{AreOther, called_bad, other_calls, other_told}
+use Rattle.rm_probe.proofs.FaultLemmas.{OneReading, called_first, not_broken, same_fault}
+use Rattle.rm_probe.proofs.FileLemmas.{of_files, told_files}
 use Rattle.rm_probe.proofs.OutputLemmas.{front_longer}
 use Rattle.rm_probe.proofs.WritingLemmas.{put_rose, send_rose}
 
@@ -39,7 +38,7 @@ grows_adds (Some old) new x grows = grows
 pub port_bound : (port : ℕ) (arrivals : List Arrival) (link : LinkUse) (status : Status) → Adds link.bound link.bound_after (port ∷ []) → BindsPort port arrivals link status
 port_bound port arrivals link Done adds = adds
 port_bound port arrivals link Usage adds = inl adds
-port_bound port arrivals link (BadCapture at) adds = inl adds
+port_bound port arrivals link (BadCapture interface at) adds = inl adds
 port_bound port arrivals link (BadRequests at) adds = inl adds
 port_bound port arrivals link ReadFault adds = inl adds
 port_bound port arrivals link WriteFault adds = inl adds
@@ -50,7 +49,7 @@ port_bound port arrivals link TooLong adds = inl adds
 pub port_unbound : (port : ℕ) (arrivals : List Arrival) (link : LinkUse) (status : Status) → (status ≡ Done → ⊥) → BindsNone arrivals link → BindsPort port arrivals link status
 port_unbound port arrivals link Done going none = absurd (going refl)
 port_unbound port arrivals link Usage going none = inr none
-port_unbound port arrivals link (BadCapture at) going none = inr none
+port_unbound port arrivals link (BadCapture interface at) going none = inr none
 port_unbound port arrivals link (BadRequests at) going none = inr none
 port_unbound port arrivals link ReadFault going none = inr none
 port_unbound port arrivals link WriteFault going none = inr none
@@ -59,20 +58,16 @@ port_unbound port arrivals link LinkFault going none = inr none
 port_unbound port arrivals link TooLong going none = inr none
 
 -- what may be said where no datagram came
-served_none : (settings : Settings) (frames : List Frame) (stop : Stop) → IsServed settings frames stop [] (Last (stop_before (frames_left [] frames) stop) (length frames - length (frames_left [] frames)) 0 ∷ [])
+served_none : (settings : Settings) (frames : List Frame) (stop : Stop) → IsServed settings frames stop [] (Last (is_cut_behind (frames_left [] frames) stop) (length frames - length (frames_left [] frames)) 0 ∷ [])
 unfolding AreSaid events_by
 served_none settings frames stop = record { before = []; are_said = refl; whole = refl }
 
--- a probe to which nothing came, and a capture of which no record is passed
-pub keeps_first : (probe : Probe) (progress : Progress) (form : Form) (lead : ℕ) → IsFresh probe → progress ≡ begun form (alone lead) → Keeps 0 probe progress
-keeps_first probe progress form lead fresh is = subst (λ (p : Progress). Keeps 0 probe p) (sym is) (record { last = omega (arith, fresh.last); next = omega arith; count = fresh.frames })
-
 -- of whatever may be said, nothing is a front
-idle_front : (manager : Peer) (out : SinkUse) (link : LinkUse) → IsIdle out link → (said : List Said) → IsSaidFront (manager ∷ []) (asking_of []) out.content out.content_after link.sent link.sent_after said
+idle_front : (manager : Peer) (out : SinkUse) (link : LinkUse) → IsIdle out link → (said : List Said) → IsSaidFront (manager ∷ []) (asking_of []) out.content out.content_after link.sent link.sent_after said []
 idle_front manager out link idle said =
-    subst (λ (content : Option (List ℕ)). IsSaidFront (manager ∷ []) (asking_of []) out.content content link.sent link.sent_after said) (sym idle.unwritten)
-    (subst (λ (sent : Option (List Datagram)). IsSaidFront (manager ∷ []) (asking_of []) out.content out.content link.sent sent said) (sym idle.unsent)
-    (front_longer (manager ∷ []) (asking_of []) out.content out.content link.sent link.sent [] said (front_none (manager ∷ []) (asking_of []) out.content link.sent)))
+    subst (λ (content : Option (List ℕ)). IsSaidFront (manager ∷ []) (asking_of []) out.content content link.sent link.sent_after said []) (sym idle.unwritten)
+    (subst (λ (sent : Option (List Datagram)). IsSaidFront (manager ∷ []) (asking_of []) out.content out.content link.sent sent said []) (sym idle.unsent)
+    (front_longer (manager ∷ []) (asking_of []) out.content out.content link.sent link.sent [] [] said (front_none (manager ∷ []) (asking_of []) out.content link.sent)))
 
 -- a run that is done has ended with no fault
 pub done_all : (run : Result (Unit {0}) Status) (P : Type 0) → OnOk run P → IfErr run (λ (status : Status). IsForeign status → ⊥) → ends_by run ≡ Done → P
@@ -80,111 +75,108 @@ done_all (Ok done) P all loud is = all
 done_all (Err status) P all loud is = absurd (loud (subst (λ (s : Status). IsForeign s) (sym is) tt))
 
 module _ (lead : ℕ) where
-  -- what another file means where the capture was begun
-  pub another_ready : (held : Held) (progress : Progress) (status : Status) → ((bytes : List ℕ) (frames : List Frame) (stop : Stop) → held ≡ File bytes → IsCapture lead bytes frames stop → Leaves progress bytes frames stop)
-      → progress.reach.count ≡ 0 → FindsAnother (IsNotLeft held progress) ⊥ status → FindsAnother (IsNotCapture lead held) ⊥ status
-  another_ready held progress status left count finds = by_status status finds
+  -- captures that are refused don't end as done
+  pub refused_going : (T : Type 0) (helds : List Held) (Failed : Type 0) (status : Status) → JudgesCaptures {T = T} lead helds Failed (Err status) → status ≡ Done → ⊥
+  refused_going T helds Failed status judged is = subst (λ (s : Status). JudgesCaptures {T = T} lead helds Failed (Err s)) is judged
+
+  -- the judgement of captures that are begun again, and aren't: for want of memory, by a failed read, or since other files are there
+  pub begins_again : (T : Type 0) (helds : List Held) (Failed : Type 0) (found : CaptureFault) → OfFiles helds (AreCaptureFiles lead) → FindsAnother (AreOther lead helds) ⊥ (status_of found) → (found.fault ≡ Read → Failed)
+      → JudgesCaptures {T = T} lead helds Failed (Err (status_of found))
+  begins_again T helds Failed found form finds rose = by_fault found.fault refl finds
     where
-      none : IsNotLeft held progress → IsNotCapture lead held
-      none never bytes is (frames, stop, capture) = never bytes frames stop is (left bytes frames stop is capture) count capture.faultless
+      by_fault : (fault : PcapFault) → found.fault ≡ fault → FindsAnother (AreOther lead helds) ⊥ (status_by found.interface fault) → JudgesCaptures {T = T} lead helds Failed (Err (status_by found.interface fault))
+      by_fault Read is finds = rose is
+      by_fault OutOfMemory is finds = tt
+      by_fault Magic is finds = other_calls lead helds found.interface Magic form finds
+      by_fault Version is finds = other_calls lead helds found.interface Version form finds
+      by_fault LinkType is finds = other_calls lead helds found.interface LinkType form finds
+      by_fault (Included at) is finds = other_calls lead helds found.interface (Included at) form finds
+      by_fault (Original at) is finds = other_calls lead helds found.interface (Original at) form finds
+      by_fault (Late at) is finds = other_calls lead helds found.interface (Late at) form finds
+      by_fault TooMany is (inl another) = other_calls lead helds found.interface TooMany form another
+      by_fault TooMany is (inr never) = absurd never
 
-      by_status : (status : Status) → FindsAnother (IsNotLeft held progress) ⊥ status → FindsAnother (IsNotCapture lead held) ⊥ status
-      by_status (BadCapture at) finds = none finds
-      by_status (BadRequests line) finds = finds
-      by_status TooLong (inl never) = inl (none never)
-      by_status TooLong (inr never) = absurd never
-      by_status status finds = tt
-
-  -- a capture that is refused doesn't end as done
-  pub refused_going : (T : Type 0) (held : Held) (before now : ℕ) (status : Status) → JudgesCapture {T = T} lead held before now (Err status) → status ≡ Done → ⊥
-  refused_going T held before now status judged is = subst (λ (s : Status). JudgesCapture {T = T} lead held before now (Err s)) is judged
-
-  -- the judgement of a capture that is begun again, and isn't: for want of memory, by a failed read, or since another file is there
-  pub begins_again : (T : Type 0) (held : Held) (before now : ℕ) (fault : PcapFault) → OfFile held (IsCaptureFile lead) → FindsAnother (IsNotCapture lead held) ⊥ (status_of fault) → IsFirstFault fault → (fault ≡ Read → Rose before now)
-      → JudgesCapture {T = T} lead held before now (Err (status_of fault))
-  begins_again T held before now Read form finds kind rose = rose refl
-  begins_again T held before now OutOfMemory form finds kind rose = tt
-  begins_again T held before now Magic form finds kind rose = of_told held (IsCaptureFile lead) _ (λ bytes is good. absurd (finds bytes is good)) form
-  begins_again T held before now Version form finds kind rose = of_told held (IsCaptureFile lead) _ (λ bytes is good. absurd (finds bytes is good)) form
-  begins_again T held before now LinkType form finds kind rose = of_told held (IsCaptureFile lead) _ (λ bytes is good. absurd (finds bytes is good)) form
-  begins_again T held before now fault form finds kind rose = absurd kind
-
-  module _ (settings : Settings) (manager : Peer) (capture : FileUse) (out : SinkUse) (link : LinkUse) where
+  module _ (settings : Settings) (manager : Peer) (captures : List FileUse) (out : SinkUse) (link : LinkUse) where
     -- a run that ends by what was judged
-    pub refused_ends : (T : Type 0) (status : Status) → IsIdle out link → JudgesCapture {T = T} lead capture.held capture.faults capture.faults_after (Err status) → EndsServing settings lead manager [] capture out link status
-    refused_ends T (BadCapture at) idle judged = of_told capture.held (CallsFor lead (BadCapture at)) _ (λ bytes is called. (called, idle)) judged
-    refused_ends T TooLong idle judged = of_told capture.held (CallsFor lead TooLong) _ (λ bytes is called. (called, idle)) judged
-    refused_ends T ReadFault idle judged = (judged, inl idle)
-    refused_ends T NoMemory idle judged = idle
-    refused_ends T status idle judged = absurd judged
+    pub refused_ends : (T : Type 0) (Failed : Type 0) (status : Status) → (Failed → HasReadFaults captures) → HasNotBegun [] out link → JudgesCaptures {T = T} lead (helds_of captures) Failed (Err status)
+        → EndsServing settings lead manager [] captures out link status
+    refused_ends T Failed (BadCapture interface at) risen before judged = (judged, λ told_all. before)
+    refused_ends T Failed TooLong risen before judged = (judged, λ told_all. before)
+    refused_ends T Failed ReadFault risen before judged = (risen judged, inl before)
+    refused_ends T Failed NoMemory risen before judged = before
+    refused_ends T Failed status risen before judged = absurd judged
 
     -- nothing was written or sent, which is the first of what may be said
-    pub none_written : OfFile capture.held (IsCaptureFile lead) → IsIdle out link → WritesServedFront settings lead manager [] capture out link
+    pub none_written : OfFiles (helds_of captures) (AreCaptureFiles lead) → IsIdle out link → WritesServedFront settings lead manager [] captures out link
     none_written form idle = (
       form,
-      of_told capture.held (IsCaptureFile lead) _ (λ bytes is good frames stop whole. (
+      of_files (helds_of captures) (AreCaptureFiles lead) _ (λ files is good frames stop whole. (
         _,
         served_none settings frames stop,
-        idle_front manager out link idle _,
+        ([], idle_front manager out link idle _, omega arith),
       )) form,
     )
 
     -- of the first of what may be said a front was written
-    served_front : (arrivals : List Arrival) (said : List Said) → OfFile capture.held (IsCaptureFile lead) → IsSaidFront (manager ∷ []) (asking_of arrivals) out.content out.content_after link.sent link.sent_after said
-        → ((bytes : List ℕ) (frames : List Frame) (stop : Stop) → capture.held ≡ File bytes → IsCapture lead bytes frames stop → (rest : List Said) × IsServed settings frames stop arrivals (said ++ rest))
-        → WritesServedFront settings lead manager arrivals capture out link
-    served_front arrivals said form front says = (
+    served_front : (arrivals : List Arrival) (said told : List Said) → OfFiles (helds_of captures) (AreCaptureFiles lead)
+        → IsSaidFront (manager ∷ []) (asking_of arrivals) out.content out.content_after link.sent link.sent_after said told → AreAnswered arrivals told
+        → ((files : List (List ℕ)) (frames : List Frame) (stop : Stop) → helds_of captures ≡ map File files → AreCaptures lead files frames stop → (rest : List Said) × IsServed settings frames stop arrivals (said ++ rest))
+        → WritesServedFront settings lead manager arrivals captures out link
+    served_front arrivals said told form front answered says = (
       form,
-      of_told capture.held (IsCaptureFile lead) _ (λ bytes is good frames stop whole.
-          let (rest, served) = says bytes frames stop is whole in
-          (said ++ rest, served, front_longer (manager ∷ []) (asking_of arrivals) out.content out.content_after link.sent link.sent_after said rest front)) form,
+      of_files (helds_of captures) (AreCaptureFiles lead) _ (λ files is good frames stop whole.
+          let (rest, served) = says files frames stop is whole in
+          (said ++ rest, served, (told, front_longer (manager ∷ []) (asking_of arrivals) out.content out.content_after link.sent link.sent_after said told rest front, answered))) form,
     )
 
     -- how the run itself ends
-    pub served_ends : (arrivals : List Arrival) (said : List Said) (failed : Option OutputFault) (run : Result (Unit {0}) Status) → OfFile capture.held (IsCaptureFile lead)
+    pub served_ends : (arrivals : List Arrival) (said told : List Said) (failed : Option OutputFault) (run : Result (Unit {0}) Status) → OfFiles (helds_of captures) (AreCaptureFiles lead)
         → HasAdded (shown_before out link) (shown_after out link failed) (lines said) (served_messages manager arrivals said)
-        → IsSaidFront (manager ∷ []) (asking_of arrivals) out.content out.content_after link.sent link.sent_after said → FailsBy failed run
-        → ((bytes : List ℕ) (frames : List Frame) (stop : Stop) → capture.held ≡ File bytes → IsCapture lead bytes frames stop → SaysServed settings frames stop arrivals said run)
-        → FindsAnother (IsNotCapture lead capture.held) ⊥ (ends_by run) → (run ≡ Err ReadFault → HasReadFault capture) → IfErr run (λ (status : Status). IsForeign status → ⊥)
-        → EndsServing settings lead manager arrivals capture out link (ends_by run)
-    served_ends arrivals said failed (Ok done) form added front fails says finds reads loud = (
+        → IsSaidFront (manager ∷ []) (asking_of arrivals) out.content out.content_after link.sent link.sent_after said told → AreAnswered arrivals told → FailsBy failed run
+        → ((files : List (List ℕ)) (frames : List Frame) (stop : Stop) → helds_of captures ≡ map File files → AreCaptures lead files frames stop → SaysServed settings frames stop arrivals said run)
+        → FindsAnother (AreOther lead (helds_of captures)) ⊥ (ends_by run) → (run ≡ Err ReadFault → HasReadFaults captures) → IfErr run (λ (status : Status). IsForeign status → ⊥)
+        → EndsServing settings lead manager arrivals captures out link (ends_by run)
+    served_ends arrivals said told failed (Ok done) form added front answered fails says finds reads loud = (
       form,
-      of_told capture.held (IsCaptureFile lead) _ (λ bytes is good frames stop whole. (said, says bytes frames stop is whole, (added.puts.whole fails, added.sends.whole fails))) form,
+      of_files (helds_of captures) (AreCaptureFiles lead) _ (λ files is good frames stop whole. (said, says files frames stop is whole, (added.puts.whole fails, added.sends.whole fails))) form,
     )
-    served_ends arrivals said failed (Err WriteFault) form added front fails says finds reads loud = (put_rose _ _ said _ added refl fails, served_front arrivals said form front says)
-    served_ends arrivals said failed (Err LinkFault) form added front fails says finds reads loud = (send_rose _ _ said _ added refl fails, served_front arrivals said form front says)
-    served_ends arrivals said failed (Err ReadFault) form added front fails says finds reads loud = (reads refl, inr (served_front arrivals said form front says))
-    served_ends arrivals said failed (Err (BadCapture at)) form added front fails says finds reads loud = of_told capture.held (IsCaptureFile lead) _ (λ bytes is good. absurd (finds bytes is good)) form
-    served_ends arrivals said failed (Err TooLong) form added front fails says (inl finds) reads loud = of_told capture.held (IsCaptureFile lead) _ (λ bytes is good. absurd (finds bytes is good)) form
-    served_ends arrivals said failed (Err TooLong) form added front fails says (inr never) reads loud = absurd never
-    served_ends arrivals said failed (Err Done) form added front fails says finds reads loud = absurd (loud tt)
-    served_ends arrivals said failed (Err Usage) form added front fails says finds reads loud = absurd (loud tt)
-    served_ends arrivals said failed (Err (BadRequests at)) form added front fails says finds reads loud = absurd (loud tt)
-    served_ends arrivals said failed (Err NoMemory) form added front fails says finds reads loud = absurd (loud tt)
+    served_ends arrivals said told failed (Err WriteFault) form added front answered fails says finds reads loud = (put_rose _ _ said _ added refl fails, served_front arrivals said told form front answered says)
+    served_ends arrivals said told failed (Err LinkFault) form added front answered fails says finds reads loud = (send_rose _ _ said _ added refl fails, served_front arrivals said told form front answered says)
+    served_ends arrivals said told failed (Err ReadFault) form added front answered fails says finds reads loud = (reads refl, inr (served_front arrivals said told form front answered says))
+    served_ends arrivals said told failed (Err (BadCapture interface at)) form added front answered fails says finds reads loud =
+        (other_calls lead (helds_of captures) interface (Included at) form finds, other_told lead (HasNotBegun arrivals out link) (helds_of captures) form finds)
+    served_ends arrivals said told failed (Err TooLong) form added front answered fails says (inl finds) reads loud =
+        (other_calls lead (helds_of captures) 1 TooMany form finds, other_told lead (HasNotBegun arrivals out link) (helds_of captures) form finds)
+    served_ends arrivals said told failed (Err TooLong) form added front answered fails says (inr never) reads loud = absurd never
+    served_ends arrivals said told failed (Err Done) form added front answered fails says finds reads loud = absurd (loud tt)
+    served_ends arrivals said told failed (Err Usage) form added front answered fails says finds reads loud = absurd (loud tt)
+    served_ends arrivals said told failed (Err (BadRequests at)) form added front answered fails says finds reads loud = absurd (loud tt)
+    served_ends arrivals said told failed (Err NoMemory) form added front answered fails says finds reads loud = absurd (loud tt)
 
     -- nothing else is called for
-    good : OneReading lead → (status : Status) → OfFile capture.held (IsCaptureFile lead) → ((HasReadFault capture → ⊥) → (HasPutFault out → ⊥) → (HasLinkFault link → ⊥) → (status ≡ Done) ⊎ (status ≡ NoMemory))
-        → ServesExactly lead capture out link status
+    good : OneReading → (status : Status) → OfFiles (helds_of captures) (AreCaptureFiles lead)
+        → ((HasReadFaults captures → ⊥) → (HasPutFault out → ⊥) → (HasLinkFault link → ⊥) → (status ≡ Done) ⊎ (status ≡ NoMemory)) → ServesExactly lead captures out link status
     good one status form complete = record {
-      bad_capture = λ bytes fault is broken. absurd (not_broken lead one bytes fault broken (told lead capture.held bytes (IsCaptureFile lead) is form));
-      complete = λ bytes is good unread unput unlinked. complete unread unput unlinked;
+      bad_capture = λ files found is broken. absurd (not_broken one lead files found broken (told_files (helds_of captures) files (AreCaptureFiles lead) is form));
+      complete = λ files is good unread unput unlinked. complete unread unput unlinked;
     }
 
-    bad : OneReading lead → (status : Status) → ((bytes : List ℕ) → capture.held ≡ File bytes → CallsFor lead status bytes) → ServesExactly lead capture out link status
-    bad one status called = record {
-      bad_capture = λ bytes fault is broken. let k = called bytes is in inl (k.2 ∙ ap status_of (same_fault lead one bytes k.0 fault k.1 broken));
-      complete = λ bytes is good unread unput unlinked. absurd (let k = called bytes is in not_broken lead one bytes k.0 k.1 good);
+    bad : OneReading → (status : Status) → CallsFor lead status (helds_of captures) → ServesExactly lead captures out link status
+    bad one status calls = record {
+      bad_capture = λ files found is broken.
+          let (first, ends, is_first) = called_first lead (helds_of captures) files status is calls in inl (ends ∙ same_fault one lead files first found is_first broken);
+      complete = λ files is good unread unput unlinked. absurd (called_bad lead one (helds_of captures) files status is calls good);
     }
 
-    pub serves_exactly : OneReading lead → (arrivals : List Arrival) (status : Status) → EndsServing settings lead manager arrivals capture out link status → ServesExactly lead capture out link status
+    pub serves_exactly : OneReading → (arrivals : List Arrival) (status : Status) → EndsServing settings lead manager arrivals captures out link status → ServesExactly lead captures out link status
     serves_exactly one arrivals Done ends = good one Done ends.0 (λ unread unput unlinked. inl refl)
     serves_exactly one arrivals WriteFault ends = good one WriteFault ends.1.0 (λ unread unput unlinked. absurd (unput ends.0))
     serves_exactly one arrivals LinkFault ends = good one LinkFault ends.1.0 (λ unread unput unlinked. absurd (unlinked ends.0))
     serves_exactly one arrivals ReadFault ends = record {
-      bad_capture = λ bytes fault is broken. inr (inr refl);
-      complete = λ bytes is good unread unput unlinked. absurd (unread ends.0);
+      bad_capture = λ files found is broken. inr (inr refl);
+      complete = λ files is good unread unput unlinked. absurd (unread ends.0);
     }
-    serves_exactly one arrivals NoMemory ends = record { bad_capture = λ bytes fault is broken. inr (inl refl); complete = λ bytes is good unread unput unlinked. inr refl }
-    serves_exactly one arrivals (BadCapture at) ends = bad one (BadCapture at) (λ bytes is. (told lead capture.held bytes (λ b. CallsFor lead (BadCapture at) b × IsIdle out link) is ends).0)
-    serves_exactly one arrivals TooLong ends = bad one TooLong (λ bytes is. (told lead capture.held bytes (λ b. CallsFor lead TooLong b × IsIdle out link) is ends).0)
+    serves_exactly one arrivals NoMemory ends = record { bad_capture = λ files found is broken. inr (inl refl); complete = λ files is good unread unput unlinked. inr refl }
+    serves_exactly one arrivals (BadCapture interface at) ends = bad one (BadCapture interface at) ends.0
+    serves_exactly one arrivals TooLong ends = bad one TooLong ends.0
     serves_exactly one arrivals status ends = absurd ends

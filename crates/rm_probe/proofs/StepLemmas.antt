@@ -1,20 +1,21 @@
 -- What the steps of a run say.
-use Rattle.std.proofs.Common.{◌≡◌, ℕ, ◌+◌, List, [], ◌∷◌, ◌++◌, length, map, take_while, Option, Result, Ok, Err, refl, sym, ap, subst, ◌∙◌, arith, append_assoc}
-use Rattle.std.specs.Prelude.{IfErr}
+use Rattle.std.proofs.Common.{◌≡◌, ℕ, ◌+◌, Bool, true, false, List, [], ◌∷◌, ◌++◌, length, map, take_while, Option, Some, None, Result, Ok, Err, refl, sym, ap, subst, ◌∙◌, arith, append_assoc}
+use Rattle.std.specs.Prelude.{IfErr, is_some}
 use Rattle.std.proofs.lemmas.List.{append-nil}
 use mathlib.Core.List.{map-append}
 use Rattle.rm_edge.specs.Outside.{Held}
 use Rattle.rm_model.specs.Journal.{Frame, Journal}
 use Rattle.rm_pcap.specs.Records.{Stop}
 use Rattle.rm_pcap.specs.declared.capture.Capture.{Capture}
-use Rattle.rm_captures.specs.Left.{is_cut, passed_of}
+use Rattle.rm_captures.specs.Left.{IsNext, is_cut, passed_of}
 use Rattle.rm_captures.specs.Merge.{frames_after, is_by}
+use Rattle.rm_captures.specs.declared.coming.Coming.{Coming}
 use Rattle.rm_settings.specs.declared.settings.Settings.{Settings}
 use Rattle.rm_probe.specs.Advance.{IsAdvanced}
 use Rattle.rm_probe.specs.Events.{Event, Asks, comings}
 use Rattle.rm_requests.specs.Lines.{TimedDatagram}
 use Rattle.rm_probe.specs.Notes.{Note}
-use Rattle.rm_probe.specs.Said.{Response, Said, Notified, Responded, Last}
+use Rattle.rm_probe.specs.Said.{Response, Said, Notified, Responded, Last, is_cut_behind}
 use Rattle.rm_probe.specs.Probe.{settings_of}
 use Rattle.rm_probe.specs.Steps.{HasBegun, Advanced, Answers, FailsBy, IsForeign, IsLastLine, IsLastSaid, IsNextSaid, IsOfCapture, IsResponse, SaysFrom, SaysNext, told_by}
 use Rattle.rm_probe.specs.declared.status.Status.{Status}
@@ -168,3 +169,26 @@ module _ (settings : Settings) (files : List (List ℕ)) (captures : List Captur
 -- a read failed where the last line was to be said
 pub unread_last : (IsLast : List Said → Type 0) (status : Status) → status ≡ ReadFault → SaysNext {T = Unit {0}} IsLast (λ (notes : List Note). notes ≡ []) [] (Err status)
 unread_last IsLast status is = subst (λ (s : Status). SaysNext {T = Unit {0}} IsLast (λ (notes : List Note). notes ≡ []) [] (Err s)) (sym is) ([], refl, refl)
+
+-- what comes next, if something does
+pub some_next : (next : Option Coming) → is_some next ≡ true → (coming : Coming) × (next ≡ Some coming)
+some_next None is = absurd cc
+some_next (Some coming) is = (coming, refl)
+
+pub no_next : (next : Option Coming) → is_some next ≡ false → next ≡ None
+no_next None is = refl
+no_next (Some coming) is = absurd cc
+
+-- where a frame is left nothing is cut short
+pub cut_frames : (frames : List Frame) (stop : Stop) (next : Option Coming) → (coming : Coming) × (next ≡ Some coming) → IsNext frames next → false ≡ is_cut_behind frames stop
+cut_frames [] stop next (coming, is) none = absurd (let e = sym none ∙ is in cc)
+cut_frames (frame ∷ more) stop next some is = refl
+
+-- where none is, the captures tell
+pub cut_ends : (frames : List Frame) (stop : Stop) (next : Option Coming) → next ≡ None → IsNext frames next → (cut : Bool) → (frames ≡ [] → cut ≡ is_cut stop) → cut ≡ is_cut_behind frames stop
+cut_ends [] stop next none is cut ends = ends refl
+cut_ends (frame ∷ more) stop next none is cut ends = absurd (let e = sym none ∙ is in cc)
+
+pub cut_reads : (frames : List Frame) (next : Option Coming) → next ≡ None → IsNext frames next → (status : Status) → (frames ≡ [] → status ≡ ReadFault) → status ≡ ReadFault
+cut_reads [] next none is status reads = reads refl
+cut_reads (frame ∷ more) next none is status reads = absurd (let e = sym none ∙ is in cc)

@@ -23,14 +23,13 @@ impl<'a> Names<'a> {
         requires ladder { IsLadder if2 if3 if4 }
         ensures names { texts (take result.count result.all) ≡ names_of capture.now if2 if3 if4 }
     {
+        let second = if2.unwrap_or("");
+        let third = if3.unwrap_or("");
+        let fourth = if4.unwrap_or("");
+        let count = capture_count(if2, if3, if4);
         Names {
-            all: [
-                capture,
-                if2.unwrap_or(""),
-                if3.unwrap_or(""),
-                if4.unwrap_or(""),
-            ],
-            count: capture_count(if2, if3, if4),
+            all: [capture, second, third, fourth],
+            count,
         }
     }
 

@@ -2,7 +2,7 @@
 ghost use Rattle.std.specs.Prelude.{◌≡◌, ◌⊎◌, ◌≤◌, ◌<◌, ◌+◌, ◌-◌, ◌^◌, ◌++◌, ℕ, List, None, Ok, Err, OnOk, IfErr, IfOk, [], ◌∷◌, length, map};
 ghost use Rattle.rm_edge.specs.Outside.{Rose, File};
 ghost use Rattle.rm_edge.specs.Shelves.{KeepsShelf};
-ghost use Rattle.rm_model.specs.Journal.{Frame};
+ghost use Rattle.rm_model.specs.Journal.{Frame, Journal};
 ghost use Rattle.rm_pcap.specs.Records.{Stop};
 ghost use Rattle.rm_captures.specs.Left.{AreLeft, LooksAll, passed_of};
 ghost use Rattle.rm_captures.specs.Reading.{AreHeld, IsOneOf, OneRose, texts};
@@ -13,7 +13,7 @@ ghost use Rattle.rm_captures.specs.Merge.{frames_after};
 ghost use Rattle.rm_probe.specs.Notes.{Note};
 ghost use Rattle.rm_probe.specs.Said.{Notified, Responded, Response, Said, SaysMore};
 ghost use Rattle.rm_probe.specs.Output.{failed_by};
-ghost use Rattle.rm_probe.specs.Probe.{settings_of, last_given, frames_given, IsFresh};
+ghost use Rattle.rm_probe.specs.Probe.{settings_of, last_given, frames_given, IsFresh, Stands};
 ghost use Rattle.rm_probe.specs.Steps.{Advanced, Answers, AreNotCaptures, AreNotLeft, FailsBy, FindsAnother, FindsCutBehind, FindsFrame, HasPassed, IsForeign, IsLastLine, IsLastSaid, IsNextSaid, IsNotRequests, IsOfCapture, IsOfOne, IsQuiet, IsResponse, IsTold, Keeps, SaysFrom, SaysNext, SaysRun, TellsNoMessage, Writes, ends_by, timed, told_by};
 ghost use Rattle.rm_probe.specs.Ends.{IsSilent};
 ghost use Rattle.rm_probe.specs.declared.status.Status.TheVariants.{ReadFault, WriteFault, NoMemory};
@@ -111,8 +111,9 @@ impl Replaying {
             frames stop journal passed) (map Notified passed) result }
         ensures settings { settings_of self.new.probe ≡ settings_of self.old.probe }
         ensures keeps { OnOk result (Keeps (length names.now) moment self.new.probe self.new.captures.items) }
-        ensures all { moment ≡ 4294967295 → OnOk result ((files : List (List ℕ)) (frames : List Frame) (stop : Stop) → AreHeld (F.held shelf.old) (texts names.now) files
-            → AreLeft 1 self.old.captures.items files frames stop → frames_after moment frames ≡ []) }
+        ensures all { moment ≡ 4294967295 → OnOk result ((files : List (List ℕ)) (frames : List Frame) (stop : Stop) (journal : Journal)
+            → AreHeld (F.held shelf.old) (texts names.now) files → AreLeft 1 self.old.captures.items files frames stop → Stands self.old.probe journal
+            → frames_after moment frames ≡ []) }
     {
         loop {
             let Some(coming) = self.next(shelf, names)? else {

@@ -1,19 +1,18 @@
 use Rattle.std.proofs.lemmas.Result.{err_from_is_err_and}
-use Rattle.std.proofs.Common.{◌≡◌, [], ◌++◌, Some, Ok, refl, sym, ap, subst, ◌∙◌, arith}
-use Rattle.rm_pcap.specs.View.{progress_of}
-use Rattle.rm_pcap.specs.Calls.{Steps}
-use Rattle.rm_pcap.specs.Progress.{Progress, frame_of}
-use Rattle.rm_settings.specs.declared.settings.Settings.{Settings}
+use Rattle.std.proofs.Common.{[], ◌++◌, refl, ap, sym, ◌∙◌, length, arith}
+use Rattle.rm_edge.proofs.Keeping.{quiet_then}
+use Rattle.rm_captures.specs.Left.{passed_of}
+use Rattle.rm_captures.specs.Reading.{texts}
+use Rattle.rm_captures.proofs.NameLemmas.{as_many_texts, rose_still}
+use Rattle.rm_captures.proofs.RoundLemmas.{held_still}
 use Rattle.rm_probe.specs.Probe.{settings_of}
 use Rattle.rm_probe.specs.Steps.{Advanced, HasBegun}
-use Rattle.rm_pcap.specs.Records.{Found}
-use Rattle.rm_pcap.specs.declared.frame.Step.TheVariants.{Next}
 use Rattle.rm_probe.proofs.SayingLemmas.{notes_both, says_nothing}
-use Rattle.rm_probe.proofs.FrameLemmas.{LetsPass, fault_says, halt, has_begun, later_moment, may_pass, no_moment, of_capture, passed_found, passed_none}
+use Rattle.rm_probe.proofs.FrameLemmas.{all_after, halt, halts_end, halts_next, has_begun, keeps_again, keeps_end, keeps_later, looked_passed, most_passed, passed_looking, passed_none, passed_one, read_says}
 use Rattle.rm_probe.proofs.replaying.Replaying.advance.Goals as goal
 
-pub loop-next-init : goal.loop-next-init
-loop-next-init g c = record {
+pub loop-coming-init : goal.loop-coming-init
+loop-coming-init g c = record {
   same = λ each. refl;
   quiet = λ each. refl;
   settings = refl;
@@ -21,74 +20,142 @@ loop-next-init g c = record {
   noted = says_nothing g.N.Notes.since c.args.notes.now;
   early = c.requires.later;
   keeps = c.requires.keeps;
-  passed = λ bytes is frames stop journal left stands. passed_none (settings_of c.args.self.now.probe) c.args.moment bytes (progress_of c.args.self.now.capture) c.args.self.now.probe frames stop journal left stands;
+  passed = λ files are frames stop journal left stands. passed_none (settings_of c.args.self.now.probe) c.args.moment files c.args.self.now.captures.items c.args.self.now.probe frames stop journal left stands;
 }
 
-pub returns-in_err-next-clause-says : goal.returns-in_err-next-clause-says
-returns-in_err-next-clause-says g c =
-    let i = c.loop-next.invariant in
+pub returns-in_err-coming-clause-says : goal.returns-in_err-coming-clause-says
+returns-in_err-coming-clause-says g c =
+    let i = c.loop-coming.invariant in
     let p = err_from_is_err_and c.from_residual.result c.from_residual.ensures.1 in (
       i.more,
       i.noted,
-      λ bytes frames stop journal is left stands.
-          let q = i.passed bytes is frames stop journal left stands in
-          rw (p.1, p.2) (fault_says (g.F.Shelf.held c.loop-next.shelf c.args.name.now) bytes (progress_of c.loop-next.self.capture) q.left stop (i.same c.args.name.now ∙ is) q.leaves
-          (λ said. Advanced (settings_of c.args.self.now.probe) c.args.moment bytes (progress_of c.peek.new.self) c.loop-next.self.probe (progress_of c.args.self.now.capture).reach.count frames stop journal i.more) (HasBegun (settings_of c.args.self.now.probe) c.args.moment frames journal) i.more
-          c.in_err-next.field-0.0 c.in_err-next.ensures.faults
-          (has_begun (settings_of c.args.self.now.probe) c.args.moment bytes (progress_of c.loop-next.self.capture) c.loop-next.self.probe (progress_of c.args.self.now.capture).reach.count frames stop journal i.more q)),
+      λ files frames stop journal are left stands.
+          let q = i.passed files are frames stop journal left stands in
+          let (failed, still) = c.in_err-coming.ensures.finds files q.left stop (held_still _ _ _ files i.same are) q.leaves in
+          rw (p.1, p.2) (read_says
+          (λ said. Advanced (settings_of c.args.self.now.probe) c.args.moment files c.next.new.self.captures.items c.next.new.self.probe (passed_of c.args.self.now.captures.items) frames stop journal i.more)
+          (HasBegun (settings_of c.args.self.now.probe) c.args.moment frames journal) i.more c.in_err-coming.field-0.0 failed
+          (has_begun (settings_of c.args.self.now.probe) c.args.moment files c.loop-coming.self.captures.items c.loop-coming.self.probe (passed_of c.args.self.now.captures.items) frames stop journal i.more q)),
     )
 
-pub returns-in_err-next-clause-kinds : goal.returns-in_err-next-clause-kinds
-returns-in_err-next-clause-kinds g c =
+pub returns-in_err-coming-clause-kinds : goal.returns-in_err-coming-clause-kinds
+returns-in_err-coming-clause-kinds g c =
+    let p = err_from_is_err_and c.from_residual.result c.from_residual.ensures.1 in rw (p.1, p.2) c.in_err-coming.ensures.kinds
+
+pub returns-in_err-coming-clause-settings : goal.returns-in_err-coming-clause-settings
+returns-in_err-coming-clause-settings g c = ap settings_of c.next.ensures.probe ∙ c.loop-coming.invariant.settings
+
+pub returns-in_err-coming-clause-shelf : goal.returns-in_err-coming-clause-shelf
+returns-in_err-coming-clause-shelf g c =
+    let i = c.loop-coming.invariant in
     let p = err_from_is_err_and c.from_residual.result c.from_residual.ensures.1 in
-    rw (p.1, p.2) (of_capture (g.F.Shelf.held c.loop-next.shelf c.args.name.now) (progress_of c.loop-next.self.capture) c.in_err-next.field-0.0 c.in_err-next.ensures.faults)
+    quiet_then g.F.Shelf.held g.F.Shelf.faults c.args.shelf.now c.loop-coming.shelf c.next.new.shelf _ _ _ _ i.same i.quiet c.next.ensures.shelf (λ each is. is) (λ e. rw (p.1, p.2) (sym c.in_err-coming.was ∙ e))
+
+pub returns-in_err-coming-clause-reads : goal.returns-in_err-coming-clause-reads
+returns-in_err-coming-clause-reads g c = λ e.
+    let i = c.loop-coming.invariant in
+    let p = err_from_is_err_and c.from_residual.result c.from_residual.ensures.1 in
+    rose_still _ (g.F.Shelf.faults c.loop-coming.shelf) _ (texts c.args.names.now) i.quiet (c.next.ensures.reads (c.in_err-coming.was ∙ (rw (p.1, p.2) at e)))
 
 pub returns-in_default-clause-says : goal.returns-in_default-clause-says
 returns-in_default-clause-says g c =
-    let i = c.loop-next.invariant in
-    let (found, looks, moment_is) = c.in_ok-next.ensures.looks in (
+    let i = c.loop-coming.invariant in (
       i.more,
       i.noted,
-      λ bytes frames stop journal is left stands. halt (settings_of c.args.self.now.probe) c.args.moment (g.F.Shelf.held c.loop-next.shelf c.args.name.now) bytes (progress_of c.loop-next.self.capture) (progress_of c.peek.new.self) c.loop-next.self.probe (progress_of c.args.self.now.capture).reach.count frames stop journal i.more
-          found (i.same c.args.name.now ∙ is) looks (no_moment c.args.moment found (sym c.in_default.is ∙ moment_is)).0 (i.passed bytes is frames stop journal left stands),
+      λ files frames stop journal are left stands.
+          let q = i.passed files are frames stop journal left stands in
+          let (finds, still) = c.in_ok-coming.ensures.finds files q.left stop (held_still _ _ _ files i.same are) q.leaves in
+          let looked = passed_looking (settings_of c.args.self.now.probe) c.args.moment files c.loop-coming.self.captures.items c.next.new.self.captures.items c.loop-coming.self.probe c.next.new.self.probe
+          (passed_of c.args.self.now.captures.items) frames stop journal i.more q still (looked_passed _ 1 (texts c.args.names.now) _ _ _ c.in_ok-coming.ensures.looks) c.next.ensures.probe in
+          halt (settings_of c.args.self.now.probe) c.args.moment files c.next.new.self.captures.items c.next.new.self.probe (passed_of c.args.self.now.captures.items) frames stop journal i.more looked
+          (halts_end c.args.moment q.left (rw c.in_default.is at finds)),
     )
 
 pub returns-in_default-clause-all : goal.returns-in_default-clause-all
-returns-in_default-clause-all g c = λ e.
-    let (found, looks, moment_is) = c.in_ok-next.ensures.looks in
-    let (later, stop, stops) = no_moment c.args.moment found (sym c.in_default.is ∙ moment_is) in
-    (stop, ap (λ (p : Progress). p.ahead) looks.place ∙ ap (λ (f : Found). Some f) stops)
+returns-in_default-clause-all g c = λ e files frames stop journal are left stands.
+    let i = c.loop-coming.invariant in
+    let q = i.passed files are frames stop journal left stands in
+    let (finds, still) = c.in_ok-coming.ensures.finds files q.left stop (held_still _ _ _ files i.same are) q.leaves in
+    all_after (settings_of c.args.self.now.probe) c.args.moment files c.loop-coming.self.captures.items c.loop-coming.self.probe (passed_of c.args.self.now.captures.items) frames stop journal i.more q (rw c.in_default.is at finds)
 
-pub returns-then-next-moment-clause-says : goal.returns-then-next-moment-clause-says
-returns-then-next-moment-clause-says g c =
-    let i = c.loop-next.invariant in
-    let (found, looks, moment_is) = c.in_ok-next.ensures.looks in (
+pub returns-in_default-clause-keeps : goal.returns-in_default-clause-keeps
+returns-in_default-clause-keeps g c =
+    let i = c.loop-coming.invariant in
+    keeps_end _ (texts c.args.names.now) _ c.args.moment c.loop-coming.self.probe c.next.new.self.probe c.loop-coming.self.captures.items c.next.new.self.captures.items (as_many_texts c.args.names.now) (rw c.in_default.is at c.in_ok-coming.ensures.looks)
+    c.next.ensures.probe i.early i.keeps
+
+pub returns-in_default-clause-settings : goal.returns-in_default-clause-settings
+returns-in_default-clause-settings g c = ap settings_of c.next.ensures.probe ∙ c.loop-coming.invariant.settings
+
+pub returns-in_default-clause-shelf : goal.returns-in_default-clause-shelf
+returns-in_default-clause-shelf g c =
+    let i = c.loop-coming.invariant in
+    quiet_then g.F.Shelf.held g.F.Shelf.faults c.args.shelf.now c.loop-coming.shelf c.next.new.shelf _ _ _ _ i.same i.quiet c.in_ok-coming.ensures.shelf (λ each is. is) (λ e. absurd cc)
+
+pub returns-then-moment-moment-clause-says : goal.returns-then-moment-moment-clause-says
+returns-then-moment-moment-clause-says g c =
+    let i = c.loop-coming.invariant in (
       i.more,
       i.noted,
-      λ bytes frames stop journal is left stands. halt (settings_of c.args.self.now.probe) c.args.moment (g.F.Shelf.held c.loop-next.shelf c.args.name.now) bytes (progress_of c.loop-next.self.capture) (progress_of c.peek.new.self) c.loop-next.self.probe (progress_of c.args.self.now.capture).reach.count frames stop journal i.more
-          found (i.same c.args.name.now ∙ is) looks (later_moment c.args.moment c.in-Some.next found (sym c.in-Some.is ∙ moment_is) c.if-next-moment.true) (i.passed bytes is frames stop journal left stands),
+      λ files frames stop journal are left stands.
+          let q = i.passed files are frames stop journal left stands in
+          let (finds, still) = c.in_ok-coming.ensures.finds files q.left stop (held_still _ _ _ files i.same are) q.leaves in
+          let looked = passed_looking (settings_of c.args.self.now.probe) c.args.moment files c.loop-coming.self.captures.items c.next.new.self.captures.items c.loop-coming.self.probe c.next.new.self.probe
+          (passed_of c.args.self.now.captures.items) frames stop journal i.more q still (looked_passed _ 1 (texts c.args.names.now) _ _ _ c.in_ok-coming.ensures.looks) c.next.ensures.probe in
+          halt (settings_of c.args.self.now.probe) c.args.moment files c.next.new.self.captures.items c.next.new.self.probe (passed_of c.args.self.now.captures.items) frames stop journal i.more looked
+          (halts_next c.args.moment q.left c.in-Some.coming (rw c.in-Some.is at finds) c.if-moment-moment.true),
     )
 
-pub loop-next-preserved : goal.loop-next-preserved
-loop-next-preserved g c =
-    let i = c.loop-next.invariant in
-    let (found, looks, moment_is) = c.in_ok-next.ensures.looks in
-    let steps : Steps (g.F.Shelf.held c.peek.new.shelf c.args.name.now) (progress_of c.peek.new.self) (progress_of c.next.follows.lender-at-none) c.next.result = c.next.follows.holds-at-none in
-    let step : c.next.result ≡ Ok (Next c.in-Next.frame) = c.in_ok-frame.was ∙ ap Ok c.in-Next.is in
-    let (found', passes, shows) = rw step at steps in
-    let may = may_pass (g.F.Shelf.held c.loop-next.shelf c.args.name.now) (g.F.Shelf.held c.peek.new.shelf c.args.name.now) c.loop-next.self.probe c.args.moment (progress_of c.loop-next.self.capture) (progress_of c.peek.new.self) (progress_of c.next.follows.lender-at-none)
-    found found' c.in-Some.next c.in-Next.frame looks (sym c.in-Some.is ∙ moment_is) c.if-next-moment.false passes shows i.keeps in
-    let (more, noted, counted) = c.frame.ensures.passes in
+pub returns-then-moment-moment-clause-keeps : goal.returns-then-moment-moment-clause-keeps
+returns-then-moment-moment-clause-keeps g c =
+    let i = c.loop-coming.invariant in
+    keeps_later _ (texts c.args.names.now) _ c.args.moment c.loop-coming.self.probe c.next.new.self.probe c.loop-coming.self.captures.items c.next.new.self.captures.items c.in-Some.coming (as_many_texts c.args.names.now)
+    (rw c.in-Some.is at c.in_ok-coming.ensures.looks) c.next.ensures.probe i.early c.if-moment-moment.true i.keeps
+
+pub returns-then-moment-moment-clause-settings : goal.returns-then-moment-moment-clause-settings
+returns-then-moment-moment-clause-settings g c = ap settings_of c.next.ensures.probe ∙ c.loop-coming.invariant.settings
+
+pub returns-then-moment-moment-clause-shelf : goal.returns-then-moment-moment-clause-shelf
+returns-then-moment-moment-clause-shelf g c =
+    let i = c.loop-coming.invariant in
+    quiet_then g.F.Shelf.held g.F.Shelf.faults c.args.shelf.now c.loop-coming.shelf c.next.new.shelf _ _ _ _ i.same i.quiet c.in_ok-coming.ensures.shelf (λ each is. is) (λ e. absurd cc)
+
+pub count_next-requires : goal.count_next-requires
+count_next-requires g c =
+    let i = c.loop-coming.invariant in
     record {
-      same = λ each. c.in_ok-frame.ensures.shelf.constant each ∙ c.in_ok-next.ensures.shelf.constant each ∙ i.same each;
-      quiet = λ each. c.in_ok-frame.ensures.shelf.quiet (λ e. cc) each ∙ c.in_ok-next.ensures.shelf.quiet (λ e. cc) each ∙ i.quiet each;
-      settings = c.frame.ensures.settings ∙ i.settings;
-      more = i.more ++ more;
-      noted = notes_both g.N.Notes.since c.args.notes.now c.loop-next.notes c.frame.new.notes i.more more i.noted noted;
-      early = omega (arith, c.frame.ensures.last, may.early);
-      keeps = may.keeps c.frame.new.self c.frame.ensures.last c.frame.ensures.frames;
-      passed = λ bytes is frames stop journal left stands.
-          passed_found (settings_of c.args.self.now.probe) c.args.moment (g.F.Shelf.held c.loop-next.shelf c.args.name.now) (g.F.Shelf.held c.peek.new.shelf c.args.name.now) bytes (progress_of c.loop-next.self.capture) (progress_of c.peek.new.self) (progress_of c.next.follows.lender-at-none)
-          c.loop-next.self.probe c.frame.new.self (progress_of c.args.self.now.capture).reach.count frames stop journal i.more more found found' c.in-Some.next c.in-Next.frame (i.same c.args.name.now ∙ is) (c.in_ok-next.ensures.shelf.constant c.args.name.now) looks
-          (sym c.in-Some.is ∙ moment_is) c.if-next-moment.false passes shows (subst (λ (s : Settings). LetsPass s c.loop-next.self.probe c.frame.new.self (frame_of c.in-Next.frame) more) i.settings counted) (i.passed bytes is frames stop journal left stands);
+      few = c.requires.few;
+      told = (g.F.Shelf.held c.loop-coming.shelf, c.loop-coming.self.captures.items, rw c.in-Some.is at c.in_ok-coming.ensures.looks);
+      keeps = keeps_again _ (texts c.args.names.now) (length c.args.names.now) c.loop-coming.self.probe c.next.new.self.probe c.loop-coming.self.captures.items c.next.new.self.captures.items _ c.in_ok-coming.ensures.looks c.next.ensures.probe i.keeps;
     }
+
+pub loop-coming-preserved : goal.loop-coming-preserved
+loop-coming-preserved g c =
+    let i = c.loop-coming.invariant in
+    let looks = c.in_ok-coming.ensures.looks in
+    let place = looked_passed _ 1 (texts c.args.names.now) c.loop-coming.self.captures.items c.next.new.self.captures.items _ looks in
+    let (more, noted, counted) = c.count_next.ensures.passes in
+    record {
+      same = λ each. c.count_next.ensures.shelf.constant each ∙ c.in_ok-coming.ensures.shelf.constant each ∙ i.same each;
+      quiet = λ each. c.count_next.ensures.shelf.quiet (λ never. never) each ∙ c.in_ok-coming.ensures.shelf.quiet (λ e. cc) each ∙ i.quiet each;
+      settings = c.count_next.ensures.settings ∙ ap settings_of c.next.ensures.probe ∙ i.settings;
+      more = i.more ++ more;
+      noted = notes_both g.N.Notes.since c.args.notes.now c.loop-coming.notes c.count_next.new.notes i.more more i.noted noted;
+      early = omega (arith, c.count_next.ensures.last, c.if-moment-moment.false);
+      keeps = c.count_next.ensures.keeps;
+      passed = λ files are frames stop journal left stands.
+          let q = i.passed files are frames stop journal left stands in
+          let (finds, still) = c.in_ok-coming.ensures.finds files q.left stop (held_still _ _ _ files i.same are) q.leaves in
+          let looked = passed_looking (settings_of c.args.self.now.probe) c.args.moment files c.loop-coming.self.captures.items c.next.new.self.captures.items c.loop-coming.self.probe c.next.new.self.probe
+          (passed_of c.args.self.now.captures.items) frames stop journal i.more q still place c.next.ensures.probe in
+          passed_one (settings_of c.args.self.now.probe) c.args.moment (g.F.Shelf.held c.next.new.shelf) (texts c.args.names.now) files c.next.new.self.captures.items c.count_next.new.self.captures.items c.next.new.self.probe
+          c.count_next.new.self.probe (passed_of c.args.self.now.captures.items) frames stop journal i.more more c.in-Some.coming
+          (held_still _ _ _ files c.in_ok-coming.ensures.shelf.constant (held_still _ _ _ files i.same are)) (ap settings_of c.next.ensures.probe ∙ i.settings) c.if-moment-moment.false counted c.count_next.ensures.count looked
+          (rw c.in-Some.is at finds);
+    }
+
+pub loop-coming-decreases : goal.loop-coming-decreases
+loop-coming-decreases g c =
+    let place = looked_passed _ 1 (texts c.args.names.now) c.loop-coming.self.captures.items c.next.new.self.captures.items _ c.in_ok-coming.ensures.looks in
+    let most = most_passed _ _ c.loop-coming.self.probe c.loop-coming.self.captures.items c.requires.few c.loop-coming.invariant.keeps in
+    omega (arith, c.count_next.ensures.count, place, most)

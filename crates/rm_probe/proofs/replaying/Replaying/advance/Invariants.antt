@@ -1,11 +1,12 @@
-use Rattle.std.proofs.Common.{◌-◌}
-use Rattle.rm_pcap.specs.View.{progress_of}
+use Rattle.std.proofs.Common.{◌-◌, length}
+use Rattle.rm_captures.specs.Left.{passed_of}
+use Rattle.rm_captures.specs.Reading.{texts}
 use Rattle.rm_probe.proofs.FrameLemmas.{Advancing}
 use Rattle.rm_probe.proofs.replaying.Replaying.advance.Given as goal
 
-abbrev pub invariant-loop-next : goal.invariant-loop-next
-invariant-loop-next g l = Advancing g.F.Shelf.held g.F.Shelf.faults l.initial.shelf l.shelf l.name g.N.Notes.since l.initial.notes l.notes l.moment
-    (progress_of l.initial.self.capture) (progress_of l.self.capture) l.initial.self.probe l.self.probe
+abbrev pub invariant-loop-coming : goal.invariant-loop-coming
+invariant-loop-coming g l = Advancing g.F.Shelf.held g.F.Shelf.faults l.initial.shelf l.shelf (texts l.names.now) g.N.Notes.since l.initial.notes l.notes (length l.names.now) l.moment
+    l.initial.self.captures.items l.self.captures.items l.initial.self.probe l.self.probe
 
-abbrev pub decreases-loop-next : goal.decreases-loop-next
-decreases-loop-next g l = 100000001 - (progress_of l.self.capture).reach.count
+abbrev pub decreases-loop-coming : goal.decreases-loop-coming
+decreases-loop-coming g l = 400000001 - passed_of l.self.captures.items
