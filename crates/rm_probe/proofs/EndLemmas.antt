@@ -67,6 +67,17 @@ read_by interface Version is = absurd cc
 read_by interface LinkType is = absurd cc
 read_by interface OutOfMemory is = absurd cc
 
+pub not_written : (interface : ℕ) (fault : PcapFault) → status_by interface fault ≡ WriteFault → ⊥
+not_written interface Read is = absurd cc
+not_written interface (Included at) is = absurd cc
+not_written interface (Original at) is = absurd cc
+not_written interface (Late at) is = absurd cc
+not_written interface TooMany is = absurd cc
+not_written interface Magic is = absurd cc
+not_written interface Version is = absurd cc
+not_written interface LinkType is = absurd cc
+not_written interface OutOfMemory is = absurd cc
+
 pub found_read : (found : CaptureFault) → found.fault ≡ Read → status_of found ≡ ReadFault
 found_read found is = ap (status_by found.interface) is
 
@@ -81,6 +92,21 @@ silent_by interface Magic silent = absurd silent
 silent_by interface Version silent = absurd silent
 silent_by interface LinkType silent = absurd silent
 silent_by interface OutOfMemory silent = refl
+
+-- after calls that change nothing
+pub left_still : (old new : List ℕ → Held) (names : List (List ℕ)) (captures : List Capture) (NoRequests : Type 0) (status : Status) → ((each : List ℕ) → new each ≡ old each)
+    → FindsAnother (AreNotLeft new names captures) NoRequests status → FindsAnother (AreNotLeft old names captures) NoRequests status
+left_still old new names captures NoRequests status same finds = by_status status finds
+  where
+    none : AreNotLeft new names captures → AreNotLeft old names captures
+    none never files frames stop are left = never files frames stop (held_still old new names files same are) left
+
+    by_status : (status : Status) → FindsAnother (AreNotLeft new names captures) NoRequests status → FindsAnother (AreNotLeft old names captures) NoRequests status
+    by_status (BadCapture interface at) finds = none finds
+    by_status (BadRequests line) finds = finds
+    by_status TooLong (inl never) = inl (none never)
+    by_status TooLong (inr requests) = inr requests
+    by_status status finds = tt
 
 -- these files aren't captures, by what is held of them
 abbrev pub AreOther : ℕ → List Held → Type 0

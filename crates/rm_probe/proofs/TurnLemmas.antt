@@ -149,6 +149,11 @@ pub on_done : {T E : Type 0} (P : Type 0) (result : Result T E) → P → OnOk r
 on_done P (Ok done) is = is
 on_done P (Err e) is = tt
 
+-- and with it what holds of what is done
+pub done_with : {T E : Type 0} (P Q : Type 0) (result : Result T E) → OnOk result P → Q → OnOk result (P × Q)
+done_with P Q (Ok done) first second = (first, second)
+done_with P Q (Err e) first second = tt
+
 -- what was added after calls on the link that sent nothing
 pub adds_from : (out : SinkUse) (link : LinkUse) (sent : Option (List Datagram)) (sends : ℕ) (last : Shown) (text : List ℕ) (messages : List Datagram) → sent ≡ link.sent → link.faults ≤ sends
     → HasAdded (record { content = out.content; puts = out.faults; sent = sent; sends = sends; failed = None }) last text messages → HasAdded (shown_before out link) last text messages

@@ -154,8 +154,8 @@ loop-coming-preserved g c =
           (rw c.in-Some.is at finds);
     }
 
-pub loop-coming-decreases : goal.loop-coming-decreases
-loop-coming-decreases g c =
+pub loop-coming-smaller : goal.loop-coming-smaller
+loop-coming-smaller g c =
     let place = looked_passed _ 1 (texts c.args.names.now) c.loop-coming.self.captures.items c.next.new.self.captures.items _ c.in_ok-coming.ensures.looks in
     let most = most_passed _ _ c.loop-coming.self.probe c.loop-coming.self.captures.items c.requires.few c.loop-coming.invariant.keeps in
     omega (arith, c.count_next.ensures.count, place, most)

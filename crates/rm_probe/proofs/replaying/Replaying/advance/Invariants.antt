@@ -5,7 +5,7 @@ use Rattle.rm_probe.proofs.FrameLemmas.{Advancing}
 use Rattle.rm_probe.proofs.replaying.Replaying.advance.Given as goal
 
 abbrev pub invariant-loop-coming : goal.invariant-loop-coming
-invariant-loop-coming g l = Advancing g.F.Shelf.held g.F.Shelf.faults l.initial.shelf l.shelf (texts l.names.now) g.N.Notes.since l.initial.notes l.notes (length l.names.now) l.moment
+invariant-loop-coming g l = Advancing g.F.Shelf.held g.F.Shelf.faults l.initial.shelf l.shelf (texts l.names) g.N.Notes.since l.initial.notes l.notes (length l.names) l.moment
     l.initial.self.captures.items l.self.captures.items l.initial.self.probe l.self.probe
 
 abbrev pub decreases-loop-coming : goal.decreases-loop-coming

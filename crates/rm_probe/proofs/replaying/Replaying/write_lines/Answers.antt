@@ -1,6 +1,9 @@
 use Rattle.std.proofs.Common.{◌≡◌, ◌-◌, ◌++◌, ◌∷◌, [], ℕ, List, length, arith, ◌∙◌, ap, refl, sym, subst, inl, inr, Err, append_assoc, length-append}
 use Rattle.rm_edge.specs.Outside.{Held}
-use Rattle.rm_pcap.specs.View.{progress_of}
+use Rattle.rm_captures.specs.Left.{passed_of}
+use Rattle.rm_captures.specs.Reading.{texts}
+use Rattle.rm_captures.proofs.NameLemmas.{rose_still}
+use Rattle.rm_captures.proofs.RoundLemmas.{held_still}
 use Rattle.rm_requests.specs.Lines.{TimedDatagram}
 use Rattle.rm_requests.specs.Reading.{Answers, Reached, Passes, reached_of, datagram_in}
 use Rattle.rm_settings.specs.declared.settings.Settings.{Settings}
@@ -30,9 +33,9 @@ loop-asked-init g c =
         settings_same = refl;
         given = omega (arith, c.requires.first.last);
         in_range = omega (arith, ap (λ (p : Reached). p.last) reached);
-        keeps = keeps_begun c.args.self.now.probe (progress_of c.args.self.now.capture) c.requires.first.last c.requires.begun;
+        keeps = keeps_begun _ c.args.self.now.probe c.args.self.now.captures.items c.requires.first.last c.requires.begun;
         file = λ lines is. subst (λ (p : Reached). HasTaken [] p lines) (sym reached) (taken_none lines);
-        run = λ bytes frames stop is left none. run_begin settings bytes frames stop (progress_of c.args.self.now.capture) c.args.self.now.probe left none c.requires.first.stands;
+        run = λ files frames stop are left. run_begin settings files frames stop c.args.self.now.captures.items c.args.self.now.probe left c.requires.none c.requires.first.stands;
       },
       says_nothing g.O.Notes.since c.args.out.now,
       c.requires.output,
@@ -41,7 +44,7 @@ loop-asked-init g c =
 pub loop-asked-preserved : goal.loop-asked-preserved
 loop-asked-preserved g c =
     let (said, i, says, well) = c.loop-asked.invariant in
-    let (next, more, goes, response) = c.in-Ok.ensures.says in
+    let (next, more, goes, response, answered) = c.in-Ok.ensures.says in
     let takes = rw c.in-Ok-Some.field-0-is at c.in-Ok-Some.ensures.answers in
     let old = reached_of c.loop-asked.reader in
     let new = reached_of c.next.new.self in
@@ -61,54 +64,54 @@ loop-asked-preserved g c =
             let has = i.file lines is in
             taken_more i.taken request old new lines has
             (subst (λ (d : List ℕ). let r : TimedDatagram = record { moment = c.in-Ok-Some.asked.moment; datagram = d } in Passes old new r lines) (sym c.datagram.ensures) (takes.passes lines (i.same c.args.requests.now ∙ is) has.agrees)) takes.next;
-        run = λ bytes frames stop is left none.
-            let r = i.run bytes frames stop is left none in
-            let one = goes bytes r.left stop r.journal (c.in-Ok-Some.ensures.shelf.constant c.args.name.now ∙ (i.same c.args.name.now ∙ is)) r.records_left r.stands in
-            next_said (settings_of c.args.self.now.probe) bytes frames stop i.taken (progress_of c.loop-asked.self.capture) (progress_of c.write_answer.new.self.capture) c.loop-asked.self.probe c.write_answer.new.self.probe
+        run = λ files frames stop are left.
+            let r = i.run files frames stop are left in
+            let one = goes files r.left stop r.journal (held_still _ _ _ files c.in-Ok-Some.ensures.shelf.constant (held_still _ _ _ files i.same are)) r.records_left r.stands in
+            next_said (settings_of c.args.self.now.probe) files frames stop i.taken c.loop-asked.self.captures.items c.handle_to.new.self.captures.items c.loop-asked.self.probe c.handle_to.new.self.probe
             said next c.in-Ok-Some.asked.number request r (takes.number ∙ i.number) (rw i.settings_same at one);
       },
-      says_both g.O.Notes.since c.args.out.now c.loop-asked.out c.write_answer.new.out _ _ says more,
+      says_both g.O.Notes.since c.args.out.now c.loop-asked.out c.handle_to.new.out _ _ says more,
       c.in-Ok.ensures.failed,
     )
 
-pub returns-in-Err-write_answer-clause-says : goal.returns-in-Err-write_answer-clause-says
-returns-in-Err-write_answer-clause-says g c =
+pub returns-in-Err-handle_to-clause-says : goal.returns-in-Err-handle_to-clause-says
+returns-in-Err-handle_to-clause-says g c =
     let (said, i, says, well) = c.loop-asked.invariant in
-    let (next, more, goes, response) = c.in-Err-write_answer.ensures.says in
+    let (next, more, goes, response, answered) = c.in-Err-handle_to.ensures.says in
     let takes = rw c.in-Ok-Some.field-0-is at c.in-Ok-Some.ensures.answers in
     let old = reached_of c.loop-asked.reader in
     let new = reached_of c.next.new.self in
     let settings = settings_of c.args.self.now.probe in
     let request : TimedDatagram = record { moment = c.in-Ok-Some.asked.moment; datagram = c.datagram.result.now } in (
       said ++ next,
-      says_both g.O.Notes.since c.args.out.now c.loop-asked.out c.write_answer.new.out _ _ says more c.args.out.now [] (g.met.O.Notes.none c.args.out.now),
-      λ bytes lines frames stop asked is isr left none faultless are.
-          let r = i.run bytes frames stop is left none in
+      says_both g.O.Notes.since c.args.out.now c.loop-asked.out c.handle_to.new.out _ _ says more c.args.out.now [] (g.met.O.Notes.none c.args.out.now),
+      λ files lines frames stop asked are isr left requests.
+          let r = i.run files frames stop are left in
           let has = i.file lines isr in
           let later = taken_more i.taken request old new lines has
           (subst (λ (d : List ℕ). let r : TimedDatagram = record { moment = c.in-Ok-Some.asked.moment; datagram = d } in Passes old new r lines) (sym c.datagram.ensures) (takes.passes lines (i.same c.args.requests.now ∙ isr) has.agrees)) takes.next in
-          let rest = remains (i.taken ++ request ∷ []) asked new lines later are in
-          let step = goes bytes r.left stop r.journal (c.in-Ok-Some.ensures.shelf.constant c.args.name.now ∙ (i.same c.args.name.now ∙ is)) r.records_left r.stands in
-          subst (λ (rs : List TimedDatagram). SaysRun {T = Unit {0}} settings frames stop rs (said ++ next) (Err c.in-Err-write_answer.status)) (sym (rest.all ∙ append_assoc i.taken (request ∷ []) rest.more))
-          (answer_stops settings c.something_said.ensures bytes frames stop i.taken rest.more (progress_of c.loop-asked.self.capture) (progress_of c.write_answer.new.self.capture) c.loop-asked.self.probe c.write_answer.new.self.probe
-          said next c.in-Ok-Some.asked.number request r (takes.number ∙ i.number) faultless c.in-Err-write_answer.status
-          (subst (λ (s : Settings). SaysNext {T = Unit {0}} (IsNextSaid bytes (progress_of c.loop-asked.self.capture) (progress_of c.write_answer.new.self.capture) s c.write_answer.new.self.probe c.in-Ok-Some.asked.number request r.left stop r.journal) (HasBegun s request.moment r.left r.journal) stop
-          next (Err c.in-Err-write_answer.status)) i.settings_same step)),
+          let rest = remains (i.taken ++ request ∷ []) asked new lines later requests in
+          let step = goes files r.left stop r.journal (held_still _ _ _ files c.in-Ok-Some.ensures.shelf.constant (held_still _ _ _ files i.same are)) r.records_left r.stands in
+          subst (λ (rs : List TimedDatagram). SaysRun {T = Unit {0}} settings frames stop rs (said ++ next) (Err c.in-Err-handle_to.status)) (sym (rest.all ∙ append_assoc i.taken (request ∷ []) rest.more))
+          (answer_stops settings c.something_said.ensures files frames stop i.taken rest.more c.loop-asked.self.captures.items c.handle_to.new.self.captures.items c.loop-asked.self.probe c.handle_to.new.self.probe
+          said next c.in-Ok-Some.asked.number request r (takes.number ∙ i.number) c.in-Err-handle_to.status
+          (subst (λ (s : Settings). SaysNext {T = Unit {0}} (IsNextSaid files c.loop-asked.self.captures.items c.handle_to.new.self.captures.items s c.handle_to.new.self.probe c.in-Ok-Some.asked.number request r.left stop r.journal) (HasBegun s request.moment r.left r.journal)
+          next (Err c.in-Err-handle_to.status)) i.settings_same step)),
     )
 
-pub returns-in-Err-write_answer-clause-finds : goal.returns-in-Err-write_answer-clause-finds
-returns-in-Err-write_answer-clause-finds g c =
+pub returns-in-Err-handle_to-clause-finds : goal.returns-in-Err-handle_to-clause-finds
+returns-in-Err-handle_to-clause-finds g c =
     let (said, i, says, well) = c.loop-asked.invariant in
-    let (next, more, goes, response) = c.in-Err-write_answer.ensures.says in
-    capture_finds (g.F.Shelf.held c.args.shelf.now c.args.name.now) (progress_of c.args.self.now.capture) (IsNotRequests (g.F.Shelf.held c.args.shelf.now c.args.requests.now)) c.in-Err-write_answer.status c.in-Err-write_answer.ensures.loud
-    (λ bytes frames stop is left none faultless.
-    let r = i.run bytes frames stop is left none in
-    says_faultless {T = Unit {0}} (IsNextSaid bytes (progress_of c.loop-asked.self.capture) (progress_of c.write_answer.new.self.capture) (settings_of c.loop-asked.self.probe) c.write_answer.new.self.probe c.in-Ok-Some.asked.number
-    (record { moment = c.in-Ok-Some.asked.moment; datagram = c.datagram.result.now }) r.left stop r.journal) (HasBegun (settings_of c.loop-asked.self.probe) c.in-Ok-Some.asked.moment r.left r.journal) stop next faultless (Err c.in-Err-write_answer.status)
-    (goes bytes r.left stop r.journal (c.in-Ok-Some.ensures.shelf.constant c.args.name.now ∙ (i.same c.args.name.now ∙ is)) r.records_left r.stands))
+    let (next, more, goes, response, answered) = c.in-Err-handle_to.ensures.says in
+    capture_finds (g.F.Shelf.held c.args.shelf.now) (texts c.args.names.now) c.args.self.now.captures.items (IsNotRequests (g.F.Shelf.held c.args.shelf.now c.args.requests.now)) c.in-Err-handle_to.status c.in-Err-handle_to.ensures.loud
+    (λ files frames stop are left.
+    let r = i.run files frames stop are left in
+    says_faultless {T = Unit {0}} (IsNextSaid files c.loop-asked.self.captures.items c.handle_to.new.self.captures.items (settings_of c.loop-asked.self.probe) c.handle_to.new.self.probe c.in-Ok-Some.asked.number
+    (record { moment = c.in-Ok-Some.asked.moment; datagram = c.datagram.result.now }) r.left stop r.journal) (HasBegun (settings_of c.loop-asked.self.probe) c.in-Ok-Some.asked.moment r.left r.journal) next (Err c.in-Err-handle_to.status)
+    (goes files r.left stop r.journal (held_still _ _ _ files c.in-Ok-Some.ensures.shelf.constant (held_still _ _ _ files i.same are)) r.records_left r.stands))
 
-pub returns-in-Err-write_answer-clause-loud : goal.returns-in-Err-write_answer-clause-loud
-returns-in-Err-write_answer-clause-loud g c = λ quiet. c.in-Err-write_answer.ensures.loud (quiet_foreign c.in-Err-write_answer.status quiet)
+pub returns-in-Err-handle_to-clause-loud : goal.returns-in-Err-handle_to-clause-loud
+returns-in-Err-handle_to-clause-loud g c = λ quiet. c.in-Err-handle_to.ensures.loud (quiet_foreign c.in-Err-handle_to.status quiet)
 
 pub returns-in-Ok-None-clause-says : goal.returns-in-Ok-None-clause-says
 returns-in-Ok-None-clause-says g c =
@@ -118,28 +121,28 @@ returns-in-Ok-None-clause-says g c =
     let settings = settings_of c.args.self.now.probe in (
       said ++ last,
       says_both g.O.Notes.since c.args.out.now c.loop-asked.out c.write_last.new.out _ _ says more c.args.out.now [] (g.met.O.Notes.none c.args.out.now),
-      λ bytes lines frames stop asked is isr left none faultless are.
-          let r = i.run bytes frames stop is left none in
+      λ files lines frames stop asked are isr left requests.
+          let r = i.run files frames stop are left in
           let has = i.file lines isr in
           let taken = taken_all i.taken (reached_of c.loop-asked.reader) lines has (gone lines (i.same c.args.requests.now ∙ isr) has.agrees) i.few in
-          let all : asked ≡ i.taken = let e = sym are.are ∙ taken.are in cc in
+          let all : asked ≡ i.taken = let e = sym requests.are ∙ taken.are in cc in
           let count : (reached_of c.next.new.self).number - 1 ≡ length i.taken = omega (arith, stays.number, i.number) in
-          let step = goes bytes r.left stop r.journal (c.in-Ok-None.ensures.shelf.constant c.args.name.now ∙ (i.same c.args.name.now ∙ is)) r.records_left r.stands in
+          let step = goes files r.left stop r.journal (held_still _ _ _ files c.in-Ok-None.ensures.shelf.constant (held_still _ _ _ files i.same are)) r.records_left r.stands in
           subst (λ (rs : List TimedDatagram). SaysRun settings frames stop rs (said ++ last) c.write_last.result) (sym all)
-          (last_said settings c.something_said.ensures bytes frames stop i.taken (progress_of c.loop-asked.self.capture) c.loop-asked.self.probe said last r faultless c.write_last.result
-          (subst (λ (n : ℕ). SaysNext (IsLastSaid settings (progress_of c.loop-asked.self.capture).reach.count n r.left stop r.journal) (HasBegun settings 4294967295 r.left r.journal) stop last c.write_last.result) count
-          (subst (λ (s : Settings). SaysNext (IsLastSaid s (progress_of c.loop-asked.self.capture).reach.count ((reached_of c.next.new.self).number - 1) r.left stop r.journal) (HasBegun s 4294967295 r.left r.journal) stop last c.write_last.result) i.settings_same step))),
+          (last_said settings c.something_said.ensures files frames stop i.taken c.loop-asked.self.captures.items c.loop-asked.self.probe said last r c.write_last.result
+          (subst (λ (n : ℕ). SaysNext (IsLastSaid settings (passed_of c.loop-asked.self.captures.items) n r.left stop r.journal) (HasBegun settings 4294967295 r.left r.journal) last c.write_last.result) count
+          (subst (λ (s : Settings). SaysNext (IsLastSaid s (passed_of c.loop-asked.self.captures.items) ((reached_of c.next.new.self).number - 1) r.left stop r.journal) (HasBegun s 4294967295 r.left r.journal) last c.write_last.result) i.settings_same step))),
     )
 
 pub returns-in-Ok-None-clause-finds : goal.returns-in-Ok-None-clause-finds
 returns-in-Ok-None-clause-finds g c =
     let (said, i, says, well) = c.loop-asked.invariant in
     let (last, more, goes) = c.write_last.ensures.says in
-    last_finds (g.F.Shelf.held c.args.shelf.now c.args.name.now) (progress_of c.args.self.now.capture) (IsNotRequests (g.F.Shelf.held c.args.shelf.now c.args.requests.now)) c.write_last.result c.write_last.ensures.loud
-    (λ bytes frames stop is left none faultless.
-    let r = i.run bytes frames stop is left none in
-    says_faultless (IsLastSaid (settings_of c.loop-asked.self.probe) (progress_of c.loop-asked.self.capture).reach.count ((reached_of c.next.new.self).number - 1) r.left stop r.journal) (HasBegun (settings_of c.loop-asked.self.probe) 4294967295 r.left r.journal) stop last faultless c.write_last.result
-    (goes bytes r.left stop r.journal (c.in-Ok-None.ensures.shelf.constant c.args.name.now ∙ (i.same c.args.name.now ∙ is)) r.records_left r.stands))
+    last_finds (g.F.Shelf.held c.args.shelf.now) (texts c.args.names.now) c.args.self.now.captures.items (IsNotRequests (g.F.Shelf.held c.args.shelf.now c.args.requests.now)) c.write_last.result c.write_last.ensures.loud
+    (λ files frames stop are left.
+    let r = i.run files frames stop are left in
+    says_faultless (IsLastSaid (settings_of c.loop-asked.self.probe) (passed_of c.loop-asked.self.captures.items) ((reached_of c.next.new.self).number - 1) r.left stop r.journal) (HasBegun (settings_of c.loop-asked.self.probe) 4294967295 r.left r.journal) last c.write_last.result
+    (goes files r.left stop r.journal (held_still _ _ _ files c.in-Ok-None.ensures.shelf.constant (held_still _ _ _ files i.same are)) r.records_left r.stands))
 
 pub returns-in-Ok-None-clause-loud : goal.returns-in-Ok-None-clause-loud
 returns-in-Ok-None-clause-loud g c = last_loud c.write_last.result c.write_last.ensures.loud
@@ -152,10 +155,10 @@ returns-in-Err-clause-says g c =
     let (said, i, says, well) = c.loop-asked.invariant in (
       said,
       says c.args.out.now [] (g.met.O.Notes.none c.args.out.now),
-      λ bytes lines frames stop asked is isr left none faultless are.
-          let r = i.run bytes frames stop is left none in
-          rw c.of_requests.ensures (requests_stop (settings_of c.args.self.now.probe) c.something_said.ensures bytes frames stop i.taken asked (progress_of c.loop-asked.self.capture) c.loop-asked.self.probe said
-          (g.F.Shelf.held c.loop-asked.shelf c.args.requests.now) (reached_of c.loop-asked.reader) (reached_of c.next.new.self) (datagram_in c.next.new.self) lines c.in-Err.fault r (i.same c.args.requests.now ∙ isr) (i.file lines isr) are c.in-Err.ensures.answers),
+      λ files lines frames stop asked are isr left requests.
+          let r = i.run files frames stop are left in
+          rw c.of_requests.ensures (requests_stop (settings_of c.args.self.now.probe) c.something_said.ensures files frames stop i.taken asked c.loop-asked.self.captures.items c.loop-asked.self.probe said
+          (g.F.Shelf.held c.loop-asked.shelf c.args.requests.now) (reached_of c.loop-asked.reader) (reached_of c.next.new.self) (datagram_in c.next.new.self) lines c.in-Err.fault r (i.same c.args.requests.now ∙ isr) (i.file lines isr) requests c.in-Err.ensures.answers),
     )
 
 pub returns-in-Err-clause-finds : goal.returns-in-Err-clause-finds
@@ -174,12 +177,12 @@ returns-in-Err-clause-reads g c = λ is.
     let rose = c.next.ensures.cause (c.in-Err.is ∙ ap Err (read_failed c.in-Err.fault status)) in
     inr (omega (arith, rose, i.quiet c.args.requests.now))
 
-pub returns-in-Err-write_answer-clause-shelf : goal.returns-in-Err-write_answer-clause-shelf
-returns-in-Err-write_answer-clause-shelf g c =
+pub returns-in-Err-handle_to-clause-shelf : goal.returns-in-Err-handle_to-clause-shelf
+returns-in-Err-handle_to-clause-shelf g c =
     let i = c.loop-asked.invariant.1 in
     let next = c.in-Ok-Some.ensures.shelf in
     let quiet = next.quiet (λ e. cc) in
-    quiet_then g.F.Shelf.held g.F.Shelf.faults c.args.shelf.now c.next.new.shelf c.write_answer.new.shelf _ _ _ _ (λ each. next.constant each ∙ i.same each) (λ each. quiet each ∙ i.quiet each) c.in-Err-write_answer.ensures.shelf (λ each is. inl is) (λ e. e)
+    quiet_then g.F.Shelf.held g.F.Shelf.faults c.args.shelf.now c.next.new.shelf c.handle_to.new.shelf _ _ _ _ (λ each. next.constant each ∙ i.same each) (λ each. quiet each ∙ i.quiet each) c.in-Err-handle_to.ensures.shelf (λ each is. inl is) (λ e. e)
 
 pub returns-in-Ok-None-clause-shelf : goal.returns-in-Ok-None-clause-shelf
 returns-in-Ok-None-clause-shelf g c =
@@ -196,10 +199,12 @@ returns-in-Err-clause-shelf g c =
 
 pub returns-in-Ok-None-clause-reads : goal.returns-in-Ok-None-clause-reads
 returns-in-Ok-None-clause-reads g c = λ is.
+    let i = c.loop-asked.invariant.1 in
     let quiet = c.in-Ok-None.ensures.shelf.quiet (λ e. cc) in
-    let rose = c.write_last.ensures.reads is in inl (omega (arith, rose, quiet c.args.name.now, c.loop-asked.invariant.1.quiet c.args.name.now))
+    inl (rose_still _ (g.F.Shelf.faults c.next.new.shelf) _ (texts c.args.names.now) (λ each. quiet each ∙ i.quiet each) (c.write_last.ensures.reads is))
 
-pub returns-in-Err-write_answer-clause-reads : goal.returns-in-Err-write_answer-clause-reads
-returns-in-Err-write_answer-clause-reads g c = λ is.
+pub returns-in-Err-handle_to-clause-reads : goal.returns-in-Err-handle_to-clause-reads
+returns-in-Err-handle_to-clause-reads g c = λ is.
+    let i = c.loop-asked.invariant.1 in
     let quiet = c.in-Ok-Some.ensures.shelf.quiet (λ e. cc) in
-    let rose = c.in-Err-write_answer.ensures.reads is in inl (omega (arith, rose, quiet c.args.name.now, c.loop-asked.invariant.1.quiet c.args.name.now))
+    inl (rose_still _ (g.F.Shelf.faults c.next.new.shelf) _ (texts c.args.names.now) (λ each. quiet each ∙ i.quiet each) (c.in-Err-handle_to.ensures.reads is))

@@ -1,5 +1,5 @@
-use Rattle.std.proofs.Common.{◌≡◌, ◌-◌, List, None}
-use Rattle.rm_pcap.specs.View.{progress_of}
+use Rattle.std.proofs.Common.{◌≡◌, ◌-◌, List, None, length}
+use Rattle.rm_captures.specs.Reading.{texts}
 use Rattle.rm_requests.specs.Reading.{reached_of}
 use Rattle.rm_probe.specs.Probe.{settings_of}
 use Rattle.rm_probe.specs.Said.{Said, SaysMore}
@@ -8,7 +8,7 @@ use Rattle.rm_probe.proofs.replaying.Replaying.write_lines.Given as goal
 
 abbrev pub invariant-loop-asked : goal.invariant-loop-asked
 invariant-loop-asked g l = (said : List Said)
-    × Running (settings_of l.initial.self.probe) g.F.Shelf.held g.F.Shelf.faults l.initial.shelf l.shelf l.name l.requests (progress_of l.initial.self.capture) (progress_of l.self.capture) (reached_of l.reader) l.self.probe said
+    × Running (settings_of l.initial.self.probe) g.F.Shelf.held g.F.Shelf.faults l.initial.shelf l.shelf (texts l.names) l.requests (length l.names) l.initial.self.captures.items l.self.captures.items (reached_of l.reader) l.self.probe said
     × SaysMore g.O.Notes.since l.initial.out l.out said × (g.O.Outlet.failed l.out ≡ None)
 
 abbrev pub decreases-loop-asked : goal.decreases-loop-asked
