@@ -2,7 +2,6 @@
 ghost use Rattle.std.specs.Prelude.{◌≡◌, ◌<◌, ◌+◌, ◌^◌, [], ℕ, List, length, Err, IfErr};
 ghost use Rattle.rm_edge.specs.Outside.{File, Rose};
 ghost use Rattle.rm_edge.specs.Shelves.{KeepsShelf};
-ghost use Rattle.rm_model.specs.Journal.{Frame};
 ghost use Rattle.rm_pcap.specs.Records.{Stop};
 ghost use Rattle.rm_pcap.specs.View.{progress_of};
 ghost use Rattle.rm_captures.specs.Left.{AreLeft, EndCut, EndsCut, IsOfRecords, Leaves};

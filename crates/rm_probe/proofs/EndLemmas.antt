@@ -1,5 +1,5 @@
 -- How the parts of a run make its end.
-use Rattle.std.proofs.Common.{◌≡◌, ◌⊎◌, ℕ, List, [], map, Option, Result, Ok, Err, refl, sym, ap, ◌∙◌, subst, arith, inl, inr}
+use Rattle.std.proofs.Common.{◌≡◌, ◌⊎◌, ℕ, List, [], map, Option, Ok, Err, refl, sym, ap, ◌∙◌, subst, arith, inl, inr}
 use Rattle.rm_edge.specs.Outside.{Held, File, OfFile, AddsFront}
 use Rattle.rm_model.specs.Journal.{Frame}
 use Rattle.rm_pcap.specs.Records.{Stop}
@@ -8,7 +8,7 @@ use Rattle.rm_pcap.specs.declared.fault.PcapFault.{PcapFault}
 use Rattle.rm_pcap.specs.declared.fault.PcapFault.TheVariants.{Magic, Version, LinkType, Included, Original, Late, TooMany, Read, NoMemory as OutOfMemory}
 use Rattle.rm_captures.specs.Left.{AreLeft, IsOfRecords}
 use Rattle.rm_captures.specs.Reading.{AreHeld, AreReady, IsExcused}
-use Rattle.rm_captures.specs.Rounds.{AreCaptureFiles, AreCaptures, AreRead, IsFirstFault, IsLater, first_round}
+use Rattle.rm_captures.specs.Rounds.{AreCaptureFiles, AreCaptures, AreRead, first_round}
 use Rattle.rm_captures.specs.Told.{CallFor, OfFiles}
 use Rattle.rm_captures.specs.declared.fault.CaptureFault.{CaptureFault}
 use Rattle.rm_captures.proofs.PassLemmas.{all_left}
@@ -25,7 +25,7 @@ use Rattle.rm_probe.specs.Text.{IsText}
 use Rattle.rm_probe.specs.Steps.{AreNotCaptures, AreNotLeft, FindsAnother, IsNotRequests, IsOfCapture, JudgesCaptures, Writes}
 use Rattle.rm_probe.specs.Requests.{JudgesRequests, status_by as status_of_requests}
 use Rattle.rm_edge.specs.Uses.{FileUse, SinkUse, HasReadFault, HasPutFault, IsUntouched}
-use Rattle.rm_probe.specs.Ends.{Ends, OfAll, JudgesFiles, IsExact, IsComplete, IsSilent, Comes, HasFailedRead}
+use Rattle.rm_probe.specs.Ends.{Ends, OfAll, JudgesFiles, IsExact, IsComplete, IsSilent, Comes}
 use Rattle.rm_probe.specs.declared.status.Status.{Status}
 use Rattle.rm_probe.specs.declared.status.Status.TheVariants.{Done, Usage, BadCapture, BadRequests, ReadFault, WriteFault, NoMemory, LinkFault, TooLong}
 use Rattle.rm_probe.proofs.FaultLemmas.{OneReading, called_first, not_broken, same_fault}

@@ -5,8 +5,8 @@ use Rattle.rm_model.specs.Journal.{Frame}
 use Rattle.rm_pcap.specs.declared.start.Start.{Start}
 use Rattle.rm_pcap.specs.declared.fault.PcapFault.{PcapFault}
 use Rattle.rm_pcap.specs.Records.{Stop, Broken, ReadsAs}
-use Rattle.rm_captures.specs.Rounds.{standing, first_found, first_round, with_others, IsFaultless, IsGood, IsBroken, IsLater, IsFirstFault, early, late, AreRead, AreCaptures, AreCaptureFiles}
-use Rattle.rm_captures.specs.Told.{OfFiles, IsEarly, CallFor}
+use Rattle.rm_captures.specs.Rounds.{standing, first_round, with_others, IsFaultless, IsGood, IsBroken, IsLater, IsFirstFault, early, late, AreRead, AreCaptureFiles}
+use Rattle.rm_captures.specs.Told.{IsEarly}
 use Rattle.rm_captures.specs.declared.fault.CaptureFault.{CaptureFault}
 use Rattle.rm_probe.specs.Capture.{CallsFor, status_by, status_of}
 use Rattle.rm_probe.specs.declared.status.Status.{Status}

@@ -1,7 +1,7 @@
 -- Facts of files, and of the captures that are judged and begun.
-use Rattle.std.proofs.Common.{◌≡◌, ◌⊎◌, ℕ, List, [], ◌∷◌, map, length, Result, Ok, Err, inl, inr, refl, sym, ap, subst, ◌∙◌, arith}
+use Rattle.std.proofs.Common.{◌≡◌, ◌⊎◌, ℕ, List, [], ◌∷◌, map, inl, inr, refl, ap, subst, ◌∙◌}
 use Rattle.rm_edge.specs.Outside.{Held, Untold, Absent, File, OfFile}
-use Rattle.rm_edge.specs.Uses.{FileUse, file_use}
+use Rattle.rm_edge.specs.Uses.{file_use}
 use Rattle.rm_captures.specs.Reading.{AreHeld, OneRose}
 use Rattle.rm_captures.specs.Told.{OfFiles}
 use Rattle.rm_probe.specs.Capture.{AreTold, HasReadFaults, helds_of}

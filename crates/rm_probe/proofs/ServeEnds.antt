@@ -1,7 +1,7 @@
 -- How the parts of a run that serves make its end.
 use Rattle.std.specs.Prelude.{IfErr, OnOk}
-use Rattle.std.proofs.Common.{◌≡◌, ◌⊎◌, inl, inr, ℕ, ◌-◌, List, [], ◌∷◌, ◌++◌, length, map, Option, Some, None, Result, Ok, Err, refl, sym, ap, subst, ◌∙◌, arith}
-use Rattle.rm_edge.specs.Outside.{Held, File, OfFile, Adds}
+use Rattle.std.proofs.Common.{◌≡◌, ◌⊎◌, inl, inr, ℕ, ◌-◌, List, [], ◌∷◌, ◌++◌, length, map, Option, Some, None, Result, Ok, Err, refl, sym, subst, ◌∙◌, arith}
+use Rattle.rm_edge.specs.Outside.{Held, File, Adds}
 use Rattle.rm_edge.specs.Link.{Datagram, Grows}
 use Rattle.rm_edge.specs.Uses.{FileUse, SinkUse, LinkUse, HasPutFault, HasLinkFault}
 use Rattle.rm_edge.specs.declared.outside.link.Peer.{Peer}
@@ -13,10 +13,10 @@ use Rattle.rm_captures.specs.Rounds.{AreCaptureFiles, AreCaptures}
 use Rattle.rm_captures.specs.Told.{OfFiles}
 use Rattle.rm_captures.specs.declared.fault.CaptureFault.{CaptureFault}
 use Rattle.rm_settings.specs.declared.settings.Settings.{Settings}
-use Rattle.rm_probe.specs.Capture.{AreTold, CallsFor, HasReadFaults, helds_of, status_by, status_of}
+use Rattle.rm_probe.specs.Capture.{CallsFor, HasReadFaults, helds_of, status_by, status_of}
 use Rattle.rm_probe.specs.Events.{events_by, frames_left}
 use Rattle.rm_probe.specs.Output.{HasAdded, IsSaidFront, front_none}
-use Rattle.rm_probe.specs.Said.{Last, Said, answers_in, is_cut_behind, lines}
+use Rattle.rm_probe.specs.Said.{Last, Said, is_cut_behind, lines}
 use Rattle.rm_probe.specs.Serving.{Arrival, AreAnswered, BindsNone, BindsPort, EndsServing, HasNotBegun, IsIdle, IsServed, ServesExactly, WritesServedFront, asking_of, served_messages}
 use Rattle.rm_probe.specs.Steps.{FailsBy, FindsAnother, IsForeign, JudgesCaptures, ends_by}
 use Rattle.rm_probe.specs.Text.{AreSaid}

@@ -2,7 +2,7 @@
 use Rattle.std.proofs.Common.{◌≡◌, inl, inr, ℕ, ◌+◌, ◌-◌, ◌≤◌, List, [], ◌∷◌, ◌++◌, length, map, take, take_while, Option, None, Result, Ok, Err, refl, sym, ap, subst, ◌∙◌, arith, append_assoc}
 use Rattle.std.proofs.lemmas.List.{append-nil, drop_at, length-append, length-map, take_all}
 use mathlib.Core.List.{map-append}
-use Rattle.rm_edge.specs.Outside.{Adds, AddsFront, Held, File}
+use Rattle.rm_edge.specs.Outside.{Adds, Held}
 use Rattle.rm_edge.specs.Link.{Datagram}
 use Rattle.rm_edge.specs.Uses.{SinkUse, LinkUse, ClockUse, clock_use, link_use, sink_use}
 use Rattle.rm_edge.specs.declared.outside.link.Peer.{Peer}
@@ -19,7 +19,7 @@ use Rattle.rm_probe.specs.Notes.{Note}
 use Rattle.rm_probe.specs.Output.{HasAdded, IsSaidFront, Shown, TellsBehind, adds_none, grown_none, nothing_added, shown}
 use Rattle.rm_probe.specs.Probe.{Stands, last_given, settings_of}
 use Rattle.rm_probe.specs.Said.{Dropped, Last, Notified, Replied, Responded, Response, Said, answers_in, is_cut_behind, lines, messages, messages_of, to_each}
-use Rattle.rm_probe.specs.Serving.{Arrival, AreAnswered, HaveCome, IsServed, asking_of, peers_of, request_of, requests_of}
+use Rattle.rm_probe.specs.Serving.{Arrival, HaveCome, IsServed, asking_of, peers_of, request_of, requests_of}
 use Rattle.rm_probe.specs.Steps.{FailsBy, FindsAnother, HasBegun, IsLastLine, IsNextSaid, IsOfOne, IsResponse, Keeps, SaysNext, TellsNoMessage}
 use Rattle.rm_probe.specs.Text.{AreSaid}
 use Rattle.rm_probe.specs.Turns.{HasServed, SaysServed, SaysTurn, last_of, shown_after, shown_before}

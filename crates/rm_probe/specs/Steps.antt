@@ -80,12 +80,7 @@ abbrev pub FindsFrame : List Frame → Result (Option Coming) Status → Type 0
 FindsFrame frames (Ok next) = IsNext frames next
 FindsFrame frames (Err status) = status ≡ ReadFault
 
--- whether captures are cut short, as a look answers it where no frame is left
-abbrev pub FindsCut : Stop → Result Bool Status → Type 0
-FindsCut stop (Ok cut) = cut ≡ is_cut stop
-FindsCut stop (Err status) = status ≡ ReadFault
-
--- and where these are left
+-- what a look for the end answers, where these are left: whether a capture is cut short and no frame is left
 abbrev pub FindsCutBehind : List Frame → Stop → Result Bool Status → Type 0
 FindsCutBehind left stop (Ok cut) = cut ≡ is_cut_behind left stop
 FindsCutBehind left stop (Err status) = status ≡ ReadFault

@@ -1,5 +1,4 @@
 use Rattle.std.proofs.Common.{◌≡◌, ◌∙◌, List, Err, map, inl, inr, ap, sym, subst, arith}
-use Rattle.std.specs.Prelude.{Result}
 use Rattle.rm_edge.specs.Outside.{Held}
 use Rattle.rm_edge.specs.Uses.{file_use}
 use Rattle.rm_captures.specs.Reading.{OneRose, texts}

@@ -6,7 +6,6 @@ use Rattle.rm_captures.proofs.RoundLemmas.{held_still}
 use Rattle.rm_probe.specs.Capture.{status_of}
 use Rattle.rm_probe.specs.Probe.{settings_of}
 use Rattle.rm_probe.specs.Steps.{IsNotRequests, Writes, ends_by}
-use Rattle.rm_probe.specs.declared.status.Status.TheVariants.{ReadFault}
 use Rattle.rm_probe.proofs.EndLemmas.{another_begun, another_left, begun_left, left_still, not_written, read_by, silent_by, text_none, unread, writes_none}
 use Rattle.rm_probe.proofs.FrameLemmas.{keeps_first, unseen_passed}
 use Rattle.rm_probe.proofs.WritingLemmas.{ends_read, not_silent, write_rose, writes_by}

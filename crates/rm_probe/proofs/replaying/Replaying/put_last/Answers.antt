@@ -1,6 +1,5 @@
 use Rattle.std.proofs.lemmas.Result.{err_from_is_err_and}
-use Rattle.std.proofs.Common.{◌≡◌, ◌∙◌, ◌∷◌, [], List, ap, refl, rules, subst, sym}
-use Rattle.rm_pcap.specs.declared.capture.Capture.{Capture}
+use Rattle.std.proofs.Common.{◌≡◌, ◌∙◌, ◌∷◌, [], ap, refl}
 use Rattle.rm_captures.specs.Left.{passed_of}
 use Rattle.rm_probe.specs.Said.{Said, Last}
 use Rattle.rm_probe.specs.Steps.{IsLastLine}
