@@ -7,7 +7,7 @@ use Rattle.rm_captures.specs.declared.coming.Coming.{Coming}
 use Rattle.rm_captures.proofs.NameLemmas.{as_many_texts}
 use Rattle.rm_probe.specs.Advance.{IsAdvanced}
 use Rattle.rm_probe.specs.Probe.{Stands, settings_of}
-use Rattle.rm_probe.proofs.FrameLemmas.{told_passes, told_place}
+use Rattle.rm_probe.proofs.FrameLemmas.{told_lends, told_passes, told_place}
 use Rattle.rm_probe.proofs.replaying.Replaying.count_next.Goals as goal
 
 pub pass_next-requires : goal.pass_next-requires
@@ -65,3 +65,10 @@ pub returns-clause-shelf : goal.returns-clause-shelf
 returns-clause-shelf g c =
     let step : c.pass_next.result ≡ Ok (Next c.in-Ok-Next.frame) = c.in-Ok-Next.is ∙ ap Ok c.in-Ok-Next.field-0-is in
     keeps_more g.F.Shelf.held g.F.Shelf.faults c.args.shelf.now c.pass_next.new.shelf _ _ _ _ c.pass_next.ensures.shelf (λ each is. is) (λ e. let is = sym step ∙ e.1 in cc)
+
+pub returns-in_default : goal.returns-in_default
+returns-in_default g c =
+    let (held, olds, looks) = c.requires.told in
+    let (lent, is) = told_lends held (g.F.Shelf.held c.args.shelf.now) (texts c.args.names.now) olds c.args.self.now.captures.items c.pass_next.follows.lender-at-none.items c.args.coming c.pass_next.result looks
+    c.pass_next.follows.holds-at-none.0 in
+    absurd cc

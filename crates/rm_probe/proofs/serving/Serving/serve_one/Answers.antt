@@ -1,9 +1,10 @@
 use Rattle.std.proofs.lemmas.Result.{err_from_is_err_and}
-use Rattle.std.proofs.Common.{◌≡◌, ◌∙◌, ◌∷◌, [], Err, ap, arith, inr, refl, rules, subst, sym, take}
+use Rattle.std.proofs.Common.{◌≡◌, ◌∙◌, ◌∷◌, [], Err, ap, arith, inr, length, refl, rules, subst, sym, take}
 use Rattle.rm_edge.specs.Uses.{clock_use, link_use, sink_use}
 use Rattle.rm_captures.specs.Left.{AreLeft}
 use Rattle.rm_probe.specs.Probe.{Stands, last_given, settings_of}
 use Rattle.rm_probe.specs.Serving.{HaveCome, peers_of}
+use Rattle.rm_probe.specs.Steps.{Keeps}
 use Rattle.rm_probe.specs.Turns.{HasServed}
 use Rattle.rm_probe.specs.declared.status.Status.TheVariants.{LinkFault}
 use Rattle.rm_probe.proofs.OutputLemmas.{says_none}
@@ -28,6 +29,10 @@ pub handle_to-requires-clause-later : goal.handle_to-requires-clause-later
 handle_to-requires-clause-later g c =
     let same = ap (λ replaying. last_given replaying.probe) c.in_ok-peer.ensures.replaying in
     omega (arith, same, c.in_ok-peer.ensures.rises, c.requires.later)
+
+pub handle_to-requires-clause-keeps : goal.handle_to-requires-clause-keeps
+handle_to-requires-clause-keeps g c =
+    subst (λ replaying. Keeps (length c.args.names.now) (last_given replaying.probe) replaying.probe replaying.captures.items) (sym c.in_ok-peer.ensures.replaying) c.requires.keeps
 
 pub returns-clause-served : goal.returns-clause-served
 returns-clause-served g c =
