@@ -1,12 +1,12 @@
 use Rattle.std.proofs.lemmas.Result.{err_from_is_err_and}
-use Rattle.std.proofs.Common.{[], ◌++◌, refl, ap, sym, ◌∙◌, length, arith}
-use Rattle.rm_edge.proofs.Keeping.{quiet_then}
+use Rattle.std.proofs.Common.{◌≡◌, [], ◌++◌, Err, refl, ap, sym, ◌∙◌, length, arith}
 use Rattle.rm_captures.specs.Left.{passed_of}
 use Rattle.rm_captures.specs.Reading.{texts}
 use Rattle.rm_captures.proofs.NameLemmas.{as_many_texts, rose_still}
 use Rattle.rm_captures.proofs.RoundLemmas.{held_still}
 use Rattle.rm_probe.specs.Probe.{settings_of}
 use Rattle.rm_probe.specs.Steps.{Advanced, HasBegun}
+use Rattle.rm_probe.specs.declared.status.Status.TheVariants.{ReadFault}
 use Rattle.rm_probe.proofs.SayingLemmas.{notes_both, says_nothing}
 use Rattle.rm_probe.proofs.FrameLemmas.{all_after, halt, halts_end, halts_next, has_begun, keeps_again, keeps_end, keeps_later, looked_passed, most_passed, passed_looking, passed_none, passed_one, read_says}
 use Rattle.rm_probe.proofs.replaying.Replaying.advance.Goals as goal
@@ -42,20 +42,11 @@ pub returns-in_err-coming-clause-kinds : goal.returns-in_err-coming-clause-kinds
 returns-in_err-coming-clause-kinds g c =
     let p = err_from_is_err_and c.from_residual.result c.from_residual.ensures.1 in rw (p.1, p.2) c.in_err-coming.ensures.kinds
 
-pub returns-in_err-coming-clause-settings : goal.returns-in_err-coming-clause-settings
-returns-in_err-coming-clause-settings g c = ap settings_of c.next.ensures.probe ∙ c.loop-coming.invariant.settings
-
-pub returns-in_err-coming-clause-shelf : goal.returns-in_err-coming-clause-shelf
-returns-in_err-coming-clause-shelf g c =
-    let i = c.loop-coming.invariant in
-    let p = err_from_is_err_and c.from_residual.result c.from_residual.ensures.1 in
-    quiet_then g.F.Shelf.held g.F.Shelf.faults c.args.shelf.now c.loop-coming.shelf c.next.new.shelf _ _ _ _ i.same i.quiet c.next.ensures.shelf (λ each is. is) (λ e. rw (p.1, p.2) (sym c.in_err-coming.was ∙ e))
-
 pub returns-in_err-coming-clause-reads : goal.returns-in_err-coming-clause-reads
 returns-in_err-coming-clause-reads g c = λ e.
-    let i = c.loop-coming.invariant in
     let p = err_from_is_err_and c.from_residual.result c.from_residual.ensures.1 in
-    rose_still _ (g.F.Shelf.faults c.loop-coming.shelf) _ (texts c.args.names.now) i.quiet (c.next.ensures.reads (c.in_err-coming.was ∙ (rw (p.1, p.2) at e)))
+    let status : c.in_err-coming.field-0.0 ≡ ReadFault = let is = sym p.1 ∙ e in let there = p.2 in cc in
+    rose_still _ (g.F.Shelf.faults c.loop-coming.shelf) _ (texts c.args.names.now) c.loop-coming.invariant.quiet (c.in_err-coming.ensures.reads (ap Err status))
 
 pub returns-in_default-clause-says : goal.returns-in_default-clause-says
 returns-in_default-clause-says g c =
@@ -84,14 +75,6 @@ returns-in_default-clause-keeps g c =
     keeps_end _ (texts c.args.names.now) _ c.args.moment c.loop-coming.self.probe c.next.new.self.probe c.loop-coming.self.captures.items c.next.new.self.captures.items (as_many_texts c.args.names.now) (rw c.in_default.is at c.in_ok-coming.ensures.looks)
     c.next.ensures.probe i.early i.keeps
 
-pub returns-in_default-clause-settings : goal.returns-in_default-clause-settings
-returns-in_default-clause-settings g c = ap settings_of c.next.ensures.probe ∙ c.loop-coming.invariant.settings
-
-pub returns-in_default-clause-shelf : goal.returns-in_default-clause-shelf
-returns-in_default-clause-shelf g c =
-    let i = c.loop-coming.invariant in
-    quiet_then g.F.Shelf.held g.F.Shelf.faults c.args.shelf.now c.loop-coming.shelf c.next.new.shelf _ _ _ _ i.same i.quiet c.in_ok-coming.ensures.shelf (λ each is. is) (λ e. absurd cc)
-
 pub returns-then-moment-moment-clause-says : goal.returns-then-moment-moment-clause-says
 returns-then-moment-moment-clause-says g c =
     let i = c.loop-coming.invariant in (
@@ -111,14 +94,6 @@ returns-then-moment-moment-clause-keeps g c =
     let i = c.loop-coming.invariant in
     keeps_later _ (texts c.args.names.now) _ c.args.moment c.loop-coming.self.probe c.next.new.self.probe c.loop-coming.self.captures.items c.next.new.self.captures.items c.in-Some.coming (as_many_texts c.args.names.now)
     (rw c.in-Some.is at c.in_ok-coming.ensures.looks) c.next.ensures.probe i.early c.if-moment-moment.true i.keeps
-
-pub returns-then-moment-moment-clause-settings : goal.returns-then-moment-moment-clause-settings
-returns-then-moment-moment-clause-settings g c = ap settings_of c.next.ensures.probe ∙ c.loop-coming.invariant.settings
-
-pub returns-then-moment-moment-clause-shelf : goal.returns-then-moment-moment-clause-shelf
-returns-then-moment-moment-clause-shelf g c =
-    let i = c.loop-coming.invariant in
-    quiet_then g.F.Shelf.held g.F.Shelf.faults c.args.shelf.now c.loop-coming.shelf c.next.new.shelf _ _ _ _ i.same i.quiet c.in_ok-coming.ensures.shelf (λ each is. is) (λ e. absurd cc)
 
 pub count_next-requires : goal.count_next-requires
 count_next-requires g c =
