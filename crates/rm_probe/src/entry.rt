@@ -41,15 +41,15 @@ pub fn replay<F: Shelf, K: Sink>(
     requires ladder { IsLadder if2 if3 if4 }
     requires many { length (names_of capture.now if2 if3 if4) ≡ settings.interfaces }
     // The whole truth of each status, `Done` among them: the octets added are exactly a text of all files.
-    ensures ends { Ends settings lead (map (file_use F.held F.faults shelf.old shelf.new) (names_of capture.now if2 if3 if4))
+    ensures ends { Ends settings lead (map (file_use F.held F.faults shelf.old shelf.new) (names_of capture.now if2.entry if3.entry if4.entry))
         (file_use F.held F.faults shelf.old shelf.new requests.now) (sink_use K.content K.faults out.old out.new) result }
-    ensures exact { IsExact lead (map (F.held shelf.old) (names_of capture.now if2 if3 if4)) (F.held shelf.old requests.now) result }
-    ensures complete { IsComplete lead (map (file_use F.held F.faults shelf.old shelf.new) (names_of capture.now if2 if3 if4))
+    ensures exact { IsExact lead (map (F.held shelf.old) (names_of capture.now if2.entry if3.entry if4.entry)) (F.held shelf.old requests.now) result }
+    ensures complete { IsComplete lead (map (file_use F.held F.faults shelf.old shelf.new) (names_of capture.now if2.entry if3.entry if4.entry))
         (file_use F.held F.faults shelf.old shelf.new requests.now) (sink_use K.content K.faults out.old out.new) result }
     ensures silent { IsSilent result → K.content out.new ≡ K.content out.old }
 
     // The shelf keeps what it holds, and its counts but for failed reads of these files. The count of failed puts doesn't fall.
-    ensures shelf { KeepsShelf F.held F.faults shelf.old shelf.new (λ each. IsOneOf (names_of capture.now if2 if3 if4) each ⊎ (each ≡ requests.now))
+    ensures shelf { KeepsShelf F.held F.faults shelf.old shelf.new (λ each. IsOneOf (names_of capture.now if2.entry if3.entry if4.entry) each ⊎ (each ≡ requests.now))
         (result ≡ ReadFault) }
     ensures later { K.faults out.old ≤ K.faults out.new }
 {

@@ -21,7 +21,7 @@ impl<'a> Names<'a> {
         if4: Option<&'a str>,
     ) -> Names<'a>
         requires ladder { IsLadder if2 if3 if4 }
-        ensures names { texts (take result.count result.all) ≡ names_of capture.now if2 if3 if4 }
+        ensures names { texts (take result.count result.all) ≡ names_of capture.now if2.entry if3.entry if4.entry }
     {
         let second = if2.unwrap_or("");
         let third = if3.unwrap_or("");
@@ -43,7 +43,7 @@ impl<'a> Names<'a> {
 
 // How many interfaces have captures, where none has one behind an interface that has none.
 fn capture_count(if2: Option<&str>, if3: Option<&str>, if4: Option<&str>) -> usize
-    ensures count { result ≡ capture_count if2 if3 if4 }
+    ensures count { result ≡ capture_count if2.entry if3.entry if4.entry }
     ensures few { result ≤ 4 }
 {
     match (if2, if3, if4) {

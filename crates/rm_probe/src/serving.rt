@@ -234,11 +234,11 @@ pub fn serve<F: Shelf, K: Sink, L: Link, T: Clock>(
 ) -> Status
     requires ladder { IsLadder if2 if3 if4 }
     requires many { length (names_of capture.now if2 if3 if4) ≡ settings.interfaces }
-    ensures serves { Serves settings lead port count (local_port trap_port) (map (file_use F.held F.faults shelf.old shelf.new) (names_of capture.now if2 if3 if4))
+    ensures serves { Serves settings lead port count (local_port trap_port) (map (file_use F.held F.faults shelf.old shelf.new) (names_of capture.now if2.entry if3.entry if4.entry))
         (sink_use K.content K.faults out.old out.new) (link_use L.bound L.received L.sent L.faults link.old link.new) (clock_use T.told clock.old clock.new) result }
-    ensures exact { ServesExactly lead (map (file_use F.held F.faults shelf.old shelf.new) (names_of capture.now if2 if3 if4)) (sink_use K.content K.faults out.old out.new)
+    ensures exact { ServesExactly lead (map (file_use F.held F.faults shelf.old shelf.new) (names_of capture.now if2.entry if3.entry if4.entry)) (sink_use K.content K.faults out.old out.new)
         (link_use L.bound L.received L.sent L.faults link.old link.new) result }
-    ensures shelf { KeepsShelf F.held F.faults shelf.old shelf.new (IsOneOf (names_of capture.now if2 if3 if4)) (result ≡ ReadFault) }
+    ensures shelf { KeepsShelf F.held F.faults shelf.old shelf.new (IsOneOf (names_of capture.now if2.entry if3.entry if4.entry)) (result ≡ ReadFault) }
     ensures later { (K.faults out.old ≤ K.faults out.new) × (L.faults link.old ≤ L.faults link.new) }
 {
     let names = Names::new(capture, if2, if3, if4);
