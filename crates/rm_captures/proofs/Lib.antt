@@ -6,4 +6,4 @@ pub mod NextLemmas
 mod OrderLemmas
 pub mod PassLemmas
 pub mod RoundLemmas
-pub mod ToldLemmas
+mod ToldLemmas
