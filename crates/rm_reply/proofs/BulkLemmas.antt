@@ -1,13 +1,20 @@
 -- How repetitions come into a draft.
-use Rattle.std.proofs.Common.{◌≡◌, ◌≤◌, ℕ, suc, Bool, true, false, List, [], ◌∷◌, ◌++◌, length, Some, None, inl, inr, refl, sym, ap, subst, ◌∙◌, true≢false, arith, append_assoc}
+use Rattle.std.proofs.Common.{◌≡◌, ◌≤◌, ℕ, suc, Bool, true, false, List, [], ◌∷◌, ◌++◌, take, drop, length, Some, None, inl, inr, refl, sym, ap, subst, ◌∙◌, true≢false, arith, append_assoc}
 use Rattle.std.proofs.lemmas.List.{append-nil}
 use Rattle.rm_model.specs.Cells.{Cells}
 use Rattle.rm_model.proofs.Next.{next_same}
 use Rattle.rm_pdu.specs.Message.{Binding, Message, message_octets}
 use Rattle.rm_pdu.specs.Draft.{Drafted, binding_of}
 use Rattle.rm_reply.specs.Answered.{IsNextBinding, AreFirst, are_end}
-use Rattle.rm_reply.specs.Replies.{names_of, carrying, size_with, IsFront, AreRepetitions}
+use Rattle.rm_reply.specs.Replies.{names_of, carrying, size_with, counting, non_repeaters}
+use Rattle.rm_reply.specs.Fronts.{IsFront, AreRepetitions}
 use Rattle.rm_reply.specs.Drafting.{IsDrafted, PutsNext, Stops, PutsLongest}
+
+-- A front of the list of a GetBulkRequest, as it is put: one answer to each of the names that aren't repeated, and then the
+-- repetitions of the others.
+abbrev pub IsBulkFront : (List ℕ → Binding → Type 0) → Message → List Binding → Type 0
+IsBulkFront IsOne request list = IsFront IsOne (take (non_repeaters request) (names_of request.bindings))
+    (λ answers rest. AreRepetitions IsOne (counting request.second) (drop (non_repeaters request) (names_of request.bindings)) rest) list
 
 -- more bindings make a message longer
 abbrev pub Lengthens : Type 0

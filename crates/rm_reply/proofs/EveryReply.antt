@@ -1,57 +1,34 @@
 -- A request has a reply.
-use Rattle.std.proofs.Common.{◌≡◌, ◌≤◌, ◌<◌, ℕ, zero, suc, Bool, true, false, List, [], ◌∷◌, ◌++◌, length, take, drop, inl, inr, Option, Some, None, refl, sym, ap, subst, ◌∙◌, true≢false, arith, append_assoc}
+use Rattle.std.proofs.Common.{◌≡◌, ◌≤◌, ◌<◌, ℕ, zero, suc, Bool, true, false, List, [], ◌∷◌, ◌++◌, length, take, drop, inl, inr, Option, refl, sym, ap, subst, ◌∙◌, true≢false, arith, append_assoc}
 use Rattle.std.proofs.lemmas.List.{append-nil, append_cancel_left}
 use Rattle.std.proofs.lemmas.Bool.{cases_lt}
-use Rattle.rm_val.specs.Val.{Val, end_of_view}
+use Rattle.rm_val.specs.Val.{Val}
 use Rattle.rm_val.specs.declared.error.ErrorStatus.{ErrorStatus}
 use Rattle.rm_model.specs.Journal.{Journal}
 use Rattle.rm_model.specs.Judgement.{Bindings}
-use Rattle.rm_model.specs.Cells.{Cells, IsNext}
+use Rattle.rm_model.specs.Cells.{Cells}
 use Rattle.rm_pdu.specs.declared.kind.Kind.{Kind}
 use Rattle.rm_pdu.specs.declared.kind.Kind.TheVariants.{Get, Next, Response, Set, Bulk, Inform, Trap, Report}
 use Rattle.rm_pdu.specs.Message.{Binding, Message, message_octets}
 use Rattle.rm_pdu.specs.Parse.{is_request}
-use Rattle.rm_pdu.specs.Draft.{binding_of}
-use Rattle.rm_reply.specs.Answered.{IsGetBinding, IsNextBinding, shown_value, AreAnswers, are_end}
+use Rattle.rm_reply.specs.Answered.{IsGetBinding, IsNextBinding, are_end}
 use Rattle.rm_reply.specs.Sets.{alone_among}
 use Rattle.rm_reply.specs.Responses.{IsReplyBy}
 use Rattle.rm_reply.proofs.Verdicts.{set_some}
-use Rattle.rm_reply.specs.Replies.{names_of, carrying, too_big, size_with, IsWholeReply, IsFront, AreRepetitions, IsBulkFront, IsLongest, IsBulkReply, counting, non_repeaters, is_built, IsReplyOf, IsReply}
-use Rattle.rm_reply.proofs.BulkLemmas.{Lengthens, next_one, Goes}
+use Rattle.rm_reply.specs.Replies.{names_of, carrying, too_big, size_with, IsWholeReply, IsLongest, IsBulkReply, counting, non_repeaters, is_built, IsReplyOf, IsReply}
+use Rattle.rm_reply.specs.Fronts.{IsFront, AreRepetitions}
+use Rattle.rm_reply.proofs.BulkLemmas.{IsBulkFront, Lengthens, next_one, Goes}
+use Rattle.rm_reply.proofs.PlaceLemmas.{longest_by_place}
+use Rattle.rm_reply.proofs.SomeAnswers.{HasSome, FindsNext, get_some, next_some, all_answers}
 use Rattle.rm_reply.proofs.OneReply.{OneGoesOn, bulk_goes}
-
--- a name has an answer
-abbrev HasSome : (List ℕ → Binding → Type 0) → Type 0
-HasSome IsOne = (name : List ℕ) → (binding : Binding) × IsOne name binding
-
--- above each name there is a next variable, or none
-abbrev pub FindsNext : Cells → Type 0
-FindsNext cells = (asked : List ℕ) → (value : Option Val) × (found : List ℕ) × IsNext cells asked value found
-
-get_some : (cells : Cells) (objects : List ℕ → Bool) → HasSome (IsGetBinding cells objects)
-get_some cells objects name = (binding_of name (shown_value (cells name) (objects name)), refl)
-
-next_some : (cells : Cells) → FindsNext cells → HasSome (IsNextBinding cells)
-next_some cells finds asked = let (value, found, is) = finds asked in of_next value found is
-  where
-    of_next : (value : Option Val) (found : List ℕ) → IsNext cells asked value found → (binding : Binding) × IsNextBinding cells asked binding
-    of_next (Some value) found is = (binding_of found value, inl is)
-    of_next None found none = (binding_of asked end_of_view, inr (none, refl))
-
-all_answers : (IsOne : List ℕ → Binding → Type 0) → HasSome IsOne → (names : List (List ℕ)) → (answers : List Binding) × AreAnswers IsOne names answers
-all_answers IsOne some [] = ([], record { first = tt; all = refl })
-all_answers IsOne some (name ∷ names) =
-    let (binding, one) = some name in
-    let (answers, are) = all_answers IsOne some names in
-    (binding ∷ answers, record { first = (one, are.first); all = ap suc are.all })
 
 -- all answers fit, or they don't
 whole_some : (IsOne : List ℕ → Binding → Type 0) → HasSome IsOne → (request : Message) → (reply : Message) × IsWholeReply IsOne request reply
 whole_some IsOne some request =
     let (answers, are) = all_answers IsOne some (names_of request.bindings) in
     elim (cases_lt 1472 (size_with request answers)) [
-      | inl long ↦ (too_big request, inr (answers, are.first, long, refl))
-      | inr short ↦ (carrying request answers, inl (answers, are, short, refl))
+      | inl long ↦ (too_big request, record { answers = answers; are = are; fits = λ fits. absurd (omega (arith, long, fits)); long = λ _. refl })
+      | inr fits ↦ (carrying request answers, record { answers = answers; are = are; fits = λ _. refl; long = λ long. absurd (omega (arith, long, fits)) })
     ]
 
 -- a list of which all parts are fronts, since there is nothing behind it
@@ -162,7 +139,7 @@ bulk_some lengthen cells some request short =
     let IsOne = IsNextBinding cells in
     let (whole, part, last) = bulk_end IsOne some request in
     let (list, longest) = longest_from lengthen (IsBulkFront IsOne request) (bulk_fronts IsOne request) (bulk_goes IsOne (next_one cells) request) request [] whole part last short in
-    (carrying request list, (list, longest, refl))
+    (carrying request list, (list, longest_by_place IsOne request list longest, refl))
 
 kind_some : Lengthens → (cells : Cells) (objects : List ℕ → Bool) → FindsNext cells → (kind : Kind) (request : Message) → is_built kind ≡ true → size_with request [] ≤ 1472
     → (reply : Message) × IsReplyOf cells objects kind request reply

@@ -17,7 +17,6 @@ use Rattle.rm_reply.specs.Replies.{too_big}
 use Rattle.rm_reply.specs.Responses.{IsReplyBy}
 use Rattle.rm_reply.specs.Sets.{Judges, wrong_alone, wrong_together, lacking, accepted, alone_among, given_by, returning, telling, is_too_much, is_barred}
 use Rattle.rm_reply.specs.Storage.{reserves_nothing, IsGrantedBy, IsDenied, IsGrantedOrDenied}
-use Rattle.rm_reply.proofs.BulkLemmas.{Lengthens}
 use Rattle.rm_reply.proofs.OneReply.{request_one}
 
 module _ (cells : Cells) (objects : List ℕ → Bool) (alone : List ℕ → Val → Option ErrorStatus) (together : Bindings → ℕ → Option ErrorStatus)
@@ -70,15 +69,15 @@ module _ (cells : Cells) (objects : List ℕ → Bool) (alone : List ℕ → Val
   of_kind Report other after is = (reply, after, is, inl (refl, refl))
 
   -- a reply is granted, or denied
-  pub of_reply : Lengthens → (after : Journal) → IsReplyBy cells objects alone together reserves may_write moment journal request.kind request reply after
+  pub of_reply : (after : Journal) → IsReplyBy cells objects alone together reserves may_write moment journal request.kind request reply after
       → IsGrantedOrDenied (IsGrantedBy cells objects alone together may_write moment journal request) reserves journal request reply (λ later. later ≡ after)
-  of_reply lengthen after is =
+  of_reply after is =
       let (granted, later, by, comes) = of_kind request.kind refl after is in
       record {
         granted = granted;
         after = later;
         is_granted = by;
-        only = λ other end also. request_one lengthen cells objects alone together reserves_nothing may_write moment journal request other granted end later (λ sets index never. never) request.kind refl also by;
+        only = λ other end also. request_one cells objects alone together reserves_nothing may_write moment journal request other granted end later (λ sets index never. never) request.kind refl also by;
         comes = comes;
       }
 

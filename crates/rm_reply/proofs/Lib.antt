@@ -1,6 +1,8 @@
 pub mod NameLemmas
 pub mod AnswersLemmas
 pub mod BulkLemmas
+pub mod PlaceLemmas
+pub mod SomeAnswers
 pub mod ReplyLemmas
 pub mod SetLemmas
 pub mod Verdicts
@@ -8,4 +10,4 @@ pub mod OneReply
 pub mod Granted
 pub mod EveryReply
 pub mod ReadLemmas
-pub mod PlaceLemmas
+mod Examples

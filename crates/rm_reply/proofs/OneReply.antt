@@ -1,5 +1,5 @@
 -- A request has one reply.
-use Rattle.std.proofs.Common.{◌≡◌, ◌≤◌, ℕ, zero, suc, Bool, true, false, List, [], ◌∷◌, ◌++◌, length, take, drop, Option, ◌⊎◌, inl, inr, refl, sym, ap, subst, ◌∙◌, arith}
+use Rattle.std.proofs.Common.{◌≡◌, ◌≤◌, ◌<◌, ℕ, zero, suc, Bool, true, false, List, [], ◌∷◌, ◌++◌, length, take, drop, Option, ◌⊎◌, inl, inr, refl, sym, ap, subst, ◌∙◌, arith}
 use Rattle.std.proofs.lemmas.List.{append-nil}
 use Rattle.std.proofs.lemmas.Bool.{cases_lt}
 use Rattle.rm_val.specs.Val.{Val}
@@ -11,11 +11,13 @@ use Rattle.rm_pdu.specs.declared.kind.Kind.{Kind}
 use Rattle.rm_pdu.specs.declared.kind.Kind.TheVariants.{Get, Next, Response, Set, Bulk, Inform, Trap, Report}
 use Rattle.rm_pdu.specs.Message.{Binding, Message}
 use Rattle.rm_reply.specs.Answered.{IsGetBinding, IsNextBinding, AreFirst, are_end}
-use Rattle.rm_reply.specs.Replies.{names_of, carrying, size_with, IsWholeReply, IsFront, AreRepetitions, IsBulkFront, IsLongest, IsBulkReply, counting, non_repeaters, IsReplyOf, IsReply}
+use Rattle.rm_reply.specs.Replies.{names_of, carrying, size_with, IsWholeReply, IsBulkList, IsLongest, IsBulkReply, counting, non_repeaters, IsReplyOf, IsReply}
+use Rattle.rm_reply.specs.Fronts.{IsFront, AreRepetitions}
 use Rattle.rm_reply.specs.Sets.{alone_among, given_by}
 use Rattle.rm_reply.specs.Responses.{IsReplyBy}
 use Rattle.rm_reply.proofs.Verdicts.{set_once}
-use Rattle.rm_reply.proofs.BulkLemmas.{HasOne, Lengthens, next_one, Goes}
+use Rattle.rm_reply.proofs.BulkLemmas.{IsBulkFront, HasOne, next_one, Goes}
+use Rattle.rm_reply.proofs.PlaceLemmas.{bulk_is_list}
 
 -- one of two lists goes on where the other one ends
 abbrev pub OneGoesOn : List Binding → List Binding → Type 0
@@ -53,21 +55,15 @@ all_same IsOne one names xs ys p all q = elim (first_goes IsOne one names xs ys 
   | inr goes ↦ goes
 ]
 
-pub whole_one : (IsOne : List ℕ → Binding → Type 0) → HasOne IsOne → Lengthens → (request a b : Message) → IsWholeReply IsOne request a → IsWholeReply IsOne request b → a ≡ b
-whole_one IsOne one lengthen request a b (inl (xs, p, short, is)) (inl (ys, q, short', is')) =
-    let (more, goes) = all_same IsOne one (names_of request.bindings) xs ys p.first p.all q.first in
-    let none : more ≡ [] = nothing_more ys more (omega (arith, ap length goes, p.all, q.all)) in
-    let same : xs ≡ ys = goes ∙ ap (λ (l : List Binding). ys ++ l) none ∙ append-nil ys in
-    is ∙ ap (carrying request) same ∙ sym is'
-whole_one IsOne one lengthen request a b (inl (xs, p, short, is)) (inr (ys, q, long, is')) =
-    let (more, goes) = all_same IsOne one (names_of request.bindings) xs ys p.first p.all q in
-    let longer : size_with request ys ≤ size_with request (ys ++ more) = lengthen (carrying request ys) more in
-    absurd (omega (arith, short, long, longer, ap (size_with request) goes))
-whole_one IsOne one lengthen request a b (inr (xs, p, long, is)) (inl (ys, q, short, is')) =
-    let (more, goes) = all_same IsOne one (names_of request.bindings) ys xs q.first q.all p in
-    let longer : size_with request xs ≤ size_with request (xs ++ more) = lengthen (carrying request xs) more in
-    absurd (omega (arith, short, long, longer, ap (size_with request) goes))
-whole_one IsOne one lengthen request a b (inr (xs, p, long, is)) (inr (ys, q, long', is')) = is ∙ sym is'
+pub whole_one : (IsOne : List ℕ → Binding → Type 0) → HasOne IsOne → (request a b : Message) → IsWholeReply IsOne request a → IsWholeReply IsOne request b → a ≡ b
+whole_one IsOne one request a b p q =
+    let (more, goes) = all_same IsOne one (names_of request.bindings) p.answers q.answers p.are.first p.are.all q.are.first in
+    let none : more ≡ [] = nothing_more q.answers more (omega (arith, ap length goes, p.are.all, q.are.all)) in
+    let same : p.answers ≡ q.answers = goes ∙ ap (λ (l : List Binding). q.answers ++ l) none ∙ append-nil q.answers in
+    elim (cases_lt 1472 (size_with request q.answers)) [
+      | inl long ↦ p.long (subst (λ (l : List Binding). 1472 < size_with request l) (sym same) long) ∙ sym (q.long long)
+      | inr fits ↦ p.fits (subst (λ (l : List Binding). size_with request l ≤ 1472) (sym same) fits) ∙ ap (carrying request) same ∙ sym (q.fits fits)
+    ]
 
 front_goes : (IsOne : List ℕ → Binding → Type 0) → HasOne IsOne → (names : List (List ℕ)) (Follows : List Binding → List Binding → Type 0)
     → ((row xs ys : List Binding) → Follows row xs → Follows row ys → OneGoesOn xs ys) → (xs ys : List Binding) → IsFront IsOne names Follows xs → IsFront IsOne names Follows ys → OneGoesOn xs ys
@@ -107,38 +103,38 @@ longest_same IsPart request xs ys more p q is =
 
 bulk_one : (IsOne : List ℕ → Binding → Type 0) → HasOne IsOne → (request a b : Message) → IsBulkReply IsOne request a → IsBulkReply IsOne request b → a ≡ b
 bulk_one IsOne one request a b (xs, p, is) (ys, q, is') =
-    let same : xs ≡ ys = elim (bulk_goes IsOne one request xs ys p.part q.part) [
-      | inl (more, goes) ↦ longest_same (IsBulkFront IsOne request) request xs ys more p q goes
-      | inr (more, goes) ↦ sym (longest_same (IsBulkFront IsOne request) request ys xs more q p goes)
+    let same : xs ≡ ys = elim (bulk_goes IsOne one request xs ys ((bulk_is_list IsOne request xs).1 p.part) ((bulk_is_list IsOne request ys).1 q.part)) [
+      | inl (more, goes) ↦ longest_same (IsBulkList IsOne request) request xs ys more p q goes
+      | inr (more, goes) ↦ sym (longest_same (IsBulkList IsOne request) request ys xs more q p goes)
     ] in
     is ∙ ap (carrying request) same ∙ sym is'
 
 get_one : (cells : Cells) (objects : List ℕ → Bool) → HasOne (IsGetBinding cells objects)
 get_one cells objects name a b p q = p ∙ sym q
 
-kind_one : Lengthens → (cells : Cells) (objects : List ℕ → Bool) (kind : Kind) (request a b : Message) → IsReplyOf cells objects kind request a → IsReplyOf cells objects kind request b → a ≡ b
-kind_one lengthen cells objects Get request a b p q = whole_one (IsGetBinding cells objects) (get_one cells objects) lengthen request a b p q
-kind_one lengthen cells objects Next request a b p q = whole_one (IsNextBinding cells) (next_one cells) lengthen request a b p q
-kind_one lengthen cells objects Bulk request a b p q = bulk_one (IsNextBinding cells) (next_one cells) request a b p q
-kind_one lengthen cells objects Response request a b p q = absurd p
-kind_one lengthen cells objects Set request a b p q = absurd p
-kind_one lengthen cells objects Inform request a b p q = absurd p
-kind_one lengthen cells objects Trap request a b p q = absurd p
-kind_one lengthen cells objects Report request a b p q = absurd p
+kind_one : (cells : Cells) (objects : List ℕ → Bool) (kind : Kind) (request a b : Message) → IsReplyOf cells objects kind request a → IsReplyOf cells objects kind request b → a ≡ b
+kind_one cells objects Get request a b p q = whole_one (IsGetBinding cells objects) (get_one cells objects) request a b p q
+kind_one cells objects Next request a b p q = whole_one (IsNextBinding cells) (next_one cells) request a b p q
+kind_one cells objects Bulk request a b p q = bulk_one (IsNextBinding cells) (next_one cells) request a b p q
+kind_one cells objects Response request a b p q = absurd p
+kind_one cells objects Set request a b p q = absurd p
+kind_one cells objects Inform request a b p q = absurd p
+kind_one cells objects Trap request a b p q = absurd p
+kind_one cells objects Report request a b p q = absurd p
 
-pub reply_one : Lengthens → (cells : Cells) (objects : List ℕ → Bool) (request a b : Message) → IsReply cells objects request a → IsReply cells objects request b → a ≡ b
-reply_one lengthen cells objects request a b p q = elim (cases_lt 128 (length request.bindings)) [
+pub reply_one : (cells : Cells) (objects : List ℕ → Bool) (request a b : Message) → IsReply cells objects request a → IsReply cells objects request b → a ≡ b
+reply_one cells objects request a b p q = elim (cases_lt 128 (length request.bindings)) [
   | inl many ↦ p.many many ∙ sym (q.many many)
-  | inr few ↦ kind_one lengthen cells objects request.kind request a b (p.few few) (q.few few)
+  | inr few ↦ kind_one cells objects request.kind request a b (p.few few) (q.few few)
 ]
 
-module _ (lengthen : Lengthens) (cells : Cells) (objects : List ℕ → Bool) (alone : List ℕ → Val → Option ErrorStatus) (together : Bindings → ℕ → Option ErrorStatus)
+module _ (cells : Cells) (objects : List ℕ → Bool) (alone : List ℕ → Val → Option ErrorStatus) (together : Bindings → ℕ → Option ErrorStatus)
     (reserves : Bindings → ℕ → Type 0) (may_write : Bool) (moment : ℕ) (journal : Journal) (request a b : Message) (after later : Journal) where
   abbrev By : Kind → Message → Journal → Type 0
   By kind reply next = IsReplyBy cells objects alone together reserves may_write moment journal kind request reply next
 
   reads_one : IsReply cells objects request a × (after ≡ journal) → IsReply cells objects request b × (later ≡ journal) → (a ≡ b) × (after ≡ later)
-  reads_one (p, stays) (q, stays') = (reply_one lengthen cells objects request a b p q, stays ∙ sym stays')
+  reads_one (p, stays) (q, stays') = (reply_one cells objects request a b p q, stays ∙ sym stays')
 
   -- a request that is no SetRequest that reserves storage has one reply
   pub request_one : (request.kind ≡ Set → (index : ℕ) → reserves (given_by request.bindings) index → ⊥) → (kind : Kind) → request.kind ≡ kind → By kind a after → By kind b later → (a ≡ b) × (after ≡ later)

@@ -1,49 +1,14 @@
--- The bindings of a reply by their places.
+-- A list of a GetBulkRequest as it is put is one whose bindings stand at their places.
 use Rattle.std.proofs.Common.{◌≡◌, ◌≤◌, ◌<◌, ℕ, zero, suc, ◌+◌, ◌-◌, ◌*◌, Bool, true, false, List, [], ◌∷◌, ◌++◌, length, take, drop, ◌⊎◌, inl, inr, refl, sym, ap, subst, ◌∙◌, true≢false, arith}
-use Rattle.std.specs.Prelude.{◌↔◌, nat_lt, MatchBool}
+use Rattle.std.specs.Prelude.{◌↔◌}
 use Rattle.std.proofs.Math.Nat.{suc-mul, add-mul}
-use Rattle.std.proofs.lemmas.Bool.{cases_lt, ltb-true, ltb-false}
+use Rattle.std.proofs.lemmas.Bool.{cases_lt}
 use Rattle.std.proofs.lemmas.List.{append_assoc, map-append, length-map, length-take-le, length-drop, take-append-drop, drop-drop, drop_all}
-use Rattle.rm_model.specs.Cells.{Cells}
 use Rattle.rm_pdu.specs.Message.{Binding, Message}
-use Rattle.rm_reply.specs.Answered.{IsGetBinding, IsNextBinding, AreFirst, AreAnswers, are_end}
-use Rattle.rm_reply.specs.Replies.{names_of, carrying, too_big, size_with, counting, non_repeaters, IsWholeReply, IsFront, AreRepetitions, IsBulkFront}
-use Rattle.rm_reply.specs.Places.{IsAllOrTooBig, repeaters, IsBulkList}
-use Rattle.rm_reply.proofs.BulkLemmas.{HasOne, Lengthens, next_one, Goes}
-use Rattle.rm_reply.proofs.OneReply.{whole_one}
-
--- the reply by all answers is one
-all_is_whole : (IsOne : List ℕ → Binding → Type 0) (request reply : Message) (answers : List Binding) → AreAnswers IsOne (names_of request.bindings) answers
-    → IsAllOrTooBig request answers reply → IsWholeReply IsOne request reply
-all_is_whole IsOne request reply answers are is = by_size (nat_lt 1472 (size_with request answers)) refl is
-  where
-    by_size : (long : Bool) → nat_lt 1472 (size_with request answers) ≡ long → MatchBool long (reply ≡ too_big request) (reply ≡ carrying request answers) → IsWholeReply IsOne request reply
-    by_size true test same = inr (answers, are.first, ltb-true 1472 (size_with request answers) test, same)
-    by_size false test same = inl (answers, are, ltb-false 1472 (size_with request answers) test, same)
-
--- and there is such a reply
-some_all : (request : Message) (answers : List Binding) → (reply : Message) × IsAllOrTooBig request answers reply
-some_all request answers = by_size (nat_lt 1472 (size_with request answers))
-  where
-    by_size : (long : Bool) → (reply : Message) × MatchBool long (reply ≡ too_big request) (reply ≡ carrying request answers)
-    by_size true = (too_big request, refl)
-    by_size false = (carrying request answers, refl)
-
-whole_is_all : (IsOne : List ℕ → Binding → Type 0) → HasOne IsOne → Lengthens → (request reply : Message) (answers : List Binding) → AreAnswers IsOne (names_of request.bindings) answers
-    → IsWholeReply IsOne request reply → IsAllOrTooBig request answers reply
-whole_is_all IsOne one lengthen request reply answers are is =
-    let some = some_all request answers in
-    subst (IsAllOrTooBig request answers) (whole_one IsOne one lengthen request some.0 reply (all_is_whole IsOne request some.0 answers are some.1) is) some.1
-
-pub get_is_all : Lengthens → (cells : Cells) (objects : List ℕ → Bool) (request reply : Message) (answers : List Binding) → AreAnswers (IsGetBinding cells objects) (names_of request.bindings) answers
-    → IsWholeReply (IsGetBinding cells objects) request reply ↔ IsAllOrTooBig request answers reply
-get_is_all lengthen cells objects request reply answers are =
-    (whole_is_all (IsGetBinding cells objects) (λ name a b p q. p ∙ sym q) lengthen request reply answers are, all_is_whole (IsGetBinding cells objects) request reply answers are)
-
-pub next_is_all : Lengthens → (cells : Cells) (request reply : Message) (answers : List Binding) → AreAnswers (IsNextBinding cells) (names_of request.bindings) answers
-    → IsWholeReply (IsNextBinding cells) request reply ↔ IsAllOrTooBig request answers reply
-next_is_all lengthen cells request reply answers are =
-    (whole_is_all (IsNextBinding cells) (next_one cells) lengthen request reply answers are, all_is_whole (IsNextBinding cells) request reply answers are)
+use Rattle.rm_reply.specs.Answered.{AreFirst, are_end}
+use Rattle.rm_reply.specs.Replies.{names_of, counting, non_repeaters, repeaters, IsBulkList, IsLongest}
+use Rattle.rm_reply.specs.Fronts.{IsFront, AreRepetitions}
+use Rattle.rm_reply.proofs.BulkLemmas.{IsBulkFront, Goes}
 
 -- the answers to names and to more of them
 first_join : (IsOne : List ℕ → Binding → Type 0) (names more : List (List ℕ)) (list : List Binding) → AreFirst IsOne names (take (length names) list)
@@ -236,16 +201,23 @@ module _ (request : Message) where
       → IsInPlace IsOne most fixed repeated all list ↔ IsInPlace IsOne most (non_repeaters request) (repeaters request) names list
   same_numbers IsOne most fixed repeated all list is_fixed is_repeated is_all = rw (is_fixed, is_repeated, is_all) (λ is. is, λ is. is)
 
-  bulk_list : (cells : Cells) (list : List Binding) → IsBulkFront (IsNextBinding cells) request list ↔ IsBulkList (IsNextBinding cells) request list
-  bulk_list cells list =
+  bulk_list : (IsOne : List ℕ → Binding → Type 0) (list : List Binding) → IsBulkFront IsOne request list ↔ IsBulkList IsOne request list
+  bulk_list IsOne list =
       let fixed = take (non_repeaters request) names in
       let repeated = drop (non_repeaters request) names in
       let most = counting request.second in
-      let IsOne = IsNextBinding cells in
       let same = same_numbers IsOne most (length fixed) (length repeated) (fixed ++ repeated) list fixed_many repeated_many (take-append-drop (non_repeaters request) names) in (
         λ front. let is = same.0 (bulk_in_place IsOne most fixed repeated list front) in record { answers = is.answers; few = is.few; goes_on = is.goes_on },
         λ is. bulk_from_places IsOne most fixed repeated list (same.1 (record { answers = is.answers; few = is.few; goes_on = is.goes_on })),
       )
 
-pub bulk_is_list : (cells : Cells) (request : Message) (list : List Binding) → IsBulkFront (IsNextBinding cells) request list ↔ IsBulkList (IsNextBinding cells) request list
-bulk_is_list cells request list = bulk_list request cells list
+pub bulk_is_list : (IsOne : List ℕ → Binding → Type 0) (request : Message) (list : List Binding) → IsBulkFront IsOne request list ↔ IsBulkList IsOne request list
+bulk_is_list IsOne request list = bulk_list request IsOne list
+
+-- the longest front is the same by both
+pub longest_by_place : (IsOne : List ℕ → Binding → Type 0) (request : Message) (list : List Binding) → IsLongest (IsBulkFront IsOne request) request list → IsLongest (IsBulkList IsOne request) request list
+longest_by_place IsOne request list is = record {
+  part = (bulk_is_list IsOne request list).0 is.part;
+  short = is.short;
+  longest = λ more behind fits. is.longest more ((bulk_is_list IsOne request (list ++ more)).1 behind) fits;
+}

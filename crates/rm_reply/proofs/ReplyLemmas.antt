@@ -1,12 +1,15 @@
 -- How drafts are replies.
-use Rattle.std.proofs.Common.{◌≡◌, ◌≤◌, ℕ, List, [], ◌∷◌, ◌++◌, take, drop, length, inl, inr, refl, subst, append_assoc}
+use Rattle.std.proofs.Common.{◌≡◌, ◌≤◌, ◌<◌, ℕ, List, [], ◌∷◌, ◌++◌, take, drop, length, refl, subst, arith, append_assoc}
 use Rattle.rm_pdu.specs.Message.{Binding, Message}
 use Rattle.rm_pdu.specs.Draft.{Drafted, drafted}
 use Rattle.rm_reply.specs.Answered.{AreFirst, AreAnswers}
-use Rattle.rm_reply.specs.Replies.{names_of, carrying, too_big, size_with, IsWholeReply, IsFront, AreRepetitions, counting, non_repeaters, IsLongest, IsBulkReply}
+use Rattle.rm_reply.specs.Replies.{names_of, carrying, too_big, size_with, IsWholeReply, counting, non_repeaters, IsLongest, IsBulkReply}
+use Rattle.rm_reply.specs.Fronts.{IsFront, AreRepetitions}
 use Rattle.rm_reply.specs.Drafting.{IsDrafted, Puts, Stops, PutsLongest, DraftsOne}
 use Rattle.rm_reply.proofs.NameLemmas.{all_names}
 use Rattle.rm_reply.proofs.BulkLemmas.{HasOne, Lengthens, front_on, front_back, front_first, stops_longest}
+use Rattle.rm_reply.proofs.PlaceLemmas.{longest_by_place}
+use Rattle.rm_reply.proofs.SomeAnswers.{HasSome, answers_behind}
 
 -- the response with no bindings yet
 pub begun : (m : Message) (draft : Drafted) → draft ≡ drafted (carrying m []) → size_with m [] ≤ 1472 → IsDrafted m [] draft
@@ -17,15 +20,19 @@ pub whole_fits : (IsOne : List ℕ → Binding → Type 0) (m : Message) (count 
     → DraftsOne (IsWholeReply IsOne m) draft
 whole_fits IsOne m count draft all puts =
     let are = subst (λ (ns : List (List ℕ)). AreAnswers IsOne ns puts.answers) (all_names m.bindings count all) puts.are in
-    (carrying m puts.answers, inl (puts.answers, are, puts.is_drafted.short, refl), puts.is_drafted.is)
+    let short : size_with m puts.answers ≤ 1472 = puts.is_drafted.short in
+    (carrying m puts.answers, record { answers = puts.answers; are = are; fits = λ _. refl; long = λ long. absurd (omega (arith, short, long)) }, puts.is_drafted.is)
 
--- they don't
-pub whole_stops : (IsOne : List ℕ → Binding → Type 0) (m : Message) (count : ℕ) (draft new : Drafted) → count ≡ length m.bindings → Stops IsOne (take count (names_of m.bindings)) m [] draft
-    → new ≡ drafted (too_big m) → DraftsOne (IsWholeReply IsOne m) new
-whole_stops IsOne m count draft new all stops is =
-    let some = stops.answers ++ stops.next ∷ [] in
-    let first = subst (λ (ns : List (List ℕ)). AreFirst IsOne ns some) (all_names m.bindings count all) stops.first in
-    (too_big m, inr (some, first, stops.long, refl), is)
+-- they don't, since those to the first names are too much
+pub whole_stops : (IsOne : List ℕ → Binding → Type 0) → HasSome IsOne → Lengthens → (m : Message) (count : ℕ) (draft new : Drafted) → count ≡ length m.bindings
+    → Stops IsOne (take count (names_of m.bindings)) m [] draft → new ≡ drafted (too_big m) → DraftsOne (IsWholeReply IsOne m) new
+whole_stops IsOne some lengthen m count draft new all stops is =
+    let part = stops.answers ++ stops.next ∷ [] in
+    let first = subst (λ (ns : List (List ℕ)). AreFirst IsOne ns part) (all_names m.bindings count all) stops.first in
+    let (more, are) = answers_behind IsOne some (names_of m.bindings) part first in
+    let much : 1472 < size_with m part = stops.long in
+    let longer : size_with m part ≤ size_with m (part ++ more) = lengthen (carrying m part) more in
+    (too_big m, record { answers = part ++ more; are = are; fits = λ fits. absurd (omega (arith, much, longer, fits)); long = λ _. refl }, is)
 
 -- a front of a list of which some names are repeated
 abbrev pub Front : (List ℕ → Binding → Type 0) → List (List ℕ) → List (List ℕ) → ℕ → List Binding → Type 0
@@ -39,7 +46,7 @@ bulk_of IsOne names repeated most m list draft first others times longest is =
     let one = subst (λ (ns : List (List ℕ)). IsLongest (Front IsOne ns repeated most) m list) first longest in
     let two = subst (λ (ns : List (List ℕ)). IsLongest (Front IsOne (take (non_repeaters m) (names_of m.bindings)) ns most) m list) others one in
     let all = subst (λ (n : ℕ). IsLongest (Front IsOne (take (non_repeaters m) (names_of m.bindings)) (drop (non_repeaters m) (names_of m.bindings)) n) m list) times two in
-    (carrying m list, (list, all, refl), is)
+    (carrying m list, (list, longest_by_place IsOne m list all, refl), is)
 
 -- the names that aren't repeated have too much
 pub bulk_stops : (IsOne : List ℕ → Binding → Type 0) → HasOne IsOne → Lengthens → (names : List (List ℕ)) (m : Message) (draft : Drafted) → names ≡ take (non_repeaters m) (names_of m.bindings)

@@ -1,5 +1,5 @@
 -- The reply to a request (RFC 1905, section 4.2).
-use Rattle.std.specs.Prelude.{◌≡◌, ◌⊎◌, ◌≤◌, ◌<◌, ℕ, ℤ, zero, suc, pos, negsuc, Bool, true, false, min, List, [], ◌∷◌, ◌++◌, map, take, drop, length}
+use Rattle.std.specs.Prelude.{◌≡◌, ◌≤◌, ◌<◌, ℕ, ℤ, ◌+◌, ◌-◌, ◌*◌, pos, negsuc, Bool, true, false, min, List, [], ◌++◌, map, take, drop, length}
 use Rattle.rm_val.specs.ErrorStatus.{number_of}
 use Rattle.rm_val.specs.declared.error.ErrorStatus.{ErrorStatus}
 use Rattle.rm_val.specs.declared.error.ErrorStatus.TheVariants.{NoError, TooBig}
@@ -30,28 +30,13 @@ too_big request = response_to request TooBig 0 []
 abbrev pub size_with : Message → List Binding → ℕ
 size_with request bindings = length (message_octets (carrying request bindings))
 
--- The reply carries the answers to all names. It is tooBig where already those to some of the first names have too many
--- octets.
-abbrev pub IsWholeReply : (List ℕ → Binding → Type 0) → Message → Message → Type 0
-IsWholeReply IsOne request reply =
-    ((answers : List Binding) × AreAnswers IsOne (names_of request.bindings) answers × (size_with request answers ≤ 1472)
-    × (reply ≡ carrying request answers))
-    ⊎ ((some : List Binding) × AreFirst IsOne (names_of request.bindings) some × (1472 < size_with request some)
-    × (reply ≡ too_big request))
-
--- A front of a list of bindings that is the answers to names, and behind these what may follow them.
-abbrev pub IsFront : (List ℕ → Binding → Type 0) → List (List ℕ) → (List Binding → List Binding → Type 0) → List Binding → Type 0
-IsFront IsOne [] Follows list = Follows [] list
-IsFront IsOne (name ∷ names) Follows [] = Unit {0}
-IsFront IsOne (name ∷ names) Follows (binding ∷ list) =
-    IsOne name binding × IsFront IsOne names (λ answers rest. Follows (binding ∷ answers) rest) list
-
--- A front of at most so many repetitions: each has the answers to the names of the one before, the first one to these
--- names, and none follows one that is wholly endOfMibView.
-abbrev pub AreRepetitions : (List ℕ → Binding → Type 0) → ℕ → List (List ℕ) → List Binding → Type 0
-AreRepetitions IsOne zero names list = list ≡ []
-AreRepetitions IsOne (suc more) names list = IsFront IsOne names
-    (λ answers rest. (are_end answers ≡ true → rest ≡ []) × (are_end answers ≡ false → AreRepetitions IsOne more (names_of answers) rest)) list
+-- The reply carries the answers to all names, or is tooBig where it would have more than 1472 octets with them (RFC 1905,
+-- sections 4.2.1 and 4.2.2).
+pub record IsWholeReply (IsOne : List ℕ → Binding → Type 0) (request reply : Message) : Type 0 where
+  pub answers : List Binding
+  pub are : AreAnswers IsOne (names_of request.bindings) answers
+  pub fits : size_with request answers ≤ 1472 → reply ≡ carrying request answers
+  pub long : 1472 < size_with request answers → reply ≡ too_big request
 
 -- a number of a GetBulkRequest; a negative one is taken for 0
 abbrev pub counting : ℤ → ℕ
@@ -62,11 +47,25 @@ counting (negsuc n) = 0
 abbrev pub non_repeaters : Message → ℕ
 non_repeaters request = min (counting request.first) (length request.bindings)
 
--- A front of the list of a GetBulkRequest: one answer to each of the names that aren't repeated, and then the
--- repetitions of the others (RFC 1905, section 4.2.3).
-abbrev pub IsBulkFront : (List ℕ → Binding → Type 0) → Message → List Binding → Type 0
-IsBulkFront IsOne request list = IsFront IsOne (take (non_repeaters request) (names_of request.bindings))
-    (λ answers rest. AreRepetitions IsOne (counting request.second) (drop (non_repeaters request) (names_of request.bindings)) rest) list
+-- how many of the last names are repeated
+abbrev pub repeaters : Message → ℕ
+repeaters request = length request.bindings - non_repeaters request
+
+-- the names that are asked for at the places of a list: those of the request, and then the name of each answer one repetition
+-- before
+abbrev pub names_asked : Message → List Binding → List (List ℕ)
+names_asked request list = names_of request.bindings ++ names_of (drop (non_repeaters request) list)
+
+-- the bindings of a repetition, counted from 0
+abbrev pub repetition : Message → List Binding → ℕ → List Binding
+repetition request list index = take (repeaters request) (drop (non_repeaters request + index * repeaters request) list)
+
+-- A front of the list of a GetBulkRequest (RFC 1905, section 4.2.3): the binding at each place answers the name that is asked for
+-- there, there are no more repetitions than max-repetitions, and none behind one that is wholly endOfMibView.
+pub record IsBulkList (IsOne : List ℕ → Binding → Type 0) (request : Message) (list : List Binding) : Type 0 where
+  pub answers : AreFirst IsOne (names_asked request list) list
+  pub few : length list ≤ non_repeaters request + counting request.second * repeaters request
+  pub goes_on : (index : ℕ) → non_repeaters request + (index + 1) * repeaters request < length list → are_end (repetition request list index) ≡ false
 
 -- bindings of which a response carries the most that it can
 pub record IsLongest (IsPart : List Binding → Type 0) (request : Message) (list : List Binding) : Type 0 where
@@ -76,7 +75,7 @@ pub record IsLongest (IsPart : List Binding → Type 0) (request : Message) (lis
 
 -- the bindings of the reply are as many from the front of the list as one response holds
 abbrev pub IsBulkReply : (List ℕ → Binding → Type 0) → Message → Message → Type 0
-IsBulkReply IsOne request reply = (list : List Binding) × IsLongest (IsBulkFront IsOne request) request list × (reply ≡ carrying request list)
+IsBulkReply IsOne request reply = (list : List Binding) × IsLongest (IsBulkList IsOne request) request list × (reply ≡ carrying request list)
 
 -- whether requests of a kind get a reply
 abbrev pub is_built : Kind → Bool

@@ -13,6 +13,6 @@ mod responses;
 mod set;
 mod unread;
 
-pub use laws::{all_or_too_big, bulk_lists_by_place, every_reply, granted_or_denied, one_reply};
+pub use laws::{every_reply, granted_or_denied, one_reply};
 pub use request::{MOST_REPLY, Request};
 pub use responses::respond;

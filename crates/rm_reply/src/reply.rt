@@ -3,15 +3,17 @@ ghost use Rattle.std.specs.Prelude.{◌≡◌, ◌≤◌, ◌+◌, List, length,
 ghost use Rattle.rm_val.specs.Spellable.{IsSpellable};
 ghost use Rattle.rm_pdu.specs.Message.{Binding, Message};
 ghost use Rattle.rm_reply.specs.Answered.{IsNextBinding};
-ghost use Rattle.rm_reply.specs.Replies.{IsWholeReply, IsBulkReply, AreRepetitions, IsReply, is_built, counting, names_of};
+ghost use Rattle.rm_reply.specs.Replies.{IsWholeReply, IsBulkReply, IsReply, is_built, counting, names_of};
+ghost use Rattle.rm_reply.specs.Fronts.{AreRepetitions};
 ghost use Rattle.rm_reply.specs.Drafting.{OfCells, IsFound, IsAsked, IsDrafted, DraftsOne, PutsLongest};
 
 use crate::asked::put_asked;
 use crate::found::Lookup;
+use crate::laws::cells_are_finite;
 use crate::names::Names;
 use crate::repetition::put_repetition;
 use crate::request::{MOST_BINDINGS, Request};
-use rm_group::{Group, Objects};
+use rm_group::{Group, Objects, next_or_none};
 use rm_pdu::{Draft, Kind, bindings_lengthen};
 use rm_val::ErrorStatus;
 
@@ -47,6 +49,9 @@ fn whole<G: Group + Objects>(groups: &G, lookup: Lookup, request: &Request<'_>, 
     ensures { OfCells (G.stands groups.now) (G.askable groups.now) G.cells now (λ cells. (m : Message) → IsAsked request.now m
         → DraftsOne (IsWholeReply (IsFound cells G.objects lookup) m) result) }
 {
+    bindings_lengthen();
+    next_or_none();
+    cells_are_finite::<G>();
     let mut draft = request.begin(ErrorStatus::NoError, 0);
     match put_asked(groups, lookup, request, request.count(), now, &mut draft) {
         Ok(()) => draft,
