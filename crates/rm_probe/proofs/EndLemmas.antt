@@ -1,5 +1,6 @@
 -- How the parts of a run make its end.
-use Rattle.std.proofs.Common.{◌≡◌, ◌⊎◌, ℕ, List, [], map, Option, Ok, Err, refl, sym, ap, ◌∙◌, subst, arith, inl, inr}
+use Rattle.std.proofs.Common.{◌≡◌, ◌⊎◌, ℕ, List, [], Option, Result, Ok, Err, refl, sym, ap, ◌∙◌, subst, arith, inl, inr}
+use Rattle.std.specs.Str.Lines.{lines as lines_of}
 use Rattle.rm_edge.specs.Outside.{Held, File, OfFile, AddsFront}
 use Rattle.rm_model.specs.Journal.{Frame}
 use Rattle.rm_pcap.specs.Records.{Stop}
@@ -14,10 +15,11 @@ use Rattle.rm_captures.specs.declared.fault.CaptureFault.{CaptureFault}
 use Rattle.rm_captures.proofs.PassLemmas.{all_left}
 use Rattle.rm_captures.proofs.RoundLemmas.{held_still}
 use Rattle.rm_settings.specs.declared.settings.Settings.{Settings}
-use Rattle.rm_probe.specs.Capture.{AreTold, CallsFor, HasReadFaults, helds_of, status_by, status_of}
-use Rattle.rm_requests.specs.Lines.{TimedDatagram, requests_of, AreRequests, HasTooManyLines, IsRequestFile, IsWrongAt}
+use Rattle.rm_probe.specs.Capture.{IsFaultless, IsCapture, IsCaptureFile, IsBroken, CallsFor, status_of}
+use Rattle.rm_requests.specs.Lines.{TimedDatagram, AreRequests, HasTooManyLines, IsFirstWrong, IsRequestFile, IsWrongAt}
 use Rattle.rm_requests.specs.declared.fault.RequestsFault.{RequestsFault}
 use Rattle.rm_requests.specs.declared.fault.RequestsFault.TheVariants.{Line, TooLong as TooManyLines, Read as ReadFailed}
+use Rattle.rm_requests.proofs.EachLineLemmas.{none_wrong, none_before, one_first}
 use Rattle.rm_agent.specs.Orderly.{IsOrderly}
 use Rattle.rm_probe.specs.Said.{lines}
 use Rattle.rm_probe.specs.Output.{adds_none}
@@ -284,13 +286,13 @@ module _ (lead : ℕ) where
   not_many lines many are = omega (arith, many.many, are.1.few)
 
   not_both : (lines : List ℕ) (line : ℕ) → HasTooManyLines lines → IsWrongAt line lines → ⊥
-  not_both lines line many wrong = omega (arith, many.good line wrong.0, wrong.1)
+  not_both lines line many wrong = none_before (lines_of lines) 1000000 line many.good.0 many.good.1 wrong.1 wrong.0
 
   not_wrong : (lines : List ℕ) (line : ℕ) → IsWrongAt line lines → IsRequestFile lines → ⊥
-  not_wrong lines line wrong are = let e : Err line ≡ Ok are.0 = sym wrong.0 ∙ are.1.are in cc
+  not_wrong lines line wrong are = none_wrong (lines_of lines) line are.0 are.1.are wrong.0
 
-  same_line : (lines : List ℕ) (m n : ℕ) → requests_of lines ≡ Err m → requests_of lines ≡ Err n → m ≡ n
-  same_line lines m n first second = let e = sym first ∙ second in cc
+  same_line : (lines : List ℕ) (m n : ℕ) → IsFirstWrong m (lines_of lines) → IsFirstWrong n (lines_of lines) → m ≡ n
+  same_line lines m n first second = one_first (lines_of lines) m n first second
 
   -- where all files are of the form, nothing else is called for
   of_forms : OneReading → (cs : List Held) (r : Held) (status : Status) → OfFiles cs (AreCaptureFiles lead) → OfFile r IsRequestFile → IsExact lead cs r status

@@ -3,11 +3,12 @@ use Rattle.std.proofs.Common.{◌≡◌, ℕ, ◌+◌, ◌<◌, ◌≤◌, List,
 use Rattle.std.proofs.lemmas.List.{append-nil}
 use Rattle.std.specs.Str.Lines.{lines}
 use Rattle.rm_edge.specs.Outside.{Held, Untold, Absent, File, OfFile}
-use Rattle.rm_requests.specs.Lines.{TimedDatagram, with_first, requests_from, requests_of, AreRequests, HasTooManyLines, IsWrongAt}
-use Rattle.rm_requests.specs.Reading.{Reached, Agrees, Answers, Passes, beginning, left, lines_left}
+use Rattle.rm_requests.specs.Lines.{TimedDatagram, AreRequests, HasTooManyLines, IsWrongAt}
+use Rattle.rm_requests.specs.Reading.{Reached, Agrees, Answers, Passes, IsWrongNext, beginning, lines_left}
 use Rattle.rm_requests.specs.declared.fault.RequestsFault.{RequestsFault}
 use Rattle.rm_requests.specs.declared.fault.RequestsFault.TheVariants.{Line, TooLong, Read}
-use Rattle.rm_requests.proofs.FileLemmas.{wrong_behind}
+use Rattle.rm_requests.proofs.Steps.{with_first, requests_from, requests_of, left, left_passes, left_wrong, wrong_behind}
+use Rattle.rm_requests.proofs.EachLineLemmas.{are_the_lines, is_first_wrong, good_until}
 use Rattle.rm_probe.specs.Requests.{JudgesRequests}
 
 -- the datagrams that were taken and those that are left, or the first wrong line
@@ -29,11 +30,11 @@ taken_none bytes = record { agrees = refl; are = none (requests_of bytes); all =
     none (Err line) = refl
 
 pub taken_more : (taken : List TimedDatagram) (request : TimedDatagram) (reached new : Reached) (bytes : List ℕ) → HasTaken taken reached bytes → Passes reached new request bytes → new.number ≡ reached.number + 1
-    → HasTaken (taken ++ request ∷ []) new bytes
-taken_more taken request reached new bytes has passes next = record {
+    → reached.last ≤ request.moment → new.last ≡ request.moment → HasTaken (taken ++ request ∷ []) new bytes
+taken_more taken request reached new bytes has passes next order last = record {
   agrees = passes.agrees;
-  are = has.are ∙ ap (behind taken) passes.requests ∙ one_more (left new bytes);
-  all = omega (arith, has.all, passes.lines, next);
+  are = has.are ∙ ap (behind taken) (left_passes reached new request bytes passes next order last) ∙ one_more (left new bytes);
+  all = omega (arith, has.all, ap length passes.first, next);
 }
   where
     one_more : (r : Result (List TimedDatagram) ℕ) → behind taken (with_first request r) ≡ behind (taken ++ request ∷ []) r
@@ -46,18 +47,19 @@ unfolding requests_from
 taken_all taken reached bytes has none few =
     let gone : left reached bytes ≡ Ok [] = ap (requests_from reached.number reached.last) none in record {
       few = omega (arith, has.all, ap length none, few);
-      are = has.are ∙ ap (behind taken) gone ∙ ap Ok (append-nil taken);
+      are = (are_the_lines bytes taken).0 (has.are ∙ ap (behind taken) gone ∙ ap Ok (append-nil taken));
     }
 
 -- the next line is wrong
-pub taken_wrong : (taken : List TimedDatagram) (reached : Reached) (bytes : List ℕ) (line : ℕ) → HasTaken taken reached bytes → left reached bytes ≡ Err line → line ≤ 1000000 → IsWrongAt line bytes
-taken_wrong taken reached bytes line has wrong few = (has.are ∙ ap (behind taken) wrong, few)
+pub taken_wrong : (taken : List TimedDatagram) (reached : Reached) (bytes : List ℕ) (line : ℕ) → HasTaken taken reached bytes → IsWrongNext reached bytes → line ≡ reached.number → line ≤ 1000000 → IsWrongAt line bytes
+taken_wrong taken reached bytes line has wrong here few =
+    ((is_first_wrong bytes line).0 (has.are ∙ ap (behind taken) (left_wrong reached bytes wrong) ∙ ap Err (sym here)), few)
 
 -- the line behind the last that there may be is reached
 pub taken_many : (taken : List TimedDatagram) (reached : Reached) (bytes : List ℕ) → HasTaken taken reached bytes → reached.number ≡ 1000001 → 0 < length (lines_left reached bytes) → HasTooManyLines bytes
 taken_many taken reached bytes has last some = record {
   many = omega (arith, has.all, last, some);
-  good = λ line e. omega (arith, last, wrong_behind reached.number reached.last (lines_left reached bytes) line (wrong_left (left reached bytes) line (sym has.are ∙ e)));
+  good = good_until 1000000 bytes (λ line e. omega (arith, last, wrong_behind reached.number reached.last (lines_left reached bytes) line (wrong_left (left reached bytes) line (sym has.are ∙ e))));
 }
   where
     wrong_left : (r : Result (List TimedDatagram) ℕ) (line : ℕ) → behind taken r ≡ Err line → r ≡ Err line
@@ -71,15 +73,16 @@ pub record Remains (taken asked : List TimedDatagram) (reached : Reached) (bytes
   pub left_are : left reached bytes ≡ Ok more
 
 pub remains : (taken asked : List TimedDatagram) (reached : Reached) (bytes : List ℕ) → HasTaken taken reached bytes → AreRequests bytes asked → Remains taken asked reached bytes
-remains taken asked reached bytes has are = by_left (left reached bytes) refl (sym has.are ∙ are.are)
+remains taken asked reached bytes has are = by_left (left reached bytes) refl (sym has.are ∙ (are_the_lines bytes asked).1 are.are)
   where
     by_left : (r : Result (List TimedDatagram) ℕ) → left reached bytes ≡ r → behind taken r ≡ Ok asked → Remains taken asked reached bytes
     by_left (Ok more) is e = record { more = more; all = cc; left_are = is }
     by_left (Err line) is e = absurd cc
 
 -- a request file has no wrong line, and not too many
-pub wrong_not_asked : (taken asked : List TimedDatagram) (reached : Reached) (bytes : List ℕ) (line : ℕ) → HasTaken taken reached bytes → AreRequests bytes asked → left reached bytes ≡ Err line → ⊥
-wrong_not_asked taken asked reached bytes line has are wrong = let e : Ok asked ≡ Err line = sym are.are ∙ (has.are ∙ ap (behind taken) wrong) in cc
+pub wrong_not_asked : (taken asked : List TimedDatagram) (reached : Reached) (bytes : List ℕ) → HasTaken taken reached bytes → AreRequests bytes asked → IsWrongNext reached bytes → ⊥
+wrong_not_asked taken asked reached bytes has are wrong =
+    let e : Ok asked ≡ Err reached.number = sym ((are_the_lines bytes asked).1 are.are) ∙ (has.are ∙ ap (behind taken) (left_wrong reached bytes wrong)) in cc
 
 pub many_not_asked : (taken asked : List TimedDatagram) (reached : Reached) (bytes : List ℕ) → HasTaken taken reached bytes → AreRequests bytes asked → reached.number ≡ 1000001 → 0 < length (lines_left reached bytes) → ⊥
 many_not_asked taken asked reached bytes has are last some = omega (arith, has.all, are.few, last, some)
@@ -102,7 +105,7 @@ of_file (File bytes) P there p = p bytes refl
 pub refuses : (held : Held) (old new : Reached) (datagram : List ℕ) (fault : RequestsFault) → (held ≡ Absent → fault ≡ Read) → Answers held old new datagram (Err fault)
     → ((bytes : List ℕ) → held ≡ File bytes → (taken : List TimedDatagram) × HasTaken taken old bytes) → JudgesRequests {T = Unit {0}} held (Err fault)
 refuses held old new datagram (Line line) absent (stays, number, few, wrong) file =
-    of_file held (IsWrongAt line) (λ none. let e = absent none in cc) (λ bytes is. let (taken, has) = file bytes is in taken_wrong taken old bytes line has (wrong bytes is has.agrees) few)
+    of_file held (IsWrongAt line) (λ none. let e = absent none in cc) (λ bytes is. let (taken, has) = file bytes is in taken_wrong taken old bytes line has (wrong bytes is has.agrees) number few)
 refuses held old new datagram TooLong absent (stays, last, some) file =
     of_file held HasTooManyLines (λ none. let e = absent none in cc) (λ bytes is. let (taken, has) = file bytes is in taken_many taken old bytes has last (some bytes is has.agrees))
 refuses held old new datagram Read absent stays file = tt

@@ -1,5 +1,5 @@
 -- The first line of a file, of which a window has the front.
-use Rattle.std.proofs.Common.{◌≡◌, ℕ, ◌+◌, ◌-◌, ◌<◌, ◌≤◌, ◌⊎◌, Bool, true, false, List, [], ◌∷◌, length, take, drop, Option, Some, None, Result, Ok, Err, refl, sym, ap, subst, ◌∙◌, arith, position, inl, inr, get_or, nat_lt}
+use Rattle.std.proofs.Common.{◌≡◌, ℕ, ◌+◌, ◌-◌, ◌<◌, ◌≤◌, Bool, true, false, List, [], ◌∷◌, length, take, drop, Option, Some, None, refl, sym, ap, subst, ◌∙◌, arith, position, inl, inr, get_or}
 use Rattle.std.specs.Prelude.{◌==◌, if◌then◌else◌}
 use Rattle.std.specs.List.{position_or_len, slice_index}
 use Rattle.std.specs.Str.Lines.{lines, strip_carriage_return}
@@ -7,13 +7,13 @@ use Rattle.std.proofs.lemmas.Bool.{cases_lt}
 use Rattle.std.proofs.lemmas.List.{drop_all, length-take-le, length-drop, drop-drop, get_or-take}
 use Rattle.std.proofs.lemmas.List.Quantifiers.{position-Some}
 use Rattle.std.proofs.lemmas.List.Sums.{position_or_len_is}
-use Rattle.std.proofs.lemmas.Bool.{lt-ltb, le-ltb}
+use Rattle.std.proofs.lemmas.Bool.{lt-ltb}
 use Rattle.std.proofs.lemmas.Bool.Decides.{nat_tests}
 use Rattle.rm_window.specs.Filling.{IsFront}
 use Rattle.rm_window.proofs.WindowLemmas.{front_of, front_short, front_behind}
-use Rattle.rm_requests.specs.Lines.{TimedDatagram, datagram_of, is_blank, both, parts_of, request_of, requests_from, with_first}
+use Rattle.rm_requests.specs.Lines.{TimedDatagram, datagram_of, is_blank, both, parts_of, request_of}
 use Rattle.rm_edge.specs.Digits.{number_in}
-use Rattle.rm_requests.specs.Reading.{Reached, is_newline, left, lines_left, IsFirst, HoldsLine, IsWrongAfter, Passes}
+use Rattle.rm_requests.specs.Reading.{Reached, is_newline, lines_left, IsFirst, HoldsLine, IsWrongAfter, IsWrongNext, Passes}
 use Rattle.rm_requests.proofs.LineLemmas.{lines_first, lines_last, none_stands}
 
 -- the digits of a moment, and those of a datagram, are so many at most
@@ -147,67 +147,6 @@ wrong_in_file None octets rest line passed stands holds some first is =
       | inr long ↦ long_in_file octets rest holds.front stands (omega (arith, long))
     ]
 
--- what a first line that is that request, or none, makes of lines
-from_first : ℕ → ℕ → List (List ℕ) → Option TimedDatagram → Result (List TimedDatagram) ℕ
-from_first number last more None = Err number
-from_first number last more (Some request) = if nat_lt request.moment last then Err number else with_first request (requests_from (number + 1) request.moment more)
-
-by_first : (number last : ℕ) (line : List ℕ) (more : List (List ℕ)) → requests_from number last (line ∷ more) ≡ from_first number last more (request_of line)
-unfolding requests_from from_first
-by_first number last line more = by_request (request_of line) refl
-  where
-    by_request : (o : Option TimedDatagram) → request_of line ≡ o → requests_from number last (line ∷ more) ≡ from_first number last more o
-    by_request None is = ap (λ (r : Option TimedDatagram). elim r [ None ↦ Err number | Some request ↦ if nat_lt request.moment last then Err number else with_first request (requests_from (number + 1) request.moment more) ]) is
-    by_request (Some request) is = ap (λ (r : Option TimedDatagram). elim r [ None ↦ Err number | Some request ↦ if nat_lt request.moment last then Err number else with_first request (requests_from (number + 1) request.moment more) ]) is
-
--- lines of which the first is wrong
-pub wrong_first : (number last : ℕ) (texts : List (List ℕ)) → BeginsWrong texts → requests_from number last texts ≡ Err number
-unfolding from_first
-wrong_first number last texts begins =
-    ap (requests_from number last) begins.are ∙ by_first number last begins.first begins.more ∙ ap (from_first number last begins.more) begins.wrong
-
--- lines of which the first is a request whose moment falls
-pub falls_first : (number last : ℕ) (texts : List (List ℕ)) (line : List ℕ) (more : List (List ℕ)) (request : TimedDatagram) → texts ≡ line ∷ more → request_of line ≡ Some request → request.moment < last
-    → requests_from number last texts ≡ Err number
-unfolding from_first
-falls_first number last texts line more request are is falls =
-    ap (requests_from number last) are ∙ by_first number last line more ∙ ap (from_first number last more) is ∙ rw (lt-ltb request.moment last falls) refl
-
--- lines of which the first is a request
-pub takes_first : (number last : ℕ) (texts : List (List ℕ)) (line : List ℕ) (more : List (List ℕ)) (request : TimedDatagram) → texts ≡ line ∷ more → request_of line ≡ Some request → last ≤ request.moment
-    → requests_from number last texts ≡ with_first request (requests_from (number + 1) request.moment more)
-unfolding from_first requests_from
-takes_first number last texts line more request are is order =
-    ap (requests_from number last) are ∙ by_first number last line more ∙ ap (from_first number last more) is ∙ rw (le-ltb request.moment last order) refl
-
--- lines that are wrong are so at the first one, or behind it
-first_error : (number last : ℕ) (text : List ℕ) (more : List (List ℕ)) (line : ℕ) → requests_from number last (text ∷ more) ≡ Err line
-    → (number ≡ line) ⊎ ((request : TimedDatagram) × (requests_from (number + 1) request.moment more ≡ Err line))
-unfolding from_first
-first_error number last text more line e = by_request (request_of text) (sym (by_first number last text more) ∙ e)
-  where
-    by_rest : (request : TimedDatagram) (rest : Result (List TimedDatagram) ℕ) → with_first request rest ≡ Err line → rest ≡ Err line
-    by_rest request (Ok more) e = absurd cc
-    by_rest request (Err other) e = e
-
-    by_order : (request : TimedDatagram) (falls : Bool) → (if falls then Err number else with_first request (requests_from (number + 1) request.moment more)) ≡ Err line
-        → (number ≡ line) ⊎ ((request : TimedDatagram) × (requests_from (number + 1) request.moment more ≡ Err line))
-    by_order request true e = inl cc
-    by_order request false e = inr (request, by_rest request (requests_from (number + 1) request.moment more) e)
-
-    by_request : (o : Option TimedDatagram) → from_first number last more o ≡ Err line → (number ≡ line) ⊎ ((request : TimedDatagram) × (requests_from (number + 1) request.moment more ≡ Err line))
-    by_request None e = inl cc
-    by_request (Some request) e = by_order request (nat_lt request.moment last) e
-
-pub wrong_behind : (number last : ℕ) (texts : List (List ℕ)) (line : ℕ) → requests_from number last texts ≡ Err line → number ≤ line
-unfolding requests_from
-wrong_behind number last [] line e = absurd cc
-wrong_behind number last (text ∷ more) line e =
-    elim (first_error number last text more line e) [
-      | inl same ↦ omega (arith, same)
-      | inr (request, rest) ↦ omega (arith, wrong_behind (number + 1) request.moment more line rest)
-    ]
-
 -- octets have a line
 pub has_line : (bytes : List ℕ) → 0 < length bytes → 0 < length (lines bytes)
 has_line bytes some = by_end (position is_newline bytes) refl
@@ -227,24 +166,32 @@ module _ (reached : Reached) (octets line : List ℕ) (passed : ℕ) (bytes : Li
   pub reaches_line : 0 < length (lines_left reached bytes)
   reaches_line = has_line (drop reached.at bytes) (omega (arith, some, front_short octets (drop reached.at bytes) holds.front))
 
-  pub wrong_line : IsWrongAfter reached.last line → left reached bytes ≡ Err reached.number
+  pub wrong_line : IsWrongAfter reached.last line → IsWrongNext reached bytes
   wrong_line wrong = by_request (request_of line) refl
     where
-      by_request : (o : Option TimedDatagram) → request_of line ≡ o → left reached bytes ≡ Err reached.number
-      by_request None is = wrong_first reached.number reached.last (lines_left reached bytes) (wrong_in_file (position is_newline octets) octets (drop reached.at bytes) line passed refl holds some first is)
-      by_request (Some request) is =
-          falls_first reached.number reached.last (lines_left reached bytes) line (lines (drop passed (drop reached.at bytes))) request
-          (first_of_file (position is_newline octets) octets (drop reached.at bytes) line passed request refl holds some first is) is (wrong request is)
+      by_request : (o : Option TimedDatagram) → request_of line ≡ o → IsWrongNext reached bytes
+      by_request None is =
+          let begins = wrong_in_file (position is_newline octets) octets (drop reached.at bytes) line passed refl holds some first is in record {
+            line = begins.first;
+            more = begins.more;
+            first = begins.are;
+            wrong = λ request other. absurd (let e : None ≡ Some request = sym begins.wrong ∙ other in cc);
+          }
+      by_request (Some request) is = record {
+        line = line;
+        more = lines (drop passed (drop reached.at bytes));
+        first = first_of_file (position is_newline octets) octets (drop reached.at bytes) line passed request refl holds some first is;
+        wrong = wrong;
+      }
 
-  pub takes_line : (new : Reached) (request : TimedDatagram) → request_of line ≡ Some request → reached.last ≤ request.moment
-      → new.at ≡ reached.at + passed → new.number ≡ reached.number + 1 → new.last ≡ request.moment → new.read ≡ drop passed octets → Passes reached new request bytes
-  takes_line new request is order at number last read =
+  pub takes_line : (new : Reached) (request : TimedDatagram) → request_of line ≡ Some request → new.at ≡ reached.at + passed → new.read ≡ drop passed octets → Passes reached new request bytes
+  takes_line new request is at read =
       let rest = drop reached.at bytes in
       let are = first_of_file (position is_newline octets) octets rest line passed request refl holds some first is in
       let behind : drop passed rest ≡ drop new.at bytes = drop-drop passed reached.at bytes ∙ ap (λ (n : ℕ). drop n bytes) (sym at) in
       record {
         agrees = rw (read, at) (left_behind octets bytes reached.at passed holds.front (passed_within (position is_newline octets) octets line passed refl first));
-        requests = rw (number, last) (subst (λ (xs : List ℕ). left reached bytes ≡ with_first request (requests_from (reached.number + 1) request.moment (lines xs))) behind
-            (takes_first reached.number reached.last (lines rest) line (lines (drop passed rest)) request are is order));
-        lines = omega (arith, ap length are, ap (λ (xs : List ℕ). length (lines xs)) behind);
+        line = line;
+        first = are ∙ ap (λ (xs : List ℕ). line ∷ lines xs) behind;
+        gives = is;
       }

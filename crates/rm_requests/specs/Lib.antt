@@ -1,4 +1,3 @@
 pub mod Decimal
-pub mod EachLine
 pub mod Lines
 pub mod Reading

@@ -1,7 +1,8 @@
 -- The lines of a request file. A line is a moment in one to ten digits, a blank, and the octets of a datagram as
 -- hexadecimal digits, at most 131070 of them. It ends with a line feed, or with a carriage return and a line
 -- feed; the last line may have no end.
-use Rattle.std.specs.Prelude.{◌≡◌, ◌≤◌, ◌<◌, ℕ, ◌+◌, Bool, ◌==◌, nat_le, nat_lt, if◌then◌else◌, List, [], ◌∷◌, length, take, drop, position, Option, Some, None, Result, Ok, Err}
+use Rattle.std.specs.Prelude.{◌≡◌, ◌≤◌, ◌<◌, ℕ, ◌+◌, ◌-◌, Bool, ◌==◌, nat_le, if◌then◌else◌, List, map, length, take, drop, position, Option, Some, None, Result, Ok, Err}
+use Rattle.std.specs.List.Sorted.{IsNonDecreasingBy}
 use Rattle.std.specs.Str.Lines.{lines}
 use Rattle.hex.specs.Hex.{decode_of}
 use Rattle.hex.specs.declared.error.FromHexError.{FromHexError}
@@ -37,38 +38,31 @@ parts_of (Some blank) line = both (number_in (take blank line)) (datagram_of (dr
 unfoldable pub request_of : List ℕ → Option TimedDatagram
 request_of line = parts_of (position is_blank line) line
 
-abbrev pub with_first : TimedDatagram → Result (List TimedDatagram) ℕ → Result (List TimedDatagram) ℕ
-with_first request (Ok requests) = Ok (request ∷ requests)
-with_first request (Err number) = Err number
+-- the lines are of the form, and each gives one of the requests, in their order, whose moments don't fall
+pub record AreOf (texts : List (List ℕ)) (requests : List TimedDatagram) : Type 0 where
+  pub each : map request_of texts ≡ map Some requests
+  pub order : IsNonDecreasingBy (λ (request : TimedDatagram). request.moment) requests
 
--- The datagrams of lines whose moments don't fall, or the number of the first line that isn't of the form or
--- whose moment is below the one before. The first of these lines has the number given, and the one before it
--- that moment.
-unfoldable pub requests_from : ℕ → ℕ → List (List ℕ) → Result (List TimedDatagram) ℕ
-requests_from number last [] = Ok []
-requests_from number last (line ∷ more) = elim (request_of line) [
-  | None ↦ Err number
-  | Some request ↦ if nat_lt request.moment last then Err number
-      else with_first request (requests_from (number + 1) request.moment more)
-]
+-- that line is the first that isn't of the form or whose moment falls: the lines before it give requests, and with it they don't
+pub record IsFirstWrong (line : ℕ) (texts : List (List ℕ)) : Type 0 where
+  pub some : 1 ≤ line
+  pub within : line ≤ length texts
+  pub before : (requests : List TimedDatagram) × AreOf (take (line - 1) texts) requests
+  pub wrong : (requests : List TimedDatagram) → AreOf (take line texts) requests → ⊥
 
--- the datagrams of a file, or the number of its first wrong line
-abbrev pub requests_of : List ℕ → Result (List TimedDatagram) ℕ
-requests_of bytes = requests_from 1 0 (lines bytes)
-
--- line 1000001 is reached: there is one, and none before it is wrong
+-- line 1000001 is reached: there is one, and the lines before it give requests
 pub record HasTooManyLines (bytes : List ℕ) : Type 0 where
   pub many : 1000000 < length (lines bytes)
-  pub good : (line : ℕ) → requests_of bytes ≡ Err line → 1000000 < line
+  pub good : (requests : List TimedDatagram) × AreOf (take 1000000 (lines bytes)) requests
 
 -- that line is the first that is wrong, among those that there may be
 abbrev pub IsWrongAt : ℕ → List ℕ → Type 0
-IsWrongAt line bytes = (requests_of bytes ≡ Err line) × (line ≤ 1000000)
+IsWrongAt line bytes = IsFirstWrong line (lines bytes) × (line ≤ 1000000)
 
--- a file of at most 1000000 lines with these datagrams
+-- a file of at most 1000000 lines, which give these requests
 pub record AreRequests (bytes : List ℕ) (requests : List TimedDatagram) : Type 0 where
   pub few : length (lines bytes) ≤ 1000000
-  pub are : requests_of bytes ≡ Ok requests
+  pub are : AreOf (lines bytes) requests
 
 -- the octets are a request file
 abbrev pub IsRequestFile : List ℕ → Type 0

@@ -1,10 +1,10 @@
 -- How far a request file was read, and what reading its next line answers.
-use Rattle.std.specs.Prelude.{◌≡◌, ◌<◌, ◌≤◌, ◌+◌, ◌^◌, ◌==◌, ℕ, Bool, List, [], length, take, drop, position, Option, Some, None, Result, Ok, Err}
+use Rattle.std.specs.Prelude.{◌≡◌, ◌<◌, ◌≤◌, ◌+◌, ◌^◌, ◌==◌, ℕ, Bool, List, [], ◌∷◌, length, take, drop, position, Option, Some, None, Result, Ok, Err}
 use Rattle.std.specs.Str.Lines.{lines, strip_carriage_return}
 use Rattle.rm_edge.specs.Outside.{Held, File}
 use Rattle.rm_window.specs.Filling.{IsFront}
 use Rattle.rm_window.specs.Window.{octets_of}
-use Rattle.rm_requests.specs.Lines.{TimedDatagram, request_of, requests_from, with_first}
+use Rattle.rm_requests.specs.Lines.{TimedDatagram, request_of}
 use Rattle.rm_requests.specs.declared.fault.RequestsFault.{RequestsFault}
 use Rattle.rm_requests.specs.declared.fault.RequestsFault.TheVariants.{Line, TooLong, Read}
 use Rattle.rm_requests.specs.declared.requests.Request.{Request}
@@ -55,10 +55,6 @@ Agrees reached bytes = IsFront reached.read (drop reached.at bytes)
 abbrev pub lines_left : Reached → List ℕ → List (List ℕ)
 lines_left reached bytes = lines (drop reached.at bytes)
 
--- the datagrams that are left, or the number of the first wrong line
-abbrev pub left : Reached → List ℕ → Result (List TimedDatagram) ℕ
-left reached bytes = requests_from reached.number reached.last (lines_left reached bytes)
-
 -- nothing was passed, and what was read is kept
 pub record Stays (old new : Reached) : Type 0 where
   pub at : new.at ≡ old.at
@@ -66,11 +62,19 @@ pub record Stays (old new : Reached) : Type 0 where
   pub last : new.last ≡ old.last
   pub read : IsFront old.read new.read
 
--- a request was passed in a file that agrees
+-- a line was passed in a file that agrees, and gives that request
 pub record Passes (old new : Reached) (request : TimedDatagram) (bytes : List ℕ) : Type 0 where
   pub agrees : Agrees new bytes
-  pub requests : left old bytes ≡ with_first request (left new bytes)
-  pub lines : length (lines_left old bytes) ≡ length (lines_left new bytes) + 1
+  pub line : List ℕ
+  pub first : lines_left old bytes ≡ line ∷ lines_left new bytes
+  pub gives : request_of line ≡ Some request
+
+-- the next line isn't of the form, or its moment is below the one before
+pub record IsWrongNext (reached : Reached) (bytes : List ℕ) : Type 0 where
+  pub line : List ℕ
+  pub more : List (List ℕ)
+  pub first : lines_left reached bytes ≡ line ∷ more
+  pub wrong : IsWrongAfter reached.last line
 
 -- the next line is a request, which is passed
 pub record Takes (held : Held) (old new : Reached) (request : Request) (datagram : List ℕ) : Type 0 where
@@ -88,7 +92,7 @@ Answers held old new datagram (Ok (Some request)) = Takes held old new request d
 Answers held old new datagram (Ok None) =
     Stays old new × ((bytes : List ℕ) → held ≡ File bytes → Agrees old bytes → lines_left old bytes ≡ [])
 Answers held old new datagram (Err (Line line)) =
-    Stays old new × (line ≡ old.number) × (line ≤ 1000000) × ((bytes : List ℕ) → held ≡ File bytes → Agrees old bytes → left old bytes ≡ Err line)
+    Stays old new × (line ≡ old.number) × (line ≤ 1000000) × ((bytes : List ℕ) → held ≡ File bytes → Agrees old bytes → IsWrongNext old bytes)
 Answers held old new datagram (Err TooLong) =
     Stays old new × (old.number ≡ 1000001) × ((bytes : List ℕ) → held ≡ File bytes → Agrees old bytes → 0 < length (lines_left old bytes))
 Answers held old new datagram (Err Read) = Stays old new

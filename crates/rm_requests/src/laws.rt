@@ -1,20 +1,7 @@
-// Laws of what the octets of a file are as a request file, and of its numbers. The bodies are empty.
-ghost use Rattle.std.specs.Prelude.{◌≡◌, ◌↔◌, ◌≤◌, ◌<◌, ◌^◌, ℕ, List, length, Some, Ok, Err, decimal};
-ghost use Rattle.std.specs.Str.Lines.{lines};
+// Laws of the numbers of a request file. The bodies are empty.
+ghost use Rattle.std.specs.Prelude.{◌≡◌, ◌↔◌, ◌≤◌, ◌<◌, ◌^◌, ℕ, List, length, Some, decimal};
 ghost use Rattle.rm_edge.specs.Digits.{number_in};
 ghost use Rattle.rm_requests.specs.Decimal.{IsDecimal, HasNoLeadingZero};
-ghost use Rattle.rm_requests.specs.Lines.{TimedDatagram, requests_of};
-ghost use Rattle.rm_requests.specs.EachLine.{AreOf, IsFirstWrong};
-
-/// A law: the requests of a file are those of its lines, one each, whose moments don't fall.
-pub fn requests_are_the_lines()
-    ensures { (bytes : List ℕ) (requests : List TimedDatagram) → (requests_of bytes ≡ Ok requests) ↔ AreOf (lines bytes) requests }
-{}
-
-/// A law: a file is wrong at the first line that isn't of the form or whose moment falls.
-pub fn first_wrong_line()
-    ensures { (bytes : List ℕ) (line : ℕ) → (requests_of bytes ≡ Err line) ↔ IsFirstWrong line (lines bytes) }
-{}
 
 /// A law: a number is read exactly where a text is one to ten decimal digits that are it, and it is below 2^32. Zeros may
 /// stand in front.

@@ -7,8 +7,5 @@ mod lines;
 mod requests;
 
 pub use fault::RequestsFault;
-pub use laws::{
-    first_wrong_line, numbers_are_decimal, numbers_are_written, numbers_read_back,
-    requests_are_the_lines,
-};
+pub use laws::{numbers_are_decimal, numbers_are_written, numbers_read_back};
 pub use requests::{Request, Requests};

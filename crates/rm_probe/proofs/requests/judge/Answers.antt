@@ -26,7 +26,7 @@ loop-fault-preserved g c =
       none = λ absent. absurd (let e = sym c.in-Ok-Some.is ∙ c.next.ensures.absent (i.same c.args.name.now ∙ absent) (i.none absent) in cc);
       file = λ bytes is.
           let (taken, has) = i.file bytes is in
-          (taken ++ request ∷ [], taken_more taken request (reached_of c.loop-fault.requests) (reached_of c.next.new.self) bytes has (takes.passes bytes (i.same c.args.name.now ∙ is) has.agrees) takes.next);
+          (taken ++ request ∷ [], taken_more taken request (reached_of c.loop-fault.requests) (reached_of c.next.new.self) bytes has (takes.passes bytes (i.same c.args.name.now ∙ is) has.agrees) takes.next takes.order takes.moment);
     }
 
 pub returns-in-Ok-None-clause-judged : goal.returns-in-Ok-None-clause-judged

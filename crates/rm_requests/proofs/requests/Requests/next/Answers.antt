@@ -1,4 +1,4 @@
-use Rattle.std.proofs.Common.{◌∙◌, List, ℕ, Err, length, take, drop, sym, ap, subst, arith}
+use Rattle.std.proofs.Common.{◌∙◌, List, ℕ, length, take, drop, sym, ap, subst, arith}
 use Rattle.std.proofs.lemmas.List.{with_items_is}
 use Rattle.rm_window.specs.Window.{octets_of}
 use Rattle.rm_requests.specs.Reading.{reached_of, HoldsLine, IsWrongAfter}
@@ -28,7 +28,7 @@ returns-in_default-read_next-clause-answers g c =
       λ bytes is front.
           let holds = subst (λ (t : List ℕ). HoldsLine t (drop self.at bytes)) (sym c.octets.ensures) (c.in-Ok.ensures.holds bytes is front) in
           wrong_line (reached_of self) c.octets.result.now c.first_line-passed.result.0.now c.first_line-passed.result.1 bytes holds (omega (arith, c.if-len-eq0.false, c.len.ensures, ap length c.octets.ensures)) c.first_line-passed.ensures
-          (subst (λ (last : ℕ). IsWrongAfter last c.first_line-passed.result.0.now) stays.last c.in_default-read_next.ensures) ∙ ap Err (sym stays.number),
+          (subst (λ (last : ℕ). IsWrongAfter last c.first_line-passed.result.0.now) stays.last c.in_default-read_next.ensures),
     )
 
 pub returns-clause-answers : goal.returns-clause-answers
@@ -47,6 +47,6 @@ returns-clause-answers g c =
       passes = λ bytes is front.
           let holds = subst (λ (t : List ℕ). HoldsLine t (drop self.at bytes)) (sym c.octets.ensures) (c.in-Ok.ensures.holds bytes is front) in
           rw kept (takes_line (reached_of self) c.octets.result.now c.first_line-passed.result.0.now c.first_line-passed.result.1 bytes holds (omega (arith, c.if-len-eq0.false, c.len.ensures, ap length c.octets.ensures)) c.first_line-passed.ensures
-          (reached_of c.pass.new.self) (record { moment = c.in-Some.moment; datagram = datagram }) c.in-Some.ensures.3 (omega (arith, c.in-Some.ensures.0, stays.last))
-          (omega (arith, c.pass.ensures.at, stays.at)) (omega (arith, c.pass.ensures.number, stays.number)) c.pass.ensures.last (c.pass.ensures.read ∙ ap (drop c.first_line-passed.result.1) (sym c.octets.ensures)));
+          (reached_of c.pass.new.self) (record { moment = c.in-Some.moment; datagram = datagram }) c.in-Some.ensures.3
+          (omega (arith, c.pass.ensures.at, stays.at)) (c.pass.ensures.read ∙ ap (drop c.first_line-passed.result.1) (sym c.octets.ensures)));
     }
