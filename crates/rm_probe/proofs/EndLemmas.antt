@@ -1,6 +1,5 @@
 -- How the parts of a run make its end.
 use Rattle.std.proofs.Common.{◌≡◌, ◌⊎◌, ℕ, List, [], Option, Result, Ok, Err, refl, sym, ap, ◌∙◌, subst, arith, inl, inr}
-use Rattle.std.specs.Str.Lines.{lines as lines_of}
 use Rattle.rm_edge.specs.Outside.{Held, File, OfFile, AddsFront}
 use Rattle.rm_model.specs.Journal.{Frame}
 use Rattle.rm_pcap.specs.Records.{Stop}
@@ -20,6 +19,7 @@ use Rattle.rm_requests.specs.Lines.{TimedDatagram, AreRequests, HasTooManyLines,
 use Rattle.rm_requests.specs.declared.fault.RequestsFault.{RequestsFault}
 use Rattle.rm_requests.specs.declared.fault.RequestsFault.TheVariants.{Line, TooLong as TooManyLines, Read as ReadFailed}
 use Rattle.rm_requests.proofs.EachLineLemmas.{none_wrong, none_before, one_first}
+use Rattle.std.specs.Str.Lines.{lines as lines_of}
 use Rattle.rm_agent.specs.Orderly.{IsOrderly}
 use Rattle.rm_probe.specs.Said.{lines}
 use Rattle.rm_probe.specs.Output.{adds_none}
