@@ -1,5 +1,5 @@
 -- Replies worked out by hand. Names have one number or two, so that they can be read.
-use Rattle.std.proofs.Common.{◌≡◌, ◌≤◌, ◌<◌, ◌+◌, ◌*◌, ℕ, zero, suc, Bool, true, false, List, [], ◌∷◌, ◌++◌, length, Option, Some, None, refl, subst, arith}
+use Rattle.std.proofs.Common.{◌≡◌, ◌≤◌, ◌<◌, ◌+◌, ◌*◌, ℕ, zero, suc, Bool, true, false, List, [], ◌∷◌, ◌++◌, length, Some, None, refl, subst, arith}
 use Rattle.std.specs.Prelude.{pos, codes, ◌==◌, ◌&&◌, if◌then◌else◌, slice_index}
 use Rattle.rm_val.specs.Val.{int, null, no_object, no_instance, end_of_view}
 use Rattle.rm_ber.specs.Element as elements
@@ -34,7 +34,7 @@ got_size = refl
 pub whole : IsWholeReply (IsGetBinding cells is_object) gets (carrying gets got)
 whole = record {
   answers = got;
-  are = record { first = (refl, refl, refl, tt); all = refl };
+  are = record { first = (refl, (refl, (refl, tt))); all = refl };
   fits = λ _. refl;
   long = λ long. absurd (let much : 1472 < 48 = subst (λ (n : ℕ). 1472 < n) got_size long in omega (arith, much));
 }
@@ -73,7 +73,7 @@ second_repetition : repetition bulks listed 1 ≡ over 2 ∷ over 3 ∷ []
 second_repetition = refl
 
 in_place : AreFirst IsNextOf (names_asked bulks listed) listed
-in_place = (refl, refl, refl, refl, refl, tt)
+in_place = (refl, (refl, (refl, (refl, (refl, tt)))))
 
 going_on : (index : ℕ) → 1 + (index + 1) * 2 < 5 → are_end (repetition bulks listed index) ≡ false
 going_on zero longer = refl
