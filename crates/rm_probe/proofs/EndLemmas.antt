@@ -18,7 +18,7 @@ use Rattle.rm_probe.specs.Capture.{IsFaultless, IsCapture, IsCaptureFile, IsBrok
 use Rattle.rm_requests.specs.Lines.{TimedDatagram, AreRequests, HasTooManyLines, IsFirstWrong, IsRequestFile, IsWrongAt}
 use Rattle.rm_requests.specs.declared.fault.RequestsFault.{RequestsFault}
 use Rattle.rm_requests.specs.declared.fault.RequestsFault.TheVariants.{Line, TooLong as TooManyLines, Read as ReadFailed}
-use Rattle.rm_requests.proofs.EachLineLemmas.{none_wrong, none_before, one_first}
+use Rattle.rm_requests.proofs.EachLineLemmas.{none_wrong, one_first}
 use Rattle.std.specs.Str.Lines.{lines as lines_of}
 use Rattle.rm_agent.specs.Orderly.{IsOrderly}
 use Rattle.rm_probe.specs.Said.{lines}
@@ -286,7 +286,7 @@ module _ (lead : ℕ) where
   not_many lines many are = omega (arith, many.many, are.1.few)
 
   not_both : (lines : List ℕ) (line : ℕ) → HasTooManyLines lines → IsWrongAt line lines → ⊥
-  not_both lines line many wrong = none_before (lines_of lines) 1000000 line many.good.0 many.good.1 wrong.1 wrong.0
+  not_both lines line many wrong = omega (arith, many.good line wrong.0, wrong.1)
 
   not_wrong : (lines : List ℕ) (line : ℕ) → IsWrongAt line lines → IsRequestFile lines → ⊥
   not_wrong lines line wrong are = none_wrong (lines_of lines) line are.0 are.1.are wrong.0

@@ -8,7 +8,7 @@ use Rattle.rm_requests.specs.Reading.{Reached, Agrees, Answers, Passes, IsWrongN
 use Rattle.rm_requests.specs.declared.fault.RequestsFault.{RequestsFault}
 use Rattle.rm_requests.specs.declared.fault.RequestsFault.TheVariants.{Line, TooLong, Read}
 use Rattle.rm_requests.proofs.Steps.{with_first, requests_from, requests_of, left, left_passes, left_wrong, wrong_behind}
-use Rattle.rm_requests.proofs.EachLineLemmas.{are_the_lines, is_first_wrong, good_until}
+use Rattle.rm_requests.proofs.EachLineLemmas.{are_the_lines, is_first_wrong}
 use Rattle.rm_probe.specs.Requests.{JudgesRequests}
 
 -- the datagrams that were taken and those that are left, or the first wrong line
@@ -59,7 +59,7 @@ taken_wrong taken reached bytes line has wrong here few =
 pub taken_many : (taken : List TimedDatagram) (reached : Reached) (bytes : List ℕ) → HasTaken taken reached bytes → reached.number ≡ 1000001 → 0 < length (lines_left reached bytes) → HasTooManyLines bytes
 taken_many taken reached bytes has last some = record {
   many = omega (arith, has.all, last, some);
-  good = good_until 1000000 bytes (λ line e. omega (arith, last, wrong_behind reached.number reached.last (lines_left reached bytes) line (wrong_left (left reached bytes) line (sym has.are ∙ e))));
+  good = λ line first. omega (arith, last, wrong_behind reached.number reached.last (lines_left reached bytes) line (wrong_left (left reached bytes) line (sym has.are ∙ (is_first_wrong bytes line).1 first)));
 }
   where
     wrong_left : (r : Result (List TimedDatagram) ℕ) (line : ℕ) → behind taken r ≡ Err line → r ≡ Err line

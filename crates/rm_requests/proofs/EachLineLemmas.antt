@@ -162,15 +162,11 @@ front_gives n texts requests are = record {
 pub none_wrong : (texts : List (List ℕ)) (line : ℕ) (requests : List TimedDatagram) → AreOf texts requests → IsFirstWrong line texts → ⊥
 none_wrong texts line requests are first = first.wrong (take line requests) (front_gives line texts requests are)
 
--- nor where the first lines do
-pub none_before : (texts : List (List ℕ)) (n line : ℕ) (requests : List TimedDatagram) → AreOf (take n texts) requests → line ≤ n → IsFirstWrong line texts → ⊥
-none_before texts n line requests are within first =
-    let fronts : take line (take n texts) ≡ take line texts = take-take line n texts within in
-    first.wrong (take line requests) (subst (λ (ts : List (List ℕ)). AreOf ts (take line requests)) fronts (front_gives line (take n texts) requests are))
-
 -- of two lines that are the first wrong ones none is below the other
 not_below : (texts : List (List ℕ)) (line other : ℕ) → IsFirstWrong line texts → IsFirstWrong other texts → line < other → ⊥
-not_below texts line other first second below = none_before texts (other - 1) line second.before.0 second.before.1 (omega (arith, below)) first
+not_below texts line other first second below =
+    let fronts : take line (take (other - 1) texts) ≡ take line texts = take-take line (other - 1) texts (omega (arith, below)) in
+    first.wrong (take line second.before.0) (subst (λ (ts : List (List ℕ)). AreOf ts (take line second.before.0)) fronts (front_gives line (take (other - 1) texts) second.before.0 second.before.1))
 
 pub one_first : (texts : List (List ℕ)) (line other : ℕ) → IsFirstWrong line texts → IsFirstWrong other texts → line ≡ other
 one_first texts line other first second = elim (cases_lt line other) [
@@ -192,15 +188,3 @@ is_first_wrong bytes line = (fault (lines bytes) line (outcome 1 0 (lines bytes)
 -- lines give one list of requests
 pub one_list : (bytes : List ℕ) (requests others : List TimedDatagram) → AreOf (lines bytes) requests → AreOf (lines bytes) others → requests ≡ others
 one_list bytes requests others are also = let both : Ok requests ≡ Ok others = sym ((are_the_lines bytes requests).1 are) ∙ (are_the_lines bytes others).1 also in cc
-
--- the lines up to one give requests where none of them is wrong
-pub good_until : (n : ℕ) (bytes : List ℕ) → ((line : ℕ) → requests_of bytes ≡ Err line → n < line) → (requests : List TimedDatagram) × AreOf (take n (lines bytes)) requests
-good_until n bytes good = by_outcome (outcome 1 0 (lines bytes))
-  where
-    by_outcome : Outcome 1 0 (lines bytes) → (requests : List TimedDatagram) × AreOf (take n (lines bytes)) requests
-    by_outcome (all requests read are) = (take n requests, front_gives n (lines bytes) requests (at_start (lines bytes) requests are))
-    by_outcome (fails k read wrong) =
-        let within : n ≤ k = omega (arith, good (1 + k) read) in
-        let before = wrong.before.0 in
-        let are = front_gives n (take k (lines bytes)) before (at_start (take k (lines bytes)) before wrong.before.1) in
-        (take n before, subst (λ (ts : List (List ℕ)). AreOf ts (take n before)) (take-take n k (lines bytes) within) are)

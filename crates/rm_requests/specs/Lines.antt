@@ -50,10 +50,10 @@ pub record IsFirstWrong (line : ℕ) (texts : List (List ℕ)) : Type 0 where
   pub before : (requests : List TimedDatagram) × AreOf (take (line - 1) texts) requests
   pub wrong : (requests : List TimedDatagram) → AreOf (take line texts) requests → ⊥
 
--- line 1000001 is reached: there is one, and the lines before it give requests
+-- line 1000001 is reached: there is one, and none before it is wrong
 pub record HasTooManyLines (bytes : List ℕ) : Type 0 where
   pub many : 1000000 < length (lines bytes)
-  pub good : (requests : List TimedDatagram) × AreOf (take 1000000 (lines bytes)) requests
+  pub good : (line : ℕ) → IsFirstWrong line (lines bytes) → 1000000 < line
 
 -- that line is the first that is wrong, among those that there may be
 abbrev pub IsWrongAt : ℕ → List ℕ → Type 0
