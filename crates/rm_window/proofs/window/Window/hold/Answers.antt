@@ -37,9 +37,7 @@ returns-then-have-need-clause-unread g c = λ enough. refl
 
 -- a read failed
 pub returns-in_err-count-clause-few : goal.returns-in_err-count-clause-few
-returns-in_err-count-clause-few g c =
-    let p = err_from_is_err_and c.from_residual.result c.from_residual.ensures.1 in
-    rw (p.1, p.2) (omega (arith, c.if-have-need.false, c.len-have.ensures))
+returns-in_err-count-clause-few g c = rw ((err_from_is_err_and c.from_residual.result c.from_residual.ensures.1).1) (omega (arith, c.if-have-need.false, c.len-have.ensures))
 
 pub returns-in_err-count-clause-same : goal.returns-in_err-count-clause-same
 returns-in_err-count-clause-same g c = λ enough. absurd (omega (arith, enough, c.if-have-need.false, c.len-have.ensures))
