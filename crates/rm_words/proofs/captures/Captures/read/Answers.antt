@@ -10,10 +10,10 @@ returns c =
     (c.in_ok-if3.ensures.1, c.in_ok-if4.ensures.1)
 
 pub returns-in_err-if2 : goal.returns-in_err-if2
-returns-in_err-if2 c = no_second _ c.args.capture.now c.in_err-if2.ensures
+returns-in_err-if2 c = rw c.from_residual.ensures (no_second _ c.args.capture.now c.in_err-if2.ensures)
 
 pub returns-in_err-if3 : goal.returns-in_err-if3
-returns-in_err-if3 c = no_third _ c.args.capture.now c.in_ok-if2.if2 c.in_ok-if2.ensures c.in_err-if3.ensures
+returns-in_err-if3 c = rw c.from_residual-in_err-if3.ensures (no_third _ c.args.capture.now c.in_ok-if2.if2 c.in_ok-if2.ensures c.in_err-if3.ensures)
 
 pub returns-in_err-if4 : goal.returns-in_err-if4
-returns-in_err-if4 c = no_fourth _ c.args.capture.now c.in_ok-if3.if3 c.in_ok-if3.ensures.0 c.in_err-if4.ensures
+returns-in_err-if4 c = rw c.from_residual-in_err-if4.ensures (no_fourth _ c.args.capture.now c.in_ok-if3.if3 c.in_ok-if3.ensures.0 c.in_err-if4.ensures)
