@@ -1,4 +1,4 @@
-ghost use Rattle.std.specs.Prelude.{◌≡◌, ◌≤◌, ◌<◌, ◌+◌, ℕ, List, length, drop, None, Some, IfOk, IfErr, IfSome, MatchResult, if◌then◌else◌, ⊥};
+ghost use Rattle.std.specs.Prelude.{◌≡◌, ◌≤◌, ◌<◌, ◌+◌, ℕ, List, length, drop, None, Some, IfOk, IfErr, IfSome, MatchResult, if◌then◌else◌};
 ghost use Rattle.rm_edge.specs.Outside.{File, Rose};
 ghost use Rattle.rm_edge.specs.Shelves.{KeepsShelf};
 ghost use Rattle.rm_pcap.specs.Records.{Broken, IsThere, Stops, fault_at, is_late, moment_at, time_of, found_at, found_in};

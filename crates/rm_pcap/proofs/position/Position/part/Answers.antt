@@ -93,7 +93,7 @@ pub returns-in_err-lengths-clause-faultless : goal.returns-in_err-lengths-clause
 returns-in_err-lengths-clause-faultless g c =
     let p = err_from_is_err_and c.from_residual.result c.from_residual.ensures.1 in
     let position = c.args.self in
-    rw (p.1, p.2)
+    rw p.1
     (λ there.
     let same = c.hold.ensures.same (omega (arith, there.long)) in
     fault_there position.form position.start position.reach c.octets.result.now (octets_of c.args.window.now) c.in_err-lengths.field-0.0 (c.octets.ensures ∙ same) there
