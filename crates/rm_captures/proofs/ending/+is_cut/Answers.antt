@@ -1,4 +1,4 @@
-use Rattle.std.proofs.Common.{◌≡◌, List, [], Err, ap, subst, sym}
+use Rattle.std.proofs.Common.{◌≡◌, ◌∙◌, List, [], Err, ap, subst, sym}
 use Rattle.rm_edge.proofs.Keeping.{keeps_more, keeps_then}
 use Rattle.rm_pcap.specs.declared.fault.PcapFault.{PcapFault}
 use Rattle.rm_pcap.specs.declared.fault.PcapFault.TheVariants.{Read}
@@ -27,14 +27,14 @@ returns-in-Ok-true-clause-ends g t c = λ files stop are left.
     let all = ap texts c.in-Some.ensures.cases.0 in
     let (bytes, more, end, is, held, leaves, behind) = left_split _ c.in-Some.name.now.now (texts c.in-Some.names.now) c.args.interface c.in-Some-split_first_mut.capture.now c.in-Some-split_first_mut.captures.now files stop
     (held_split _ _ files _ _ all are) (subst (λ (cs : List Capture). AreLeft c.args.interface cs files [] stop) c.in-Some-split_first_mut.ensures.cases.0 left) in
-    sym (behind.cuts (sym (c.in-Ok-true.ensures.ends c.args.interface bytes end is leaves)))
+    sym (behind.cuts (sym (c.in-Ok-true.ensures.ends c.args.interface bytes end is leaves) ∙ c.in-Ok-true.field-0-test))
 
 pub returns-in-Ok-false-clause-ends : goal.returns-in-Ok-false-clause-ends
 returns-in-Ok-false-clause-ends g t c = λ files stop are left.
     let all = ap texts c.in-Some.ensures.cases.0 in
     let (bytes, more, end, is, held, leaves, behind) = left_split _ c.in-Some.name.now.now (texts c.in-Some.names.now) c.args.interface c.in-Some-split_first_mut.capture.now c.in-Some-split_first_mut.captures.now files stop
     (held_split _ _ files _ _ all are) (subst (λ (cs : List Capture). AreLeft c.args.interface cs files [] stop) c.in-Some-split_first_mut.ensures.cases.0 left) in
-    end_behind stop behind.rest c.is_cut.result (behind.ends (sym (c.in-Ok-false.ensures.ends c.args.interface bytes end is leaves)))
+    end_behind stop behind.rest c.is_cut.result (behind.ends (sym (c.in-Ok-false.ensures.ends c.args.interface bytes end is leaves) ∙ c.in-Ok-false.field-0-test))
     (c.is_cut.ensures.ends more behind.rest (held_still _ _ _ more c.ends_cut.ensures.shelf.constant held) behind.left)
 
 pub returns-in-Ok-false-clause-shelf : goal.returns-in-Ok-false-clause-shelf
