@@ -5,8 +5,6 @@ use Rattle.std.proofs.lemmas.Bool.Decides.{nat_tests}
 use Rattle.rm_model.specs.Counting.{Counting}
 use Rattle.rm_model.specs.Alike.{HasSameColumns}
 use Rattle.rm_model.specs.ControlRows.{is_absent}
-use Rattle.rm_model.specs.Judgement.{is_row_number}
-use Rattle.rm_model.specs.declared.interface.TheConstants.{INTERFACES}
 use Rattle.rm_model.specs.declared.row.State.TheVariants.{Absent, Valid}
 use Rattle.rm_status.specs.declared.row.Row.{Row}
 use Rattle.rm_status.specs.Rows.{row_in, state_seen, columns_seen}
@@ -33,12 +31,6 @@ pub record IsBegunTo (number : ℕ) (rows : List (Row StatisticsRow)) : Type 0 w
   pub rows_are : (i : ℕ) → row_in rows i ≡ cond (nat_le 1 i && nat_lt i number) (Some (row_at i)) None
   pub few : length rows + 1 ≡ number
 
-pub begun_none : (rows : List (Row StatisticsRow)) → rows ≡ [] → IsBegunTo 1 rows
-begun_none rows none = rw none (record { first = omega arith; rows_are = λ i. rw (no_one i) refl; few = refl })
-  where
-    no_one : (i : ℕ) → (nat_le 1 i && nat_lt i 1) ≡ false
-    no_one i = grind (arith, nat_tests)
-
 pub begun_more : (number : ℕ) (old new : List (Row StatisticsRow)) → IsBegunTo number old → ((i : ℕ) → row_in new i ≡ cond (nat_eq number i) (Some (row_at number)) (row_in old i)) → length new ≡ length old + 1
     → IsBegunTo (number + 1) new
 begun_more number old new was rows longer = record {
@@ -58,18 +50,6 @@ begun_more number old new was rows longer = record {
     by_number i false here is =
         let alike : (nat_le 1 i && nat_lt i number) ≡ (nat_le 1 i && nat_lt i (number + 1)) = grind (arith, nat_tests, here) in
         is ∙ (was.rows_are i ∙ ap (λ (t : Bool). cond t (Some (row_at i)) None) alike)
-
--- the number that comes next is that of a row, and there is none with it yet
-pub is_next_number : (number : ℕ) → 1 ≤ number → number ≤ INTERFACES → is_row_number ether_stats number ≡ true
-is_next_number number some few =
-    let low : number ≤ 65535 = omega (arith, few) in
-    let is : (nat_le 1 number && nat_le number 65535) ≡ true = grind (arith, nat_tests, some, low) in
-    is
-
-pub none_yet : (number : ℕ) (rows : List (Row StatisticsRow)) → IsBegunTo number rows → row_in rows number ≡ None
-none_yet number rows begun =
-    let above : (nat_le 1 number && nat_lt number number) ≡ false = grind (arith, nat_tests) in
-    begun.rows_are number ∙ ap (λ (t : Bool). cond t (Some (row_at number)) None) above
 
 -- all of them, so many
 pub begun_all : (n number : ℕ) (rows : List (Row StatisticsRow)) → number ≡ n + 1 → IsBegunTo number rows

@@ -1,27 +1,22 @@
-use Rattle.std.proofs.Common.{◌≡◌, ◌+◌, ◌<◌, length, refl, arith}
-use Rattle.rm_ether.proofs.Begins.{begun_none, begun_more, begun_all, is_next_number, none_yet, stands_at_first}
+use Rattle.std.proofs.Common.{◌≡◌, ℕ, ◌+◌, Some, None, cond, refl, arith}
+use Rattle.rm_status.specs.Rows.{row_in}
+use Rattle.rm_ether.proofs.Begins.{begun_all, begun_more, is_one, row_at, stands_at_first}
+use Rattle.rm_ether.proofs.ether.Ether.new.Goals.{else-loop-number-test, then-loop-number-test+else-number-interfaces}
 use Rattle.rm_ether.proofs.ether.Ether.new.Goals as goal
 
-pub loop-number-init : goal.loop-number-init
-loop-number-init c = begun_none _ c.new-rows.ensures
-
-pub insert-requires-clause-index : goal.insert-requires-clause-index
-insert-requires-clause-index c = is_next_number c.loop-number.number c.loop-number.invariant.first (omega (arith, c.loop-number-test.true, c.requires.few))
-
-pub insert-requires-clause-absent : goal.insert-requires-clause-absent
-insert-requires-clause-absent c = none_yet c.loop-number.number c.loop-number.rows c.loop-number.invariant
-
--- the table has room for sixteen rows
-pub insert-requires-clause-room : goal.insert-requires-clause-room
-insert-requires-clause-room c =
-    let short : length c.loop-number.rows < 16 = omega (arith, c.loop-number.invariant.few, c.loop-number-test.true, c.requires.few) in
-    short
-
-pub loop-number-preserved : goal.loop-number-preserved
-loop-number-preserved c =
-    begun_more c.loop-number.number _ _ c.loop-number.invariant (λ i. rw (c.of_monitor.ensures) at (c.insert.ensures.rows i)) c.insert.ensures.one_more
-
+-- the loop ends with no interface at all, or after the last one
 pub returns-clause-stands : goal.returns-clause-stands
 returns-clause-stands c settings so_many =
-    let all : c.loop-number.number ≡ c.args.interfaces + 1 = omega (arith, c.loop-number-test.false, c.loop-number.auto.number-end (omega arith)) in
-    stands_at_first settings c.args.interfaces so_many c.loop-number.rows (begun_all c.args.interfaces c.loop-number.number c.loop-number.rows all c.loop-number.invariant) _ refl
+    let interfaces = c.args.interfaces in
+    let number = c.loop-number.number in
+    let all : (i : ℕ) → row_in c.loop-number-test.rows i ≡ cond (is_one interfaces i) (Some (row_at i)) None =
+    elim c.loop-number-test.branch [
+      | else-loop-number-test w ↦
+          let past : number ≡ interfaces + 1 = omega (arith, w.loop-number-test.false, c.loop-number.invariant.within) in
+          rw w.rows-is (begun_all interfaces number c.loop-number.rows past c.loop-number.invariant.begun)
+      | then-loop-number-test+else-number-interfaces w ↦
+          let last : number + 1 ≡ interfaces + 1 = omega (arith, w.loop-number-test.true) in
+          let more = begun_more number _ _ c.loop-number.invariant.begun (λ i. rw w.of_monitor.ensures at (w.insert.ensures.rows i)) w.insert.ensures.one_more in
+          rw w.rows-is (begun_all interfaces (number + 1) w.insert.new.self last more)
+    ] in
+    stands_at_first settings interfaces so_many c.loop-number-test.rows all _ refl
