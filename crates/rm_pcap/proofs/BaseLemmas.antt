@@ -18,7 +18,7 @@ use Rattle.rm_pcap.specs.declared.record.Seen.TheVariants.{Whole as SeenWhole, E
 use Rattle.rm_pcap.specs.Records.{Found, Whole, Stops, Stop, Ended, CutAt, Broken, IsThere, found_at, found_in, found_with, fault_at, first_of, first_in, first_with, is_late, included_of, time_of, frame_at, reach_after, beginning}
 use Rattle.rm_pcap.specs.Progress.{Progress, Agrees, HasRead, IsUnseen, next_in, with_base, based_at, reading}
 use Rattle.rm_pcap.specs.Calls.{IsBroken, IsFaultAt, IsFirst, IsFirstRecordFault, LooksFirst}
-use Rattle.rm_pcap.specs.Seen.{lengths_of, IsWholePart}
+use Rattle.rm_pcap.specs.Seen.{IsWholePart}
 use Rattle.rm_pcap.specs.View.{progress_of, ahead_of}
 use Rattle.rm_window.specs.Filling.{IsFront}
 use Rattle.rm_window.specs.Window.{octets_of}

@@ -1,5 +1,5 @@
 -- What stands next in a file, by the octets that were read of it.
-use Rattle.std.proofs.Common.{◌≡◌, ℕ, ◌+◌, ◌≤◌, ◌<◌, nat_lt, Bool, true, false, if◌then◌else◌, List, [], ◌∷◌, length, take, drop, Option, Some, None, refl, sym, ap, subst, ◌∙◌, arith}
+use Rattle.std.proofs.Common.{◌≡◌, ℕ, ◌+◌, ◌≤◌, ◌<◌, nat_lt, Bool, true, false, if◌then◌else◌, List, [], ◌∷◌, length, take, drop, Some, None, refl, sym, ap, subst, ◌∙◌, arith}
 use Rattle.std.proofs.lemmas.Bool.Decides.{nat_tests}
 use Rattle.rm_pcap.specs.declared.form.Form.{Form}
 use Rattle.rm_pcap.specs.declared.start.Start.{Start}
@@ -10,7 +10,7 @@ use Rattle.rm_pcap.specs.declared.record.Lengths.{Lengths}
 use Rattle.rm_pcap.specs.declared.record.Record.{Record}
 use Rattle.rm_pcap.specs.Records.{Whole, Stops, Ended, CutAt, Broken, found_at, found_in, found_with, fault_at, is_late, included_of, frame_at, reach_after}
 use Rattle.rm_window.specs.Filling.{IsFront, Holds}
-use Rattle.rm_pcap.specs.Seen.{lengths_of, record_of, frame_seen, AreSound, IsWholeIn, IsWholePart, IsCutPart, within, behind}
+use Rattle.rm_pcap.specs.Seen.{lengths_of, record_of, frame_seen, IsWholeIn, IsWholePart, IsCutPart, within, behind}
 use Rattle.rm_pcap.proofs.FrontLemmas.{lengths_front, record_front, late_front, fault_front}
 use Rattle.rm_window.proofs.WindowLemmas.{front_of, front_short, between_front}
 

@@ -1,4 +1,4 @@
-use Rattle.std.proofs.Common.{◌≡◌, ◌∙◌, length, ap, arith, sym}
+use Rattle.std.proofs.Common.{length, ap, arith, sym}
 use Rattle.rm_captures.proofs.EndingLemmas.{more_passed, none_passed}
 use Rattle.rm_captures.proofs.counting.+passed.Goals as goal
 

@@ -1,4 +1,4 @@
-use Rattle.std.proofs.Common.{List, ℕ, subst, sym}
+use Rattle.std.proofs.Common.{subst, sym}
 use Rattle.rm_window.specs.Window.{octets_of}
 use Rattle.rm_pcap.specs.Progress.{Progress, Agrees, HasRead}
 use Rattle.rm_pcap.specs.View.{progress_of}
