@@ -1,5 +1,5 @@
 -- How the parts of a run make its end.
-use Rattle.std.proofs.Common.{◌≡◌, ◌⊎◌, ℕ, List, [], Option, Result, Ok, Err, refl, sym, ap, ◌∙◌, subst, arith, inl, inr}
+use Rattle.std.proofs.Common.{◌≡◌, ◌⊎◌, ℕ, List, [], map, Option, Ok, Err, refl, sym, ap, ◌∙◌, subst, arith, inl, inr}
 use Rattle.rm_edge.specs.Outside.{Held, File, OfFile, AddsFront}
 use Rattle.rm_model.specs.Journal.{Frame}
 use Rattle.rm_pcap.specs.Records.{Stop}
@@ -14,7 +14,7 @@ use Rattle.rm_captures.specs.declared.fault.CaptureFault.{CaptureFault}
 use Rattle.rm_captures.proofs.PassLemmas.{all_left}
 use Rattle.rm_captures.proofs.RoundLemmas.{held_still}
 use Rattle.rm_settings.specs.declared.settings.Settings.{Settings}
-use Rattle.rm_probe.specs.Capture.{IsFaultless, IsCapture, IsCaptureFile, IsBroken, CallsFor, status_of}
+use Rattle.rm_probe.specs.Capture.{AreTold, CallsFor, HasReadFaults, helds_of, status_by, status_of}
 use Rattle.rm_requests.specs.Lines.{TimedDatagram, AreRequests, HasTooManyLines, IsFirstWrong, IsRequestFile, IsWrongAt}
 use Rattle.rm_requests.specs.declared.fault.RequestsFault.{RequestsFault}
 use Rattle.rm_requests.specs.declared.fault.RequestsFault.TheVariants.{Line, TooLong as TooManyLines, Read as ReadFailed}

@@ -182,9 +182,9 @@ module _ (settings : Settings) where
       (held : Held) (reached reached' : Reached) (datagram file : List ℕ) (fault : RequestsFault)
       → InRun files frames stop taken captures probe said → held ≡ File file → HasTaken taken reached file → AreRequests file asked → Answers held reached reached' datagram (Err fault)
       → SaysRun {T = Unit {0}} settings frames stop asked said (Err (status_by fault))
-  requests_stop every bytes frames stop taken asked progress probe said held reached reached' datagram file (Line line) r is has are (stays, number, few, wrong) =
+  requests_stop every files frames stop taken asked captures probe said held reached reached' datagram file (Line line) r is has are (stays, number, few, wrong) =
       absurd (wrong_not_asked taken asked reached file has are (wrong file is has.agrees))
-  requests_stop every bytes frames stop taken asked progress probe said held reached reached' datagram file TooManyLines r is has are (stays, last, some) =
+  requests_stop every files frames stop taken asked captures probe said held reached reached' datagram file TooManyLines r is has are (stays, last, some) =
       absurd (many_not_asked taken asked reached file has are last (some file is has.agrees))
   requests_stop every files frames stop taken asked captures probe said held reached reached' datagram file ReadFailed r is has are stays =
       let rest = remains taken asked reached file has are in

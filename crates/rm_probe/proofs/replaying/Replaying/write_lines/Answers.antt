@@ -65,10 +65,10 @@ loop-asked-preserved g c =
             let has = i.file lines is in
             taken_more i.taken request old new lines has
             (subst (λ (d : List ℕ). let r : TimedDatagram = record { moment = c.in-Ok-Some.asked.moment; datagram = d } in Passes old new r lines) (sym c.datagram.ensures) (takes.passes lines (i.same c.args.requests.now ∙ is) has.agrees)) takes.next takes.order takes.moment;
-        run = λ bytes frames stop is left none.
-            let r = i.run bytes frames stop is left none in
-            let one = goes bytes r.left stop r.journal (c.in-Ok-Some.ensures.shelf.constant c.args.name.now ∙ (i.same c.args.name.now ∙ is)) r.records_left r.stands in
-            next_said (settings_of c.args.self.now.probe) bytes frames stop i.taken (progress_of c.loop-asked.self.capture) (progress_of c.write_answer.new.self.capture) c.loop-asked.self.probe c.write_answer.new.self.probe
+        run = λ files frames stop are left.
+            let r = i.run files frames stop are left in
+            let one = goes files r.left stop r.journal (held_still _ _ _ files c.in-Ok-Some.ensures.shelf.constant (held_still _ _ _ files i.same are)) r.records_left r.stands in
+            next_said (settings_of c.args.self.now.probe) files frames stop i.taken c.loop-asked.self.captures.items c.handle_to.new.self.captures.items c.loop-asked.self.probe c.handle_to.new.self.probe
             said next c.in-Ok-Some.asked.number request r (takes.number ∙ i.number) (rw i.settings_same at one);
       },
       says_both g.O.Notes.since c.args.out.now c.loop-asked.out c.handle_to.new.out _ _ says more,
@@ -91,13 +91,13 @@ returns-in-Err-handle_to-clause-says g c =
           let has = i.file lines isr in
           let later = taken_more i.taken request old new lines has
           (subst (λ (d : List ℕ). let r : TimedDatagram = record { moment = c.in-Ok-Some.asked.moment; datagram = d } in Passes old new r lines) (sym c.datagram.ensures) (takes.passes lines (i.same c.args.requests.now ∙ isr) has.agrees)) takes.next takes.order takes.moment in
-          let rest = remains (i.taken ++ request ∷ []) asked new lines later are in
-          let step = goes bytes r.left stop r.journal (c.in-Ok-Some.ensures.shelf.constant c.args.name.now ∙ (i.same c.args.name.now ∙ is)) r.records_left r.stands in
-          subst (λ (rs : List TimedDatagram). SaysRun {T = Unit {0}} settings frames stop rs (said ++ next) (Err c.in-Err-write_answer.status)) (sym (rest.all ∙ append_assoc i.taken (request ∷ []) rest.more))
-          (answer_stops settings c.something_said.ensures bytes frames stop i.taken rest.more (progress_of c.loop-asked.self.capture) (progress_of c.write_answer.new.self.capture) c.loop-asked.self.probe c.write_answer.new.self.probe
-          said next c.in-Ok-Some.asked.number request r (takes.number ∙ i.number) faultless c.in-Err-write_answer.status
-          (subst (λ (s : Settings). SaysNext {T = Unit {0}} (IsNextSaid bytes (progress_of c.loop-asked.self.capture) (progress_of c.write_answer.new.self.capture) s c.write_answer.new.self.probe c.in-Ok-Some.asked.number request r.left stop r.journal) (HasBegun s request.moment r.left r.journal) stop
-          next (Err c.in-Err-write_answer.status)) i.settings_same step)),
+          let rest = remains (i.taken ++ request ∷ []) asked new lines later requests in
+          let step = goes files r.left stop r.journal (held_still _ _ _ files c.in-Ok-Some.ensures.shelf.constant (held_still _ _ _ files i.same are)) r.records_left r.stands in
+          subst (λ (rs : List TimedDatagram). SaysRun {T = Unit {0}} settings frames stop rs (said ++ next) (Err c.in-Err-handle_to.status)) (sym (rest.all ∙ append_assoc i.taken (request ∷ []) rest.more))
+          (answer_stops settings c.something_said.ensures files frames stop i.taken rest.more c.loop-asked.self.captures.items c.handle_to.new.self.captures.items c.loop-asked.self.probe c.handle_to.new.self.probe
+          said next c.in-Ok-Some.asked.number request r (takes.number ∙ i.number) c.in-Err-handle_to.status
+          (subst (λ (s : Settings). SaysNext {T = Unit {0}} (IsNextSaid files c.loop-asked.self.captures.items c.handle_to.new.self.captures.items s c.handle_to.new.self.probe c.in-Ok-Some.asked.number request r.left stop r.journal) (HasBegun s request.moment r.left r.journal)
+          next (Err c.in-Err-handle_to.status)) i.settings_same step)),
     )
 
 pub returns-in-Err-handle_to-clause-finds : goal.returns-in-Err-handle_to-clause-finds
@@ -126,7 +126,7 @@ returns-in-Ok-None-clause-says g c =
           let r = i.run files frames stop are left in
           let has = i.file lines isr in
           let taken = taken_all i.taken (reached_of c.loop-asked.reader) lines has (gone lines (i.same c.args.requests.now ∙ isr) has.agrees) i.few in
-          let all : asked ≡ i.taken = one_list lines asked i.taken are.are taken.are in
+          let all : asked ≡ i.taken = one_list lines asked i.taken requests.are taken.are in
           let count : (reached_of c.next.new.self).number - 1 ≡ length i.taken = omega (arith, stays.number, i.number) in
           let step = goes files r.left stop r.journal (held_still _ _ _ files c.in-Ok-None.ensures.shelf.constant (held_still _ _ _ files i.same are)) r.records_left r.stands in
           subst (λ (rs : List TimedDatagram). SaysRun settings frames stop rs (said ++ last) c.write_last.result) (sym all)
