@@ -240,15 +240,15 @@ record OneStep (old new : Progress) (lent : Lent) : Type 0 where
   pub most : lent.original ≤ 262144
 
 one_step : (held : Held) (old new : Progress) (lent : Lent) → Steps held old new (Ok (Next lent)) → OneStep old new lent
-one_step held old new lent (StopsAt stop, passes, shows) = absurd shows
-one_step held old new lent (Whole frame after, passes, shows) =
-    let lawful : IsLawful old.reach frame after = passes.finds.lawful in
+one_step held old new lent (StopsAt stop, moves, shows) = absurd shows
+one_step held old new lent (Whole frame after, moves, shows) =
+    let lawful : IsLawful old.reach frame after = moves.finds.lawful in
     let moment : frame.moment ≡ lent.moment = ap (λ (f : Frame). f.moment) shows in
     record {
-      count = ap (λ (p : Progress). p.reach.count) passes.place ∙ lawful.count ∙ lawful.number;
-      few = omega (arith, ap (λ (p : Progress). p.reach.count) passes.place, lawful.count, lawful.few);
-      last = ap (λ (p : Progress). p.reach.last) passes.place ∙ lawful.last ∙ moment;
-      unseen = ap (λ (p : Progress). p.ahead) passes.place;
+      count = ap (λ (p : Progress). p.reach.count) moves.place ∙ lawful.count ∙ lawful.number;
+      few = omega (arith, ap (λ (p : Progress). p.reach.count) moves.place, lawful.count, lawful.few);
+      last = ap (λ (p : Progress). p.reach.last) moves.place ∙ lawful.last ∙ moment;
+      unseen = ap (λ (p : Progress). p.ahead) moves.place;
       later = λ earlier before. by_ahead earlier old.ahead refl lawful moment before;
       captured = subst (λ (f : Frame). length f.octets ≤ f.original) shows lawful.captured;
       most = subst (λ (f : Frame). f.original ≤ 262144) shows lawful.most;
@@ -257,7 +257,7 @@ one_step held old new lent (Whole frame after, passes, shows) =
     by_ahead : (earlier : ℕ) (ahead : Option Found) → old.ahead ≡ ahead → IsLawful old.reach frame after → frame.moment ≡ lent.moment → IsNotBefore earlier old.reach ahead → earlier ≤ lent.moment
     by_ahead earlier None is lawful moment before = omega (arith, before, lawful.moment, moment)
     by_ahead earlier (Some was) is lawful moment before =
-        let here : IsNotBefore earlier old.reach (Some (Whole frame after)) = subst (λ (f : Found). IsNotBefore earlier old.reach (Some f)) (sym (passes.finds.again was is)) before in
+        let here : IsNotBefore earlier old.reach (Some (Whole frame after)) = subst (λ (f : Found). IsNotBefore earlier old.reach (Some f)) (sym (moves.finds.again was is)) before in
         omega (arith, here, moment)
 
 -- captures of which none has a frame before a moment

@@ -5,7 +5,7 @@ use Rattle.rm_captures.specs.Reading.{OneRose, texts}
 use Rattle.rm_captures.specs.Rounds.{AreCaptureFiles}
 use Rattle.rm_captures.specs.Told.{OfFiles}
 use Rattle.rm_requests.specs.declared.fault.RequestsFault.TheVariants.{Read as ReadFailed}
-use Rattle.rm_probe.specs.Requests.{status_by}
+use Rattle.rm_probe.specs.Requests.{JudgesRequests, status_by}
 use Rattle.rm_probe.specs.Steps.{JudgesCaptures}
 use Rattle.rm_probe.proofs.EndLemmas.{first_refused, then_refused}
 use Rattle.rm_probe.proofs.FileLemmas.{helds_are, read_faults}
@@ -35,7 +35,7 @@ returns-in-Err-judge-clause-judged g c =
     let shelf = c.judge.new.shelf in
     rw c.of_requests.ensures (then_refused c.args.lead (map (file_use g.F.Shelf.held g.F.Shelf.faults c.args.shelf.now shelf) names) (file_use g.F.Shelf.held g.F.Shelf.faults c.args.shelf.now shelf c.args.requests.now) c.in-Err-judge.fault
     (subst (λ (hs : List Held). OfFiles hs (AreCaptureFiles c.args.lead)) (sym (helds_are g.F.Shelf.held g.F.Shelf.faults c.args.shelf.now shelf names)) c.in-Ok.ensures.judged)
-    (rw (c.in-Ok.ensures.shelf.constant c.args.requests.now) at c.in-Err-judge.ensures.judged)
+    (subst (λ (h : Held). JudgesRequests {T = Unit {0}} h (Err c.in-Err-judge.fault)) (c.in-Ok.ensures.shelf.constant c.args.requests.now) c.in-Err-judge.ensures.judged)
     (λ e. let rose = c.judge.ensures.cause (c.in-Err-judge.is ∙ ap Err e) in omega (arith, rose, c.in-Ok.ensures.shelf.quiet (λ f. cc) c.args.requests.now)))
 
 pub returns-in-Err-clause-shelf : goal.returns-in-Err-clause-shelf

@@ -1,14 +1,14 @@
 use Rattle.std.proofs.lemmas.Result.{err_from_is_err_and}
 use Rattle.std.proofs.Common.{◌≡◌, ◌∙◌, ◌∷◌, [], ap, refl}
 use Rattle.rm_captures.specs.Left.{passed_of}
-use Rattle.rm_probe.specs.Said.{Said, Last}
+use Rattle.rm_probe.specs.Said.{Said, Last, is_cut_behind}
 use Rattle.rm_probe.specs.Steps.{IsLastLine}
 use Rattle.rm_probe.proofs.SayingLemmas.{says_nothing}
 use Rattle.rm_probe.proofs.StepLemmas.{fails_told, says_told, stops_known, stops_open, unread_last}
 use Rattle.rm_probe.proofs.replaying.Replaying.put_last.Goals as goal
 
-pub passed-requires : goal.passed-requires
-passed-requires g c = record { few = rw c.deref.ensures.value c.requires.captured }
+pub passed-frames-requires : goal.passed-frames-requires
+passed-frames-requires g c = record { few = rw c.deref.ensures.value c.requires.captured }
 
 pub returns-in_err-is_cut-clause-failed : goal.returns-in_err-is_cut-clause-failed
 returns-in_err-is_cut-clause-failed g c = stops_open _ _ (err_from_is_err_and c.from_residual.result c.from_residual.ensures.1) c.in_err-is_cut.ensures.kinds _
@@ -35,6 +35,6 @@ returns-clause-says g c = (
   λ files frames stop are left. rw c.told.ensures (says_told (IsLastLine (passed_of c.args.self.now.captures.items) c.args.requests frames stop) (λ notes. notes ≡ []) _ c.last.result
       (ap (λ (last : Said). last ∷ [])
       (ap (λ cut. Last cut c.passed-frames.result c.args.requests) (c.in_ok-is_cut.ensures.ends files frames stop are left)
-      ∙ ap (λ count. Last _ count c.args.requests) (c.passed-frames.ensures.count ∙ ap passed_of c.deref.ensures.value)))),
+      ∙ ap (λ count. Last (is_cut_behind frames stop) count c.args.requests) (c.passed-frames.ensures.count ∙ ap passed_of c.deref.ensures.value)))),
   λ managers asking. refl,
 )
