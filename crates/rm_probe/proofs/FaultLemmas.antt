@@ -1,5 +1,5 @@
 -- The first fault of captures is one, and captures that have none are read in one way.
-use Rattle.std.proofs.Common.{◌≡◌, ◌⊎◌, ℕ, ◌+◌, List, [], ◌∷◌, map, Option, Result, Ok, Err, inl, inr, refl, sym, ap, subst, ◌∙◌}
+use Rattle.std.proofs.Common.{◌≡◌, ℕ, ◌+◌, List, [], ◌∷◌, map, Option, Result, Ok, Err, inl, inr, refl, sym, ap, subst, ◌∙◌}
 use Rattle.rm_edge.specs.Outside.{Held, File}
 use Rattle.rm_model.specs.Journal.{Frame}
 use Rattle.rm_pcap.specs.declared.start.Start.{Start}

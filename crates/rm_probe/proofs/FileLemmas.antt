@@ -1,5 +1,5 @@
 -- Facts of files, and of the captures that are judged and begun.
-use Rattle.std.proofs.Common.{◌≡◌, ◌⊎◌, ℕ, List, [], ◌∷◌, map, inl, inr, refl, ap, subst, ◌∙◌}
+use Rattle.std.proofs.Common.{◌≡◌, ℕ, List, [], ◌∷◌, map, inl, inr, refl, ap, subst, ◌∙◌}
 use Rattle.rm_edge.specs.Outside.{Held, Untold, Absent, File, OfFile}
 use Rattle.rm_edge.specs.Uses.{file_use}
 use Rattle.rm_captures.specs.Reading.{AreHeld, OneRose}

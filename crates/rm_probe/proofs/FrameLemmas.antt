@@ -1,5 +1,5 @@
 -- Frames that pass up to a moment.
-use Rattle.std.proofs.Common.{◌≡◌, ℕ, suc, ◌+◌, ◌*◌, ◌<◌, ◌≤◌, true, false, List, [], ◌∷◌, ◌++◌, length, map, take, drop, Option, Some, None, Result, Ok, Err, inl, inr, refl, sym, ap, subst, ◌∙◌, arith, take_while, append_assoc}
+use Rattle.std.proofs.Common.{◌≡◌, ℕ, suc, ◌+◌, ◌*◌, ◌<◌, ◌≤◌, true, false, List, [], ◌∷◌, ◌++◌, length, map, take, drop, Option, Some, None, Ok, Err, inl, inr, refl, sym, ap, subst, ◌∙◌, arith, take_while, append_assoc}
 use Rattle.std.specs.List.{prefix_len}
 use Rattle.std.proofs.lemmas.List.{append-nil, take-append-le}
 use Rattle.std.proofs.Math.Seq.{take-length}
@@ -11,16 +11,14 @@ use Rattle.rm_pcap.specs.Progress.{Progress, moment_found, IsLawful, IsLawfulFin
 use Rattle.rm_pcap.specs.Calls.{Looks, Steps}
 use Rattle.rm_pcap.specs.declared.capture.Capture.{Capture}
 use Rattle.rm_pcap.specs.declared.frame.Frame.{Frame as Lent}
-use Rattle.rm_pcap.specs.declared.frame.Step.{Step}
-use Rattle.rm_pcap.specs.declared.frame.Step.TheVariants.{Next, End, Cut}
+use Rattle.rm_pcap.specs.declared.frame.Step.TheVariants.{Next}
 use Rattle.rm_pcap.specs.declared.reach.Reach.{Reach}
 use Rattle.rm_pcap.specs.View.{progress_of}
 use Rattle.rm_captures.specs.Left.{AreLeft, IsNext, LooksAll, StepsOne, coming_of, passed_of}
 use Rattle.rm_captures.specs.Merge.{is_by, frames_after}
 use Rattle.rm_captures.specs.Reading.{AreHeld, AreUnseen}
 use Rattle.rm_captures.specs.declared.coming.Coming.{Coming}
-use Rattle.rm_captures.specs.declared.fault.CaptureFault.{CaptureFault}
-use Rattle.rm_captures.proofs.ComingLemmas.{AreFrom, IsFrom, LendsTold, none_least, told_is_lent, told_least, told_within}
+use Rattle.rm_captures.proofs.ComingLemmas.{AreFrom, IsFrom, none_least, told_is_lent, told_least, told_within}
 use Rattle.rm_settings.specs.declared.settings.Settings.{Settings}
 use Rattle.rm_probe.specs.Advance.{IsAdvanced}
 use Rattle.rm_probe.specs.Probe.{IsFresh, settings_of, last_given, frames_given, Stands}
@@ -71,7 +69,7 @@ after_no : (m : ℕ) (f : Frame) (fs : List Frame) → is_by m f ≡ false → f
 after_no m f fs late = rw late refl
 
 -- all were looked at
-pub passed_looking : (settings : Settings) (m : ℕ) (files : List (List ℕ)) (old new : List Capture) (probe probe' : Probe) (before : ℕ) (frames : List Frame) (stop : Stop) (journal : Journal) (notes : List Note)
+unfoldable pub passed_looking : (settings : Settings) (m : ℕ) (files : List (List ℕ)) (old new : List Capture) (probe probe' : Probe) (before : ℕ) (frames : List Frame) (stop : Stop) (journal : Journal) (notes : List Note)
     → (p : Passed settings m files old probe before frames stop journal notes) → AreLeft 1 new files p.left stop → passed_of new ≡ passed_of old → probe' ≡ probe
     → Passed settings m files new probe' before frames stop journal notes
 passed_looking settings m files old new probe probe' before frames stop journal notes p leaves same alike = record {
@@ -409,17 +407,6 @@ told_passes held held' names named olds mids news coming lent probe few all look
     let from = told_least held 1 names olds mids coming (omega (arith, looked_length held 1 names olds mids (Some coming) looks, keeps.all, all)) looks in
     let step = stepped held' 1 coming.interface names mids news lent coming.moment steps from same keeps.few in
     (may_pass named probe lent coming.moment mids news few same step keeps, same)
-
--- whatever the shelf is, no step after that look ends otherwise
-pub told_lends : (held held' : List ℕ → Held) (names : List (List ℕ)) (olds mids news : List Capture) (coming : Coming) (result : Result Step CaptureFault) → LooksAll held 1 names olds mids (Some coming)
-    → StepsOne held' 1 coming.interface names mids news result → (lent : Lent) × (result ≡ Ok (Next lent))
-told_lends held held' names olds mids news coming result looks steps = by_result result (told_is_lent held held' 1 names olds mids news coming result looks steps)
-  where
-    by_result : (result : Result Step CaptureFault) → LendsTold coming result → (lent : Lent) × (result ≡ Ok (Next lent))
-    by_result (Ok (Next lent)) same = (lent, refl)
-    by_result (Ok End) never = absurd never
-    by_result (Ok (Cut at)) never = absurd never
-    by_result (Err found) never = absurd never
 
 -- how many interfaces there are, as a step of one wants it
 pub told_place : (held : List ℕ → Held) (names : List (List ℕ)) (named : ℕ) (olds mids : List Capture) (coming : Coming) → length names ≡ named → LooksAll held 1 names olds mids (Some coming)

@@ -83,11 +83,12 @@ impl Replaying {
         ensures last { last_given self.new.probe ≡ coming.moment }
         ensures count { passed_of self.new.captures.items ≡ passed_of self.old.captures.items + 1 }
     {
-        let Ok(Step::Next(frame)) = pass_next(&mut self.captures, shelf, names, coming.interface)
-        else {
-            return;
-        };
-        self.probe.frame(&frame, notes);
+        match pass_next(&mut self.captures, shelf, names, coming.interface) {
+            Ok(Step::Next(frame)) => self.probe.frame(&frame, notes),
+            Ok(Step::End) => (),
+            Ok(Step::Cut(_)) => (),
+            Err(_) => (),
+        }
     }
 
     // Counts the frames up to a moment in milliseconds, which isn't below the last one that the probe was given, each after the

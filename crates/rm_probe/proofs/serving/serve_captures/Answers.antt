@@ -1,4 +1,4 @@
-use Rattle.std.proofs.Common.{◌≡◌, ◌∙◌, [], ◌∷◌, List, Err, ap, arith, inr, map, refl, subst, sym}
+use Rattle.std.proofs.Common.{◌∙◌, [], ◌∷◌, List, Err, ap, arith, inr, map, refl, subst, sym}
 use Rattle.rm_edge.proofs.Keeping.{keeps_then}
 use Rattle.rm_edge.specs.Outside.{Adds, Held}
 use Rattle.rm_edge.specs.Uses.{file_use, link_use, sink_use}

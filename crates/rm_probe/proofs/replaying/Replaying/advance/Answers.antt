@@ -49,6 +49,7 @@ returns-in_err-coming-clause-reads g c = λ e.
     rose_still _ (g.F.Shelf.faults c.loop-coming.shelf) _ (texts c.args.names.now) c.loop-coming.invariant.quiet (c.in_err-coming.ensures.reads (ap Err status))
 
 pub returns-in_default-clause-says : goal.returns-in_default-clause-says
+unfolding passed_looking
 returns-in_default-clause-says g c =
     let i = c.loop-coming.invariant in (
       i.more,
@@ -75,8 +76,9 @@ returns-in_default-clause-keeps g c =
     keeps_end _ (texts c.args.names.now) _ c.args.moment c.loop-coming.self.probe c.next.new.self.probe c.loop-coming.self.captures.items c.next.new.self.captures.items (as_many_texts c.args.names.now) (rw c.in_default.is at c.in_ok-coming.ensures.looks)
     c.next.ensures.probe i.early i.keeps
 
-pub returns-then-moment-moment-clause-says : goal.returns-then-moment-moment-clause-says
-returns-then-moment-moment-clause-says g c =
+pub returns-then-coming-moment-clause-says : goal.returns-then-coming-moment-clause-says
+unfolding passed_looking
+returns-then-coming-moment-clause-says g c =
     let i = c.loop-coming.invariant in (
       i.more,
       i.noted,
@@ -86,14 +88,14 @@ returns-then-moment-moment-clause-says g c =
           let looked = passed_looking (settings_of c.args.self.now.probe) c.args.moment files c.loop-coming.self.captures.items c.next.new.self.captures.items c.loop-coming.self.probe c.next.new.self.probe
           (passed_of c.args.self.now.captures.items) frames stop journal i.more q still (looked_passed _ 1 (texts c.args.names.now) _ _ _ c.in_ok-coming.ensures.looks) c.next.ensures.probe in
           halt (settings_of c.args.self.now.probe) c.args.moment files c.next.new.self.captures.items c.next.new.self.probe (passed_of c.args.self.now.captures.items) frames stop journal i.more looked
-          (halts_next c.args.moment q.left c.in-Some.coming (rw c.in-Some.is at finds) c.if-moment-moment.true),
+          (halts_next c.args.moment q.left c.in-Some.coming (rw c.in-Some.is at finds) c.if-coming-moment.true),
     )
 
-pub returns-then-moment-moment-clause-keeps : goal.returns-then-moment-moment-clause-keeps
-returns-then-moment-moment-clause-keeps g c =
+pub returns-then-coming-moment-clause-keeps : goal.returns-then-coming-moment-clause-keeps
+returns-then-coming-moment-clause-keeps g c =
     let i = c.loop-coming.invariant in
     keeps_later _ (texts c.args.names.now) _ c.args.moment c.loop-coming.self.probe c.next.new.self.probe c.loop-coming.self.captures.items c.next.new.self.captures.items c.in-Some.coming (as_many_texts c.args.names.now)
-    (rw c.in-Some.is at c.in_ok-coming.ensures.looks) c.next.ensures.probe i.early c.if-moment-moment.true i.keeps
+    (rw c.in-Some.is at c.in_ok-coming.ensures.looks) c.next.ensures.probe i.early c.if-coming-moment.true i.keeps
 
 pub count_next-requires : goal.count_next-requires
 count_next-requires g c =
@@ -105,6 +107,7 @@ count_next-requires g c =
     }
 
 pub loop-coming-preserved : goal.loop-coming-preserved
+unfolding passed_looking
 loop-coming-preserved g c =
     let i = c.loop-coming.invariant in
     let looks = c.in_ok-coming.ensures.looks in
@@ -116,7 +119,7 @@ loop-coming-preserved g c =
       settings = c.count_next.ensures.settings ∙ ap settings_of c.next.ensures.probe ∙ i.settings;
       more = i.more ++ more;
       noted = notes_both g.N.Notes.since c.args.notes.now c.loop-coming.notes c.count_next.new.notes i.more more i.noted noted;
-      early = omega (arith, c.count_next.ensures.last, c.if-moment-moment.false);
+      early = omega (arith, c.count_next.ensures.last, c.if-coming-moment.false);
       keeps = c.count_next.ensures.keeps;
       passed = λ files are frames stop journal left stands.
           let q = i.passed files are frames stop journal left stands in
@@ -125,7 +128,7 @@ loop-coming-preserved g c =
           (passed_of c.args.self.now.captures.items) frames stop journal i.more q still place c.next.ensures.probe in
           passed_one (settings_of c.args.self.now.probe) c.args.moment (g.F.Shelf.held c.next.new.shelf) (texts c.args.names.now) files c.next.new.self.captures.items c.count_next.new.self.captures.items c.next.new.self.probe
           c.count_next.new.self.probe (passed_of c.args.self.now.captures.items) frames stop journal i.more more c.in-Some.coming
-          (held_still _ _ _ files c.in_ok-coming.ensures.shelf.constant (held_still _ _ _ files i.same are)) (ap settings_of c.next.ensures.probe ∙ i.settings) c.if-moment-moment.false counted c.count_next.ensures.count looked
+          (held_still _ _ _ files c.in_ok-coming.ensures.shelf.constant (held_still _ _ _ files i.same are)) (ap settings_of c.next.ensures.probe ∙ i.settings) c.if-coming-moment.false counted c.count_next.ensures.count looked
           (rw c.in-Some.is at finds);
     }
 
