@@ -323,7 +323,7 @@ none_answered = refl
 
 answered_more : (said more : List Said) → answers_in (said ++ more) ≡ answers_in said + answers_in more
 unfolding answers_in
-answered_more [] more = refl
+answered_more [] more = omega arith
 answered_more (Notified note ∷ said) more = answered_more said more
 answered_more (Responded number moment response ∷ said) more = omega (arith, answered_more said more)
 answered_more (Last cut frames requests ∷ said) more = answered_more said more

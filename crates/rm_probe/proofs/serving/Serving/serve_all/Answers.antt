@@ -1,11 +1,13 @@
-use Rattle.std.proofs.Common.{◌≡◌, ◌∙◌, ◌∷◌, ◌++◌, [], ◌+◌, arith, length, length-append, refl, rules, subst}
+use Rattle.std.proofs.Common.{◌≡◌, ◌∙◌, ◌∷◌, ◌++◌, [], ◌+◌, List, arith, length, length-append, refl, rules, subst}
 use Rattle.rm_edge.proofs.Keeping.{quiet_then}
 use Rattle.rm_edge.specs.Uses.{clock_use, link_use, sink_use}
 use Rattle.rm_captures.specs.Left.{passed_of}
 use Rattle.rm_captures.specs.Reading.{texts}
 use Rattle.rm_captures.proofs.NameLemmas.{rose_still}
 use Rattle.rm_captures.proofs.RoundLemmas.{held_still}
+use Rattle.rm_probe.specs.Output.{IsSaidFront}
 use Rattle.rm_probe.specs.Probe.{settings_of}
+use Rattle.rm_probe.specs.Said.{Said}
 use Rattle.rm_probe.specs.Serving.{asking_of}
 use Rattle.rm_probe.specs.Steps.{IsLastLine}
 use Rattle.rm_probe.specs.Turns.{HasServed}
@@ -92,7 +94,10 @@ returns-clause-served g c =
           c.loop-number.self.replaying.captures.items c.loop-number.self.replaying.captures.items c.loop-number.self.replaying.probe c.loop-number.self.replaying.probe c.loop-number.number c.loop-number.self.last arrivals said i
           last c.put_last.new.out.failed c.put_last.result silent
           (rw c.new-output.ensures.sink at (put_beside _ _ (g.L.Link.sent c.loop-number.link) (g.L.Link.faults c.loop-number.link) last _ says.1.adds c.new-output.ensures.failed refl refl))
-          (let (told, front) = says.1.order c.new-output.ensures.failed in (told, rw c.new-output.ensures.sink at (front_beside (c.args.self.now.manager ∷ []) _ (asking_of arrivals) _ _ _ _ _ (g.L.Link.sent c.loop-number.link) last told silent front))) c.put_last.ensures.failed),
+          (let (told, front) = says.1.order c.new-output.ensures.failed in
+          subst (λ (k : g.row.K.Denot). (told : List Said) × IsSaidFront (c.args.self.now.manager ∷ []) (asking_of arrivals) (g.K.Sink.content k) (g.K.Sink.content c.put_last.new.out.sink.now)
+          (g.L.Link.sent c.loop-number.link) (g.L.Link.sent c.loop-number.link) last told) c.new-output.ensures.sink
+          (told, front_beside (c.args.self.now.manager ∷ []) _ (asking_of arrivals) _ _ _ _ _ (g.L.Link.sent c.loop-number.link) last told silent front)) c.put_last.ensures.failed),
       omega (arith, all, i.number_is),
       on_done _ c.put_last.result (omega (arith, all, i.number_is)),
       λ files frames stop are left.
