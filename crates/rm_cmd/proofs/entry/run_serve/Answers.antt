@@ -1,4 +1,4 @@
-use Rattle.std.proofs.Common.{◌≡◌, ℕ, List, length, map, ap, sym, ◌∙◌}
+use Rattle.std.proofs.Common.{◌≡◌, inl, inr, ℕ, List, length, map, ap, sym, ◌∙◌}
 use Rattle.rm_edge.specs.Shelves.{KeepsShelf}
 use Rattle.rm_edge.specs.Uses.{clock_use, file_use, link_use, sink_use}
 use Rattle.rm_captures.specs.Reading.{IsOneOf}
@@ -40,3 +40,10 @@ returns-clause-shelf g c =
     by_names c.args.captures
     (λ (names : List (List ℕ)). KeepsShelf g.F.Shelf.held g.F.Shelf.faults c.args.shelf.now c.serve.new.shelf (IsOneOf names) (c.serve.result ≡ ReadFault))
     c.serve.ensures.shelf
+
+pub returns-clause-silent : goal.returns-clause-silent
+returns-clause-silent g c = λ either.
+    elim either [
+      | inl e ↦ absurd (rw e at c.serve.ensures.serves.ends)
+      | inr e ↦ let ends = rw e at c.serve.ensures.serves.ends in ends.idle
+    ]
