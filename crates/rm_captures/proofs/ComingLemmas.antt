@@ -7,7 +7,7 @@ use Rattle.rm_model.specs.Journal.{Frame}
 use Rattle.rm_pcap.specs.declared.capture.Capture.{Capture}
 use Rattle.rm_pcap.specs.declared.frame.Step.{Step}
 use Rattle.rm_pcap.specs.declared.frame.Step.TheVariants.{Next, End, Cut}
-use Rattle.rm_pcap.specs.Records.{Found, Whole, Stops as StopsAt}
+use Rattle.rm_pcap.specs.Steps.{Found, Whole, Stops as StopsAt}
 use Rattle.rm_pcap.specs.Progress.{Progress, Shows, moment_found}
 use Rattle.rm_pcap.specs.Calls.{LooksAt}
 use Rattle.rm_pcap.specs.View.{progress_of}

@@ -8,7 +8,8 @@ use Rattle.rm_pcap.specs.declared.reach.Reach.{Reach}
 use Rattle.rm_pcap.specs.declared.capture.Capture.{Capture}
 use Rattle.rm_pcap.specs.declared.frame.Step.{Step}
 use Rattle.rm_pcap.specs.declared.frame.Step.TheVariants.{Next, End, Cut}
-use Rattle.rm_pcap.specs.Records.{Stop, Ended, CutAt, Broken, Found, Whole, Stops as StopsAt, found_at, AreRecords}
+use Rattle.rm_pcap.specs.Records.{Stop, Ended, CutAt, Broken}
+use Rattle.rm_pcap.specs.Steps.{Found, Whole, Stops as StopsAt, found_at, AreRecords}
 use Rattle.rm_pcap.specs.Progress.{Progress, Shows}
 use Rattle.rm_pcap.specs.Calls.{Steps}
 use Rattle.rm_pcap.specs.View.{progress_of}

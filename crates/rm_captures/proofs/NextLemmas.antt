@@ -9,7 +9,8 @@ use Rattle.rm_pcap.specs.declared.reach.Reach.{Reach}
 use Rattle.rm_pcap.specs.declared.fault.PcapFault.{PcapFault}
 use Rattle.rm_pcap.specs.declared.fault.PcapFault.TheVariants.{Magic, Version, LinkType, Included, Original, Late, TooMany, Read, NoMemory}
 use Rattle.rm_pcap.specs.declared.capture.Capture.{Capture}
-use Rattle.rm_pcap.specs.Records.{Stop, Broken, Found, Whole, Stops as StopsAt, found_at, AreRecords}
+use Rattle.rm_pcap.specs.Records.{Stop, Broken}
+use Rattle.rm_pcap.specs.Steps.{Found, Whole, Stops as StopsAt, found_at, AreRecords}
 use Rattle.rm_pcap.specs.Progress.{Progress, moment_found}
 use Rattle.rm_pcap.specs.Calls.{LooksAt, Fails}
 use Rattle.rm_pcap.specs.View.{progress_of}

@@ -10,7 +10,8 @@ use Rattle.rm_pcap.specs.declared.fault.PcapFault.TheVariants.{Read}
 use Rattle.rm_pcap.specs.declared.capture.Capture.{Capture}
 use Rattle.rm_pcap.specs.declared.frame.Step.{Step}
 use Rattle.rm_pcap.specs.declared.frame.Step.TheVariants.{Next, End, Cut}
-use Rattle.rm_pcap.specs.Records.{Stop, Found, Whole, Stops as StopsAt, found_at, AreRecords, ReadsAs, beginning}
+use Rattle.rm_pcap.specs.Records.{Stop, ReadsAs}
+use Rattle.rm_pcap.specs.Steps.{Found, Whole, Stops as StopsAt, found_at, AreRecords, beginning}
 use Rattle.rm_pcap.specs.Progress.{Progress, Shows}
 use Rattle.rm_pcap.specs.Calls.{Passes, Steps, Fails}
 use Rattle.rm_pcap.specs.View.{progress_of}

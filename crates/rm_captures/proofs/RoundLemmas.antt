@@ -10,7 +10,9 @@ use Rattle.rm_pcap.specs.declared.fault.PcapFault.{PcapFault}
 use Rattle.rm_pcap.specs.declared.fault.PcapFault.TheVariants.{Read, NoMemory}
 use Rattle.rm_pcap.specs.declared.capture.Capture.{Capture}
 use Rattle.rm_pcap.specs.Header.{header_of}
-use Rattle.rm_pcap.specs.Records.{Stop, Ended, CutAt, Broken, Found, Whole, Stops as StopsAt, found_at, first_of, AreRecords, ReadsAs, beginning}
+use Rattle.rm_pcap.specs.Records.{Stop, Ended, CutAt, Broken, ReadsAs}
+use Rattle.rm_pcap.specs.Steps.{Found, Whole, Stops as StopsAt, found_at, AreRecords, beginning}
+use Rattle.rm_pcap.specs.First.{first_of}
 use Rattle.rm_pcap.specs.declared.frame.Frame.{Frame as Lent}
 use Rattle.rm_pcap.specs.declared.frame.Step.TheVariants.{Next, End, Cut}
 use Rattle.rm_pcap.specs.Progress.{Progress, Agrees, IsUnseen, Shows, begun, based_at, with_base}

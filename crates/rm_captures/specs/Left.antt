@@ -7,7 +7,8 @@ use Rattle.rm_pcap.specs.declared.fault.PcapFault.TheVariants.{Included, Origina
 use Rattle.rm_pcap.specs.declared.capture.Capture.{Capture}
 use Rattle.rm_pcap.specs.declared.frame.Step.{Step}
 use Rattle.rm_pcap.specs.declared.frame.Step.TheVariants.{Next}
-use Rattle.rm_pcap.specs.Records.{Stop, Ended, CutAt, AreRecords}
+use Rattle.rm_pcap.specs.Records.{Stop, Ended, CutAt}
+use Rattle.rm_pcap.specs.Steps.{AreRecords}
 use Rattle.rm_pcap.specs.Progress.{Progress, Agrees, frame_of}
 use Rattle.rm_pcap.specs.Calls.{LooksAt, Steps, Fails}
 use Rattle.rm_pcap.specs.View.{progress_of}

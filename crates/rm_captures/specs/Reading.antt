@@ -8,7 +8,8 @@ use Rattle.rm_pcap.specs.declared.fault.PcapFault.TheVariants.{Read, NoMemory}
 use Rattle.rm_pcap.specs.declared.start.Start.{Start}
 use Rattle.rm_pcap.specs.declared.capture.Capture.{Capture}
 use Rattle.rm_pcap.specs.Header.{header_of}
-use Rattle.rm_pcap.specs.Records.{Stop, Broken, AreRecords}
+use Rattle.rm_pcap.specs.Records.{Stop, Broken}
+use Rattle.rm_pcap.specs.Steps.{AreRecords}
 use Rattle.rm_pcap.specs.Progress.{Progress, Agrees, IsUnseen}
 use Rattle.rm_pcap.specs.View.{progress_of}
 use Rattle.rm_captures.specs.Rounds.{standing, first_found, IsFaultless, IsGood, IsLater, IsFirstFault, AreCaptureFiles}

@@ -6,7 +6,8 @@ use Rattle.rm_pcap.specs.declared.fault.PcapFault.{PcapFault}
 use Rattle.rm_pcap.specs.declared.form.Form.{Form}
 use Rattle.rm_pcap.specs.declared.start.Start.{Start}
 use Rattle.rm_pcap.specs.Header.{header_of}
-use Rattle.rm_pcap.specs.Records.{Stop, Ended, Broken, ReadsAs, first_of}
+use Rattle.rm_pcap.specs.Records.{Stop, Ended, Broken, ReadsAs}
+use Rattle.rm_pcap.specs.First.{first_of}
 use Rattle.rm_captures.specs.Merge.{merge}
 use Rattle.rm_captures.specs.declared.fault.CaptureFault.{CaptureFault}
 

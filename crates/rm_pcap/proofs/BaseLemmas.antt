@@ -15,7 +15,9 @@ use Rattle.rm_pcap.specs.declared.capture.Capture.{Capture}
 use Rattle.rm_pcap.specs.declared.record.Lengths.{Lengths}
 use Rattle.rm_pcap.specs.declared.record.Seen.{Seen}
 use Rattle.rm_pcap.specs.declared.record.Seen.TheVariants.{Whole as SeenWhole, End as SeenEnd, Cut as SeenCut}
-use Rattle.rm_pcap.specs.Records.{Found, Whole, Stops, Stop, Ended, CutAt, Broken, IsThere, found_at, found_in, found_with, fault_at, first_of, first_in, first_with, is_late, included_of, time_of, frame_at, reach_after, beginning}
+use Rattle.rm_pcap.specs.Records.{Stop, Ended, CutAt, Broken, included_of, time_of}
+use Rattle.rm_pcap.specs.Steps.{Found, Whole, Stops, IsThere, found_at, found_in, found_with, fault_at, is_late, frame_at, reach_after, beginning}
+use Rattle.rm_pcap.specs.First.{first_of, first_in, first_with}
 use Rattle.rm_pcap.specs.Progress.{Progress, Agrees, HasRead, IsUnseen, next_in, with_base, based_at, reading}
 use Rattle.rm_pcap.specs.Calls.{IsBroken, IsFaultAt, IsFirst, IsFirstRecordFault, LooksFirst}
 use Rattle.rm_pcap.specs.Seen.{IsWholePart}

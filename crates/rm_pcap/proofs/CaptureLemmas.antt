@@ -9,7 +9,7 @@ use Rattle.rm_pcap.specs.declared.record.Record.{Record}
 use Rattle.rm_pcap.specs.declared.record.Seen.{Seen}
 use Rattle.rm_pcap.specs.declared.record.Seen.TheVariants.{Whole as SeenWhole, End as SeenEnd, Cut as SeenCut}
 use Rattle.rm_pcap.specs.Header.{header_of}
-use Rattle.rm_pcap.specs.Records.{Found, Whole, Stops}
+use Rattle.rm_pcap.specs.Steps.{Found, Whole, Stops}
 use Rattle.rm_pcap.specs.Progress.{Progress, Agrees, HasRead, IsLawfulFind, next_in, read_next, looking_at, passing}
 use Rattle.rm_pcap.specs.Calls.{Looks, Passes, IsHeaderFault, BeginsAs}
 use Rattle.rm_window.specs.Filling.{Fills, IsFront}

@@ -8,7 +8,8 @@ use Rattle.rm_pcap.specs.declared.fault.PcapFault.TheVariants.{Late}
 use Rattle.rm_pcap.specs.declared.reach.Reach.{Reach}
 use Rattle.rm_pcap.specs.declared.record.Lengths.{Lengths}
 use Rattle.rm_pcap.specs.declared.record.Record.{Record}
-use Rattle.rm_pcap.specs.Records.{Whole, Stops, Ended, CutAt, Broken, found_at, found_in, found_with, fault_at, is_late, included_of, frame_at, reach_after}
+use Rattle.rm_pcap.specs.Records.{Ended, CutAt, Broken, included_of}
+use Rattle.rm_pcap.specs.Steps.{Whole, Stops, found_at, found_in, found_with, fault_at, is_late, frame_at, reach_after}
 use Rattle.rm_window.specs.Filling.{IsFront, Holds}
 use Rattle.rm_pcap.specs.Seen.{lengths_of, record_of, frame_seen, IsWholeIn, IsWholePart, IsCutPart, within, behind}
 use Rattle.rm_pcap.proofs.FrontLemmas.{lengths_front, record_front, late_front, fault_front}

@@ -11,7 +11,8 @@ use Rattle.rm_pcap.specs.declared.form.Form.{Form}
 use Rattle.rm_pcap.specs.declared.start.Start.{Start}
 use Rattle.rm_pcap.specs.declared.reach.Reach.{Reach}
 use Rattle.rm_pcap.specs.Header.{number_at, form_of, has_version, has_link_type, header_with, header_of}
-use Rattle.rm_pcap.specs.Records.{included_of, original_of, time_of, is_late, fault_at}
+use Rattle.rm_pcap.specs.Records.{included_of, original_of, time_of}
+use Rattle.rm_pcap.specs.Steps.{is_late, fault_at}
 use Rattle.rm_pcap.specs.Seen.{lengths_of, record_of}
 
 index_front : (k i : ℕ) (xs : List ℕ) → i < k → slice_index (take k xs) i ≡ slice_index xs i

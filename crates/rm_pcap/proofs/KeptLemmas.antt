@@ -8,7 +8,8 @@ use Rattle.rm_pcap.specs.declared.fault.PcapFault.TheVariants.{Late}
 use Rattle.rm_pcap.specs.declared.reach.Reach.{Reach}
 use Rattle.rm_pcap.specs.declared.record.Lengths.{Lengths}
 use Rattle.rm_pcap.specs.declared.record.Record.{Record}
-use Rattle.rm_pcap.specs.Records.{Whole, Stops, Broken, IsThere, found_in, found_with, fault_at, is_late, included_of, frame_at, reach_after}
+use Rattle.rm_pcap.specs.Records.{Broken, included_of}
+use Rattle.rm_pcap.specs.Steps.{Whole, Stops, IsThere, found_in, found_with, fault_at, is_late, frame_at, reach_after}
 use Rattle.rm_pcap.specs.Seen.{lengths_of, record_of, frame_seen, IsWholeIn}
 use Rattle.rm_pcap.proofs.FoundLemmas.{header_left, not_late, so_late}
 
@@ -33,7 +34,7 @@ pub included_there : (form : Form) (octets old : List ℕ) (lengths : Lengths) �
 included_there form octets old lengths same is = ap (λ (l : Lengths). l.included) (lengths_there form octets old lengths same is)
 
 -- what such a record is, by whether it is late
-there_is : (form : Form) (start : Start) (reach : Reach) (xs : List ℕ) → IsThere form start reach xs
+pub there_is : (form : Form) (start : Start) (reach : Reach) (xs : List ℕ) → IsThere form start reach xs
     → found_in form start reach xs
     ≡ (if is_late form start reach xs then Stops (Broken (Late reach.at)) else Whole (frame_at form start reach xs) (reach_after form start reach xs))
 there_is form start reach xs there =

@@ -5,4 +5,6 @@ mod BaseLemmas
 pub mod CaptureLemmas
 pub mod RecordLaws
 pub mod StepLemmas
-pub mod EachRecordLemmas
+mod FaultLemmas
+mod StopLemmas
+pub mod ReadingLemmas

@@ -10,7 +10,8 @@ use Rattle.rm_pcap.specs.declared.fault.PcapFault.{PcapFault}
 use Rattle.rm_pcap.specs.declared.fault.PcapFault.TheVariants.{Late}
 use Rattle.rm_pcap.specs.declared.reach.Reach.{Reach}
 use Rattle.rm_pcap.specs.Header.{header_of}
-use Rattle.rm_pcap.specs.Records.{Found, Whole, Stops, Stop, CutAt, Broken, found_at, found_in, found_with, fault_at, is_late, included_of, frame_at, reach_after, beginning, AreRecords, ReadsAs}
+use Rattle.rm_pcap.specs.Records.{Stop, CutAt, Broken, included_of, ReadsAs}
+use Rattle.rm_pcap.specs.Steps.{Found, Whole, Stops, found_at, found_in, found_with, fault_at, is_late, frame_at, reach_after, beginning, AreRecords}
 
 pub one_list : (form : Form) (start : Start) (reach : Reach) (bytes : List ℕ) (frames others : List Frame) (stop last : Stop)
     → AreRecords form start reach bytes frames stop → AreRecords form start reach bytes others last → (frames ≡ others) × (stop ≡ last)
@@ -25,35 +26,25 @@ one_list form start reach bytes (frame ∷ rest) (other ∷ more) stop last a b 
     let one = one_list form start a.0 bytes rest more stop last a.2 (subst (λ (r : Reach). AreRecords form start r bytes more last) next b.2) in
     (ap (λ (f : Frame). f ∷ rest) same ∙ ap (λ (t : List Frame). other ∷ t) one.0, one.1)
 
-one_way : (header : Result Form PcapFault) (start : Start) (bytes : List ℕ) (frames others : List Frame) (stop last : Stop)
-    → MatchResult header (λ form. AreRecords form start (beginning start) bytes frames stop) (λ fault. (frames ≡ []) × (stop ≡ Broken fault))
-    → MatchResult header (λ form. AreRecords form start (beginning start) bytes others last) (λ fault. (others ≡ []) × (last ≡ Broken fault))
-    → (frames ≡ others) × (stop ≡ last)
-one_way (Ok form) start bytes frames others stop last a b = one_list form start (beginning start) bytes frames others stop last a b
-one_way (Err fault) start bytes frames others stop last a b = (a.0 ∙ sym b.0, a.1 ∙ sym b.1)
-
-pub one_reading : (start : Start) (bytes : List ℕ) (frames others : List Frame) (stop last : Stop) → ReadsAs start bytes frames stop → ReadsAs start bytes others last
-    → (frames ≡ others) × (stop ≡ last)
-unfolding ReadsAs
-one_reading start bytes frames others stop last a b = one_way (header_of bytes) start bytes frames others stop last a b
-
 -- a whole record stands at the front of the octets that are left
 pub record IsTaken (form : Form) (start : Start) (reach next : Reach) (xs : List ℕ) (frame : Frame) : Type 0 where
   pub enough : 16 + included_of form xs ≤ length xs
+  pub faultless : fault_at form start reach xs ≡ None
+  pub soon : is_late form start reach xs ≡ false
   pub is_frame : frame_at form start reach xs ≡ frame
   pub is_next : reach_after form start reach xs ≡ next
 
-taken_with : (form : Form) (start : Start) (reach next : Reach) (xs : List ℕ) (fault : Option PcapFault) (frame : Frame) → found_with form start reach xs fault ≡ Whole frame next
-    → IsTaken form start reach next xs frame
-taken_with form start reach next xs (Some fault) frame is = absurd cc
-taken_with form start reach next xs None frame is = by_test (nat_lt (length xs) (16 + included_of form xs)) (is_late form start reach xs) refl is
+taken_with : (form : Form) (start : Start) (reach next : Reach) (xs : List ℕ) (fault : Option PcapFault) (frame : Frame) → fault_at form start reach xs ≡ fault
+    → found_with form start reach xs fault ≡ Whole frame next → IsTaken form start reach next xs frame
+taken_with form start reach next xs (Some fault) frame told is = absurd cc
+taken_with form start reach next xs None frame told is = by_test (nat_lt (length xs) (16 + included_of form xs)) (is_late form start reach xs) refl refl is
   where
-    by_test : (short late : Bool) → nat_lt (length xs) (16 + included_of form xs) ≡ short
+    by_test : (short late : Bool) → nat_lt (length xs) (16 + included_of form xs) ≡ short → is_late form start reach xs ≡ late
         → (if short then Stops (CutAt reach.at) else if late then Stops (Broken (Late reach.at)) else Whole (frame_at form start reach xs) (reach_after form start reach xs)) ≡ Whole frame next
         → IsTaken form start reach next xs frame
-    by_test true late test e = absurd cc
-    by_test false true test e = absurd cc
-    by_test false false test e = record { enough = grind (arith, nat_tests); is_frame = cc; is_next = cc }
+    by_test true late test time e = absurd cc
+    by_test false true test time e = absurd cc
+    by_test false false test time e = record { enough = grind (arith, nat_tests); faultless = told; soon = time; is_frame = cc; is_next = cc }
 
 taken_in : (form : Form) (start : Start) (reach next : Reach) (xs : List ℕ) (frame : Frame) → found_in form start reach xs ≡ Whole frame next → IsTaken form start reach next xs frame
 taken_in form start reach next [] frame is = absurd cc
@@ -62,7 +53,7 @@ taken_in form start reach next (x ∷ xs) frame is = by_test (nat_lt (length (x 
     by_test : (short : Bool) → (if short then Stops (CutAt reach.at) else found_with form start reach (x ∷ xs) (fault_at form start reach (x ∷ xs))) ≡ Whole frame next
         → IsTaken form start reach next (x ∷ xs) frame
     by_test true e = absurd cc
-    by_test false e = taken_with form start reach next (x ∷ xs) (fault_at form start reach (x ∷ xs)) frame e
+    by_test false e = taken_with form start reach next (x ∷ xs) (fault_at form start reach (x ∷ xs)) frame refl e
 
 pub taken : (form : Form) (start : Start) (reach next : Reach) (bytes : List ℕ) (frame : Frame) → found_at form start reach bytes ≡ Whole frame next
     → IsTaken form start reach next (drop reach.at bytes) frame
@@ -81,10 +72,10 @@ within form start reach next bytes frame is =
     record { on = omega (arith, place); within = omega (arith, place, t.enough, length-drop reach.at bytes) }
 
 -- some list of records
-record SomeRecords (form : Form) (start : Start) (reach : Reach) (bytes : List ℕ) : Type 0 where
-  frames : List Frame
-  stop : Stop
-  are : AreRecords form start reach bytes frames stop
+pub record SomeRecords (form : Form) (start : Start) (reach : Reach) (bytes : List ℕ) : Type 0 where
+  pub frames : List Frame
+  pub stop : Stop
+  pub are : AreRecords form start reach bytes frames stop
 
 by_found : (form : Form) (start : Start) (reach : Reach) (bytes : List ℕ) (found : Found) → found_at form start reach bytes ≡ found
     → ((next : Reach) → reach.at < next.at → next.at ≤ length bytes → SomeRecords form start next bytes) → SomeRecords form start reach bytes
@@ -95,20 +86,10 @@ by_found form start reach bytes (Whole frame next) is more =
     let left = more next w.on w.within in
     record { frames = frame ∷ left.frames; stop = left.stop; are = (next, is, left.are) }
 
-some_records : (most : ℕ) (form : Form) (start : Start) (reach : Reach) (bytes : List ℕ) → length bytes - reach.at < most → SomeRecords form start reach bytes
+pub some_records : (most : ℕ) (form : Form) (start : Start) (reach : Reach) (bytes : List ℕ) → length bytes - reach.at < most → SomeRecords form start reach bytes
 some_records zero form start reach bytes few = absurd (omega (arith, few))
 some_records (suc most) form start reach bytes few =
     by_found form start reach bytes (found_at form start reach bytes) refl (λ next on inside. some_records most form start next bytes (omega (arith, few, on, inside)))
-
-some_way : (header : Result Form PcapFault) (start : Start) (bytes : List ℕ) → (frames : List Frame) × (stop : Stop)
-    × MatchResult header (λ form. AreRecords form start (beginning start) bytes frames stop) (λ fault. (frames ≡ []) × (stop ≡ Broken fault))
-some_way (Ok form) start bytes =
-    let some = some_records (suc (length bytes)) form start (beginning start) bytes (omega arith) in (some.frames, some.stop, some.are)
-some_way (Err fault) start bytes = ([], Broken fault, (refl, refl))
-
-pub every_reading : (start : Start) (bytes : List ℕ) → (frames : List Frame) × (stop : Stop) × ReadsAs start bytes frames stop
-unfolding ReadsAs
-every_reading start bytes = some_way (header_of bytes) start bytes
 
 -- the records that are left behind one that was passed
 pub record Behind (form : Form) (start : Start) (next : Reach) (bytes : List ℕ) (frames : List Frame) (stop : Stop) : Type 0 where

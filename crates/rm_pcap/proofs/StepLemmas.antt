@@ -5,7 +5,8 @@ use Rattle.rm_edge.specs.Outside.{Held, File}
 use Rattle.rm_pcap.specs.declared.reach.Reach.{Reach}
 use Rattle.rm_pcap.specs.declared.frame.Frame.{Frame}
 use Rattle.rm_pcap.specs.declared.frame.Step.TheVariants.{Next, End, Cut}
-use Rattle.rm_pcap.specs.Records.{Found, Whole, Stops, Stop, Ended, CutAt, Broken}
+use Rattle.rm_pcap.specs.Records.{Stop, Ended, CutAt, Broken}
+use Rattle.rm_pcap.specs.Steps.{Found, Whole, Stops}
 use Rattle.rm_pcap.specs.Progress.{Progress, Agrees, IsLawful, Shows, next_in, looking_at}
 use Rattle.rm_pcap.specs.Calls.{Passes, Steps}
 

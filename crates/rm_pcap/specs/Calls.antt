@@ -9,7 +9,9 @@ use Rattle.rm_pcap.specs.declared.fault.PcapFault.TheVariants.{Magic, Version, L
 use Rattle.rm_pcap.specs.declared.frame.Step.{Step}
 use Rattle.rm_pcap.specs.Header.{header_of}
 use Rattle.rm_window.specs.Filling.{IsFront}
-use Rattle.rm_pcap.specs.Records.{Found, Stops, Broken, IsThere, found_at, first_of, time_of}
+use Rattle.rm_pcap.specs.Records.{Broken, time_of}
+use Rattle.rm_pcap.specs.Steps.{Found, Stops, IsThere, found_at}
+use Rattle.rm_pcap.specs.First.{first_of}
 use Rattle.rm_pcap.specs.Progress.{Progress, Agrees, HasRead, IsLawfulFind, IsUnseen, Shows, next_in, read_next, looking_at, passing, moment_found, reading}
 
 -- What is found is lawful whatever the file is. It is what was found before if it was looked at, and the record that was read, if all of it was,

@@ -1,8 +1,9 @@
 pub mod Calls
-pub mod EachRecord
+pub mod First
 pub mod Header
 pub mod Progress
 pub mod Records
 pub mod Seen
+pub mod Steps
 pub mod View
 pub mod Window

@@ -8,7 +8,8 @@ use Rattle.rm_pcap.specs.declared.frame.Frame.{Frame}
 use Rattle.rm_pcap.specs.declared.frame.Step.{Step}
 use Rattle.rm_pcap.specs.declared.frame.Step.TheVariants.{Next, End, Cut}
 use Rattle.rm_window.specs.Filling.{IsFront}
-use Rattle.rm_pcap.specs.Records.{Ended, CutAt, Broken, Found, Whole, Stops, IsThere, found_in, found_at, beginning}
+use Rattle.rm_pcap.specs.Records.{Ended, CutAt, Broken}
+use Rattle.rm_pcap.specs.Steps.{Found, Whole, Stops, IsThere, found_in, found_at, beginning}
 
 -- A capture that is being read: how its octets are read, where its frames stand, how far its records were passed, what was
 -- found there, if it was looked at, and the octets that were read from there on.

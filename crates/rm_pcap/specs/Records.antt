@@ -1,12 +1,13 @@
--- The records of a capture in the classic pcap format. A record has a header of 16 octets, which are its time in seconds
--- and a fraction of a second, how many octets were captured, and how many the frame had, and then the captured octets.
-use Rattle.std.specs.Prelude.{◌≡◌, ◌≤◌, ℕ, ◌+◌, ◌-◌, ◌*◌, ◌/◌, ◌^◌, max, nat_le, nat_lt, if◌then◌else◌, List, [], ◌∷◌, length, take, drop, Bool, ◌&&◌, Option, Some, None, unwrap_or, Result, Ok, Err, MatchResult}
+-- What a file reads as, as a capture in the classic pcap format: a frame for each record, and how the records stop behind them. Records are
+-- counted from 0 here. A record has a header of 16 octets, which are its time in seconds and a fraction of a second, how many octets were
+-- captured, and how many the frame had, and then the captured octets.
+use Rattle.std.specs.Prelude.{◌≡◌, ◌≤◌, ◌<◌, ℕ, ◌+◌, ◌-◌, ◌*◌, ◌/◌, ◌^◌, max, List, [], map, length, take, drop, slice_index_or, fold, sum_by, None, unwrap_or, MatchResult}
+use Rattle.std.specs.List.{range_with_len}
 use Rattle.rm_model.specs.Journal.{Frame}
 use Rattle.rm_pcap.specs.declared.form.TimeUnit.{TimeUnit}
 use Rattle.rm_pcap.specs.declared.form.TimeUnit.TheVariants.{Microseconds, Nanoseconds}
 use Rattle.rm_pcap.specs.declared.form.Form.{Form}
 use Rattle.rm_pcap.specs.declared.start.Start.{Start}
-use Rattle.rm_pcap.specs.declared.reach.Reach.{Reach}
 use Rattle.rm_pcap.specs.declared.fault.PcapFault.{PcapFault}
 use Rattle.rm_pcap.specs.declared.fault.PcapFault.TheVariants.{Included, Original, Late, TooMany}
 use Rattle.rm_pcap.specs.Header.{number_at, header_of}
@@ -32,52 +33,41 @@ original_of form octets = number_at form.order 4 12 octets
 abbrev pub alone : ℕ → Start
 alone lead = record { interface = 1; lead = lead; base = None }
 
--- before the first record; no frame stands before the lead
-abbrev pub beginning : Start → Reach
-beginning start = record { base = start.base; last = start.lead; count = 0; at = 24 }
+-- where the records of some frames end: behind the header of the file, of 24 octets, and for each a header of 16 octets and its
+-- octets
+abbrev pub end_of : List Frame → ℕ
+end_of frames = 24 + sum_by (λ (frame : Frame). 16 + length frame.octets) frames
 
--- The moment of a frame at that time, in milliseconds: as long after the lead as its time is after the one that stands there, which is that of
--- the first record unless another one was given, but never before the frame that came before it.
-abbrev pub moment_at : Start → Reach → ℕ → ℕ
-moment_at start reach time = max reach.last (start.lead + (time - unwrap_or reach.base time) / 1000000)
+-- what a file has from a record of its frames on
+abbrev pub from_record : List ℕ → List Frame → ℕ → List ℕ
+from_record bytes frames index = drop (end_of (take index frames)) bytes
 
--- the frame of the record whose octets come first
-abbrev pub frame_at : Form → Start → Reach → List ℕ → Frame
-frame_at form start reach octets = record {
-  interface = start.interface;
-  moment = moment_at start reach (time_of form octets);
-  number = reach.count + 1;
-  octets = take (included_of form octets) (drop 16 octets);
-  original = max (included_of form octets) (original_of form octets);
-}
+-- the time that stands at the lead: that of the first record unless another one was given
+abbrev pub base_of : Form → Start → List ℕ → List Frame → ℕ
+base_of form start bytes frames = unwrap_or start.base (time_of form (from_record bytes frames 0))
 
--- how far the records reach with that one
-abbrev pub reach_after : Form → Start → Reach → List ℕ → Reach
-reach_after form start reach octets = record {
-  base = Some (unwrap_or reach.base (time_of form octets));
-  last = moment_at start reach (time_of form octets);
-  count = reach.count + 1;
-  at = reach.at + (16 + included_of form octets);
-}
+-- the moment by a record's own time: as long after the lead as its time is after the one that stands there
+abbrev pub own_moment : Form → (start : Start) → List ℕ → List Frame → ℕ → ℕ
+own_moment form start bytes frames index =
+    start.lead + (time_of form (from_record bytes frames index) - base_of form start bytes frames) / 1000000
 
--- whether the moment of the record whose header comes first has more than 32 bits
-unfoldable pub is_late : Form → Start → Reach → List ℕ → Bool
-is_late form start reach octets = nat_le (2 ^ 32) (moment_at start reach (time_of form octets))
+-- the greatest of the lead and of the moments by the times of the first records, so many
+abbrev pub latest : Form → (start : Start) → List ℕ → List Frame → ℕ → ℕ
+latest form start bytes frames count = fold max start.lead (map (own_moment form start bytes frames) (range_with_len 0 count))
 
--- The first fault of a record's header: one record too many, a length above 262144, or a moment of more than 32 bits. The moment of the first
--- record is judged only where the record is whole: one that is cut short is no frame, and its time counts nowhere.
-unfoldable pub fault_at : Form → Start → Reach → List ℕ → Option PcapFault
-fault_at form start reach octets =
-    if nat_le 100000000 reach.count then Some TooMany
-    else if nat_lt 262144 (included_of form octets) then Some (Included (reach.at + 8))
-    else if nat_lt 262144 (original_of form octets) then Some (Original (reach.at + 12))
-    else if nat_lt 0 reach.count && is_late form start reach octets then Some (Late reach.at)
-    else None
-
--- All of a record stands first in octets, and its header has no fault. Of the first record the moment may be one.
-pub record IsThere (form : Form) (start : Start) (reach : Reach) (octets : List ℕ) : Type 0 where
-  pub long : 16 + included_of form octets ≤ length octets
-  pub faultless : fault_at form start reach octets ≡ None
+-- A frame is what a record of the file says, which stands whole behind the records of the frames before it. There are at most 100000000 records,
+-- no length is above 262144, and a moment has 32 bits.
+pub record IsOfRecord (form : Form) (start : Start) (bytes : List ℕ) (frames : List Frame) (index : ℕ) (frame : Frame) : Type 0 where
+  pub few : index < 100000000
+  pub within : end_of (take (index + 1) frames) ≤ length bytes
+  pub interface : frame.interface ≡ start.interface
+  pub number : frame.number ≡ index + 1
+  pub captured : length frame.octets ≡ included_of form (from_record bytes frames index)
+  pub octets : frame.octets ≡ take (length frame.octets) (drop 16 (from_record bytes frames index))
+  pub original : frame.original ≡ max (length frame.octets) (original_of form (from_record bytes frames index))
+  pub most : frame.original ≤ 262144
+  pub moment : frame.moment ≡ latest form start bytes frames (index + 1)
+  pub soon : frame.moment < 2 ^ 32
 
 -- how the records stop: at the end of the file, within the record that begins at an offset, or by a fault
 pub data Stop : Type 0 where
@@ -85,53 +75,53 @@ pub data Stop : Type 0 where
   CutAt : ℕ → Stop
   Broken : PcapFault → Stop
 
--- what stands next: a whole record with its frame, and how far the records reach with it, or none
-pub data Found : Type 0 where
-  Whole : Frame → Reach → Found
-  Stops : Stop → Found
+-- what a file has behind the records of all frames
+abbrev pub left_behind : List ℕ → List Frame → List ℕ
+left_behind bytes frames = drop (end_of frames) bytes
 
--- what at least sixteen octets that are left are, by the fault of the header at their front
-abbrev pub found_with : Form → Start → Reach → List ℕ → Option PcapFault → Found
-found_with form start reach octets (Some fault) = Stops (Broken fault)
-found_with form start reach octets None =
-    if nat_lt (length octets) (16 + included_of form octets)
-    then Stops (CutAt reach.at)
-    else if is_late form start reach octets then Stops (Broken (Late reach.at))
-    else Whole (frame_at form start reach octets) (reach_after form start reach octets)
+-- where the record that begins there ends, by its header
+abbrev pub end_of_next : Form → List ℕ → List Frame → ℕ
+end_of_next form bytes frames = end_of frames + (16 + included_of form (left_behind bytes frames))
 
--- what octets that are left are
-abbrev pub found_in : Form → Start → Reach → List ℕ → Found
-found_in form start reach [] = Stops Ended
-found_in form start reach (octet ∷ more) =
-    if nat_lt (length (octet ∷ more)) 16
-    then Stops (CutAt reach.at)
-    else found_with form start reach (octet ∷ more) (fault_at form start reach (octet ∷ more))
+-- the moment of its frame
+abbrev pub moment_of_next : Form → Start → List ℕ → List Frame → ℕ
+moment_of_next form start bytes frames = latest form start bytes frames (length frames + 1)
 
--- what stands next in a file of these octets
-unfoldable pub found_at : Form → Start → Reach → List ℕ → Found
-found_at form start reach bytes = found_in form start reach (drop reach.at bytes)
+-- it is none too many, and its header has lengths that may be
+pub record MayFollow (form : Form) (bytes : List ℕ) (frames : List Frame) : Type 0 where
+  pub few : length frames < 100000000
+  pub included : included_of form (left_behind bytes frames) ≤ 262144
+  pub original : original_of form (left_behind bytes frames) ≤ 262144
 
--- from a reach on, the file's records have these frames, and then stop so
-unfoldable pub AreRecords : Form → Start → Reach → List ℕ → List Frame → Stop → Type 0
-AreRecords form start reach bytes [] stop = found_at form start reach bytes ≡ Stops stop
-AreRecords form start reach bytes (frame ∷ more) stop =
-    (next : Reach) × (found_at form start reach bytes ≡ Whole frame next) × AreRecords form start next bytes more stop
+-- The file cuts it short: within the header, or behind a header without a fault. The moment of a first record that is cut short counts nowhere.
+pub data IsCutShort (form : Form) (start : Start) (bytes : List ℕ) (frames : List Frame) : Type 0 where
+  in_header : end_of frames < length bytes → length bytes < end_of frames + 16 → IsCutShort form start bytes frames
+  in_octets : end_of frames + 16 ≤ length bytes → MayFollow form bytes frames → (0 < length frames → moment_of_next form start bytes frames < 2 ^ 32)
+    → length bytes < end_of_next form bytes frames → IsCutShort form start bytes frames
 
--- A file of these octets, of which that is the start, has these frames, and then stops so. Where its header has a fault, it has no
+-- Its header stands there whole, and this is the first fault: that it is one too many, that a length is above 262144, that its moment has more than
+-- 32 bits. The moment of a first record is a fault only where the record is whole.
+pub data HasFault (form : Form) (start : Start) (bytes : List ℕ) (frames : List Frame) (fault : PcapFault) : Type 0 where
+  too_many : fault ≡ TooMany → length frames ≡ 100000000 → HasFault form start bytes frames fault
+  included : fault ≡ Included (end_of frames + 8) → length frames < 100000000 → 262144 < included_of form (left_behind bytes frames) → HasFault form start bytes frames fault
+  original : fault ≡ Original (end_of frames + 12) → length frames < 100000000 → included_of form (left_behind bytes frames) ≤ 262144
+    → 262144 < original_of form (left_behind bytes frames) → HasFault form start bytes frames fault
+  late : fault ≡ Late (end_of frames) → MayFollow form bytes frames → 2 ^ 32 ≤ moment_of_next form start bytes frames
+    → (length frames ≡ 0 → end_of_next form bytes frames ≤ length bytes) → HasFault form start bytes frames fault
+
+-- behind the records of all frames the file ends, or cuts a record short, or has the header of one with a fault
+abbrev pub StopsBehind : Form → Start → List ℕ → List Frame → Stop → Type 0
+StopsBehind form start bytes frames Ended = length bytes ≡ end_of frames
+StopsBehind form start bytes frames (CutAt at) = (at ≡ end_of frames) × IsCutShort form start bytes frames
+StopsBehind form start bytes frames (Broken fault) = (end_of frames + 16 ≤ length bytes) × HasFault form start bytes frames fault
+
+-- each frame is that of its record, and behind them the records stop so
+pub record AreOfRecords (form : Form) (start : Start) (bytes : List ℕ) (frames : List Frame) (stop : Stop) : Type 0 where
+  pub each : (index : ℕ) (any : Frame) → index < length frames → IsOfRecord form start bytes frames index (slice_index_or frames index any)
+  pub behind : StopsBehind form start bytes frames stop
+
+-- A file of these octets, whose frames stand as the start says, has these frames, and then stops so. Where its header has a fault, it has no
 -- frame.
 unfoldable pub ReadsAs : Start → List ℕ → List Frame → Stop → Type 0
 ReadsAs start bytes frames stop =
-    MatchResult (header_of bytes) (λ form. AreRecords form start (beginning start) bytes frames stop) (λ fault. (frames ≡ []) × (stop ≡ Broken fault))
-
--- what octets that are left have first, by the fault of the header at their front: the time of a record in nanoseconds, where it is whole
-abbrev pub first_with : Form → List ℕ → Option PcapFault → Result (Option ℕ) PcapFault
-first_with form octets (Some fault) = Err fault
-first_with form octets None = if nat_lt (length octets) (16 + included_of form octets) then Ok None else Ok (Some (time_of form octets))
-
-abbrev pub first_in : Form → Start → List ℕ → Result (Option ℕ) PcapFault
-first_in form start octets = if nat_lt (length octets) 16 then Ok None else first_with form octets (fault_at form start (beginning start) octets)
-
--- What a file of these octets has first: the time of its first record in nanoseconds, where that is whole; nothing, where it isn't or there is
--- none; or the fault of its lengths.
-unfoldable pub first_of : Form → Start → List ℕ → Result (Option ℕ) PcapFault
-first_of form start bytes = first_in form start (drop 24 bytes)
+    MatchResult (header_of bytes) (λ form. AreOfRecords form start bytes frames stop) (λ fault. (frames ≡ []) × (stop ≡ Broken fault))

@@ -10,7 +10,8 @@ use Rattle.rm_pcap.specs.declared.record.Part.TheVariants.{Whole as WholePart, E
 use Rattle.rm_pcap.specs.declared.record.Record.{Record}
 use Rattle.rm_pcap.specs.declared.record.Seen.{Seen}
 use Rattle.rm_pcap.specs.declared.record.Seen.TheVariants.{Whole as SeenWhole, End as SeenEnd, Cut as SeenCut}
-use Rattle.rm_pcap.specs.Records.{Ended, CutAt, Found, Whole, Stops, fault_at, included_of, original_of, reach_after}
+use Rattle.rm_pcap.specs.Records.{Ended, CutAt, included_of, original_of}
+use Rattle.rm_pcap.specs.Steps.{Found, Whole, Stops, fault_at, reach_after}
 
 -- the numbers of the record whose header comes first
 abbrev pub record_of : Form → Start → Reach → List ℕ → Record

@@ -8,7 +8,8 @@ use Rattle.rm_pcap.specs.declared.record.Seen.TheVariants.{Whole as SeenWhole, E
 use Rattle.rm_window.specs.declared.window.Window.{Window}
 use Rattle.rm_pcap.specs.declared.position.Position.{Position}
 use Rattle.rm_pcap.specs.declared.capture.Capture.{Capture}
-use Rattle.rm_pcap.specs.Records.{Found, Whole, Stops, Ended, CutAt}
+use Rattle.rm_pcap.specs.Records.{Ended, CutAt}
+use Rattle.rm_pcap.specs.Steps.{Found, Whole, Stops}
 use Rattle.rm_pcap.specs.Progress.{Progress}
 use Rattle.rm_pcap.specs.Calls.{Looks, Passes}
 use Rattle.rm_pcap.specs.Seen.{frame_seen, found_of}

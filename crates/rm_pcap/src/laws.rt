@@ -1,12 +1,12 @@
 // Laws of what the octets of a file are as a capture. The bodies are empty.
-ghost use Rattle.std.specs.Prelude.{◌≡◌, ◌<◌, ℕ, List, length, slice_index_or, Ok};
+ghost use Rattle.std.specs.Prelude.{◌≡◌, ◌↔◌, ℕ, List, Ok};
 ghost use Rattle.rm_model.specs.Journal.{Frame as Passed};
 ghost use Rattle.rm_pcap.specs.declared.form.Form.{Form};
 ghost use Rattle.rm_pcap.specs.declared.start.Start.{Start};
 ghost use Rattle.rm_pcap.specs.declared.reach.Reach.{Reach};
 ghost use Rattle.rm_pcap.specs.Header.{header_of};
-ghost use Rattle.rm_pcap.specs.Records.{Stop, AreRecords, ReadsAs};
-ghost use Rattle.rm_pcap.specs.EachRecord.{IsOfRecord, StopsBehind};
+ghost use Rattle.rm_pcap.specs.Records.{Stop, ReadsAs};
+ghost use Rattle.rm_pcap.specs.Steps.{AreRecords, beginning};
 
 /// A law: from a reach on, a file has one list of records at most, and stops in one way.
 pub fn one_list_of_records()
@@ -26,14 +26,8 @@ pub fn every_reading()
     ensures { (start : Start) (bytes : List ℕ) → (frames : List Passed) × (stop : Stop) × ReadsAs start bytes frames stop }
 {}
 
-/// A law: each frame of a file is that of its record, which stands behind the records of the frames before it.
-pub fn frames_are_of_records()
-    ensures { (form : Form) (start : Start) (bytes : List ℕ) (frames : List Passed) (stop : Stop) → header_of bytes ≡ Ok form → ReadsAs start bytes frames stop
-        → (index : ℕ) (any : Passed) → index < length frames → IsOfRecord form start bytes frames index (slice_index_or frames index any) }
-{}
-
-/// A law: behind the records of all its frames a file ends, or a record is cut short or has a fault, and the records stop so.
-pub fn records_stop_behind_frames()
-    ensures { (form : Form) (start : Start) (bytes : List ℕ) (frames : List Passed) (stop : Stop) → header_of bytes ≡ Ok form → ReadsAs start bytes frames stop
-        → StopsBehind form start bytes frames stop }
+/// A law: where its header is good, a file reads as its records do, passed one by one from the first on.
+pub fn readings_are_records()
+    ensures { (form : Form) (start : Start) (bytes : List ℕ) (frames : List Passed) (stop : Stop) → header_of bytes ≡ Ok form
+        → ReadsAs start bytes frames stop ↔ AreRecords form start (beginning start) bytes frames stop }
 {}

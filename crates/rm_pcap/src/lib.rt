@@ -17,9 +17,6 @@ pub use capture::Capture;
 pub use fault::PcapFault;
 pub use form::{Form, Order, TimeUnit};
 pub use frame::{Frame, Step};
-pub use laws::{
-    every_reading, frames_are_of_records, one_list_of_records, one_reading,
-    records_stop_behind_frames,
-};
+pub use laws::{every_reading, one_list_of_records, one_reading, readings_are_records};
 pub use reach::Reach;
 pub use start::Start;

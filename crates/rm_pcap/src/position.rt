@@ -1,7 +1,8 @@
 ghost use Rattle.std.specs.Prelude.{◌≡◌, ◌≤◌, ◌<◌, ◌+◌, ℕ, List, length, drop, None, Some, IfOk, IfErr, IfSome, MatchResult, if◌then◌else◌};
 ghost use Rattle.rm_edge.specs.Outside.{File, Rose};
 ghost use Rattle.rm_edge.specs.Shelves.{KeepsShelf};
-ghost use Rattle.rm_pcap.specs.Records.{Broken, IsThere, Stops, fault_at, is_late, moment_at, time_of, found_at, found_in};
+ghost use Rattle.rm_pcap.specs.Records.{Broken, time_of};
+ghost use Rattle.rm_pcap.specs.Steps.{IsThere, Stops, fault_at, is_late, moment_at, found_at, found_in};
 ghost use Rattle.rm_window.specs.Filling.{IsFront};
 ghost use Rattle.rm_pcap.specs.Calls.{IsFaultAt, IsBroken};
 ghost use Rattle.rm_pcap.specs.Seen.{lengths_of, record_of, found_of, Follows, FollowsSeen, IsAllOf, IsNear, IsLong, IsPart, IsPartIn, AreSound};
@@ -43,7 +44,7 @@ impl Position {
     ghost use Rattle.rm_window.specs.Window.{octets_of, room_of};
 
     // The moment of the record whose header comes first. None where it has more than 32 bits.
-    #[tactic(auto, unfolding(crate::specs::Records::is_late))]
+    #[tactic(auto, unfolding(crate::specs::Steps::is_late))]
     fn moment(self, octets: &[u8]) -> Option<u32>
         requires { 16 ≤ length octets.now }
         ensures { result ≡ (if is_late self.form self.start self.reach octets.now then None
@@ -56,7 +57,7 @@ impl Position {
     }
 
     // The lengths in the header that comes first, or the header's first fault. The moment of the first record isn't judged here.
-    #[tactic(auto, unfolding(crate::specs::Records::fault_at, crate::specs::Records::included_of, crate::specs::Records::original_of))]
+    #[tactic(auto, unfolding(crate::specs::Steps::fault_at, crate::specs::Records::included_of, crate::specs::Records::original_of))]
     fn judge(self, octets: &[u8]) -> Result<Lengths, PcapFault>
         requires long { 16 ≤ length octets.now }
         requires near { IsNear self.reach }

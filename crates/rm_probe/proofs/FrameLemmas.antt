@@ -6,7 +6,8 @@ use Rattle.std.proofs.Math.Seq.{take-length}
 use Rattle.std.proofs.lemmas.Bool.Decides.{nat_tests}
 use Rattle.rm_edge.specs.Outside.{Held}
 use Rattle.rm_model.specs.Journal.{Frame, Journal, passes}
-use Rattle.rm_pcap.specs.Records.{Stop, Found, Whole, Stops as StopsAt}
+use Rattle.rm_pcap.specs.Records.{Stop}
+use Rattle.rm_pcap.specs.Steps.{Found, Whole, Stops as StopsAt}
 use Rattle.rm_pcap.specs.Progress.{Progress, moment_found, IsLawful, IsLawfulFind, IsUnseen}
 use Rattle.rm_pcap.specs.Calls.{Looks, Steps}
 use Rattle.rm_pcap.specs.declared.capture.Capture.{Capture}

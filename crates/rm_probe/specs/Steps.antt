@@ -3,7 +3,8 @@ use Rattle.std.specs.Prelude.{◌≡◌, ◌⊎◌, ℕ, ◌+◌, ◌≤◌, Boo
 use Rattle.rm_edge.specs.Outside.{Adds, AddsFront, File, Held}
 use Rattle.rm_edge.specs.declared.outside.link.Peer.{Peer}
 use Rattle.rm_model.specs.Journal.{Frame, Journal, passes}
-use Rattle.rm_pcap.specs.Records.{Stop, Found, Whole, Stops}
+use Rattle.rm_pcap.specs.Records.{Stop}
+use Rattle.rm_pcap.specs.Steps.{Found, Whole, Stops}
 use Rattle.rm_pcap.specs.View.{progress_of}
 use Rattle.rm_pcap.specs.declared.capture.Capture.{Capture}
 use Rattle.rm_pcap.specs.declared.reach.Reach.{Reach}

@@ -4,7 +4,8 @@ use Rattle.std.proofs.lemmas.List.{append-nil}
 use Rattle.rm_edge.specs.Outside.{Held, Untold, Absent, File, OfFile}
 use Rattle.rm_edge.specs.Uses.{FileUse, HasReadFault}
 use Rattle.rm_model.specs.Journal.{Frame}
-use Rattle.rm_pcap.specs.Records.{Stop, Ended, CutAt, Broken, Found, Whole, Stops as StopsAt, found_at, AreRecords, ReadsAs, alone, beginning}
+use Rattle.rm_pcap.specs.Records.{Stop, Ended, CutAt, Broken, ReadsAs, alone}
+use Rattle.rm_pcap.specs.Steps.{Found, Whole, Stops as StopsAt, found_at, AreRecords, beginning}
 use Rattle.rm_pcap.specs.Progress.{Progress, Agrees, next_in, Shows, begun, frame_of, IsLawful}
 use Rattle.rm_pcap.specs.Calls.{Passes, Steps, Fails, IsBroken as IsBrokenOff, BeginsAs}
 use Rattle.rm_pcap.specs.Header.{header_of}

@@ -1,4 +1,4 @@
-use Rattle.rm_pcap.proofs.RecordLaws.{every_reading}
+use Rattle.rm_pcap.proofs.ReadingLemmas.{every_reading}
 use Rattle.rm_pcap.proofs.laws.every_reading.Goals as goal
 
 pub returns : goal.returns

@@ -1,4 +1,4 @@
-use Rattle.rm_pcap.proofs.RecordLaws.{one_reading}
+use Rattle.rm_pcap.proofs.ReadingLemmas.{one_reading}
 use Rattle.rm_pcap.proofs.laws.one_reading.Goals as goal
 
 pub returns : goal.returns

@@ -1,5 +1,6 @@
 use Rattle.std.proofs.Common.{◌≡◌, ◌∙◌, ℕ, List, take, Some, None, Ok, refl, sym, ap, arith}
-use Rattle.rm_pcap.specs.Records.{Ended, CutAt, Stops, time_of}
+use Rattle.rm_pcap.specs.Records.{Ended, CutAt, time_of}
+use Rattle.rm_pcap.specs.Steps.{Stops}
 use Rattle.rm_pcap.specs.Progress.{Progress}
 use Rattle.rm_window.specs.Window.{octets_of}
 use Rattle.rm_pcap.specs.View.{progress_of, ahead_of}

@@ -1,6 +1,6 @@
 use Rattle.std.proofs.Common.{◌≡◌, ◌+◌, ◌-◌, ℕ, List, ◌∙◌, ap, sym, subst, take, drop, Some, None, arith}
 use Rattle.rm_pcap.specs.declared.position.Position.{Position}
-use Rattle.rm_pcap.specs.Records.{Whole}
+use Rattle.rm_pcap.specs.Steps.{Whole}
 use Rattle.rm_pcap.specs.Progress.{Progress}
 use Rattle.rm_pcap.specs.Calls.{Looks}
 use Rattle.rm_pcap.specs.Seen.{frame_seen}

@@ -2,7 +2,7 @@ use Rattle.std.proofs.Common.{◌∙◌, length, sym, ap, arith, inr}
 use Rattle.std.proofs.lemmas.Result.{err_from_is_err_and}
 use Rattle.rm_window.specs.Window.{octets_of}
 use Rattle.rm_pcap.specs.declared.record.Part.TheVariants.{Whole as WholePart}
-use Rattle.rm_pcap.specs.Records.{fault_at}
+use Rattle.rm_pcap.specs.Steps.{fault_at}
 use Rattle.rm_pcap.specs.Seen.{lengths_of, within}
 use Rattle.rm_pcap.proofs.FoundLemmas.{is_header, found_broken, cut_behind, whole_part, lengths_in, faultless_in}
 use Rattle.rm_pcap.proofs.KeptLemmas.{fault_there, included_there, lengths_there}
