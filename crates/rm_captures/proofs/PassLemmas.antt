@@ -16,6 +16,7 @@ use Rattle.rm_pcap.specs.Progress.{Progress, Shows}
 use Rattle.rm_pcap.specs.Calls.{Passes, Steps, Fails}
 use Rattle.rm_pcap.specs.View.{progress_of}
 use Rattle.rm_pcap.proofs.RecordLaws.{taken}
+use Rattle.rm_pcap.proofs.ReadingLemmas.{readings_are_records}
 use Rattle.rm_captures.specs.Merge.{merge}
 use Rattle.rm_captures.specs.Rounds.{standing, AreRead}
 use Rattle.rm_captures.specs.Reading.{AreHeld, AreReady, IsReady}
@@ -201,10 +202,9 @@ steps_at held from (suc place) interface (n ∷ names) (o ∷ olds) name any old
 -- captures of files that are such are left whole
 records_from : (start : Start) (bytes : List ℕ) (progress : Progress) (frames : List Frame) (stop : Stop) → IsReady start bytes progress → ReadsAs start bytes frames stop
     → AreRecords progress.form progress.start progress.reach bytes frames stop
-unfolding ReadsAs
 records_from start bytes progress frames stop ready reads =
     subst (λ (r : Reach). AreRecords progress.form progress.start r bytes frames stop) (sym ready.unseen.first)
-    (subst (λ (s : Start). AreRecords progress.form s (beginning s) bytes frames stop) (sym ready.start_is) (rw ready.header at reads))
+    (subst (λ (s : Start). AreRecords progress.form s (beginning s) bytes frames stop) (sym ready.start_is) ((readings_are_records progress.form start bytes frames stop ready.header).0 reads))
 
 pub all_left : (base : Option ℕ) (lead interface : ℕ) (files : List (List ℕ)) (captures : List Capture) (frames : List Frame) (stop : Stop) → AreReady base lead interface files captures → AreRead base lead interface files frames stop
     → AreLeft interface captures files frames stop

@@ -18,6 +18,7 @@ use Rattle.rm_pcap.specs.declared.frame.Step.TheVariants.{Next, End, Cut}
 use Rattle.rm_pcap.specs.Progress.{Progress, Agrees, IsUnseen, Shows, begun, based_at, with_base}
 use Rattle.rm_pcap.specs.Calls.{LooksFirst, BeginsAs, IsFirst, Passes, Fails}
 use Rattle.rm_pcap.specs.View.{progress_of}
+use Rattle.rm_pcap.proofs.ReadingLemmas.{readings_are_records}
 use Rattle.rm_captures.specs.Merge.{merge}
 use Rattle.rm_captures.specs.Rounds.{standing, first_found, first_by, first_round, earlier, with_others, IsFaultless, IsGood, IsLater, early, late, AreRead, either_stop}
 use Rattle.rm_captures.specs.Reading.{AreHeld, AreReady, AreUnseen, AreGood, EndsRound, IsExcused, IsReady, Judges, ReadsOn}
@@ -136,9 +137,9 @@ more_based base lead interface (bytes ∷ files) old new olds news is unseen agr
 
 -- a file of which a capture was begun reads as its records do from there on
 reads_from : (start : Start) (bytes : List ℕ) (progress : Progress) (frames : List Frame) (stop : Stop) → IsReady start bytes progress → AreRecords progress.form progress.start progress.reach bytes frames stop → ReadsAs start bytes frames stop
-unfolding ReadsAs
 reads_from start bytes progress frames stop ready are =
-    rw ready.header (subst (λ (s : Start). AreRecords progress.form s (beginning s) bytes frames stop) ready.start_is
+    (readings_are_records progress.form start bytes frames stop ready.header).1
+    (subst (λ (s : Start). AreRecords progress.form s (beginning s) bytes frames stop) ready.start_is
     (subst (λ (r : Reach). AreRecords progress.form progress.start r bytes frames stop) ready.unseen.first are))
 
 pub good_from : (base : Option ℕ) (lead interface : ℕ) (bytes : List ℕ) (progress : Progress) → IsReady (standing base lead interface) bytes progress → ReadsOn {T = Unit {0}} progress bytes (Ok tt) → IsGood (standing base lead interface) bytes

@@ -19,6 +19,7 @@ use Rattle.rm_pcap.specs.declared.frame.Frame.{Frame as Lent}
 use Rattle.rm_pcap.specs.declared.frame.Step.{Step}
 use Rattle.rm_pcap.specs.declared.frame.Step.TheVariants.{Next, End, Cut}
 use Rattle.rm_pcap.specs.View.{progress_of}
+use Rattle.rm_pcap.proofs.ReadingLemmas.{readings_are_records}
 use Rattle.rm_summary.specs.declared.counts.Counts.{Counts}
 use Rattle.rm_summary.specs.declared.reading.Ending.{Ending}
 use Rattle.rm_summary.specs.declared.reading.Ending.TheVariants as ending
@@ -47,8 +48,7 @@ of_told Absent P Q to p = absurd p
 of_told (File bytes) P Q to p = to bytes refl p
 
 begins : (form : Form) (lead : ℕ) (bytes : List ℕ) (frames : List Frame) (stop : Stop) → header_of bytes ≡ Ok form → AreRecords form (alone lead) (beginning (alone lead)) bytes frames stop → ReadsAs (alone lead) bytes frames stop
-unfolding ReadsAs
-begins form lead bytes frames stop header are = rw header are
+begins form lead bytes frames stop header are = (readings_are_records form (alone lead) bytes frames stop header).1 are
 
 -- where a capture was begun, none is counted yet
 pub counting_begins : (lead : ℕ) (keep_short : Bool) (held : Held) (capture : Capture) (result : Result Capture PcapFault) (counts : Counts) → result ≡ Ok capture → (held ≡ Absent → result ≡ Err Read)
