@@ -8,3 +8,4 @@ pub mod StepLemmas
 mod FaultLemmas
 mod StopLemmas
 pub mod ReadingLemmas
+mod Examples

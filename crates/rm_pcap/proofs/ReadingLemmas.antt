@@ -115,10 +115,10 @@ finds form start bytes frames index reach frame d inside is_next reached of =
     } in
     let soon : is_late form start reach xs ≡ false = not_late form start reach xs (omega (arith, time, of.soon)) in
     let same : frame_at form start reach xs ≡ frame =
-        frame_is frame start.interface (moment_at start reach (time_of form xs)) (reach.count + 1) (take (included_of form xs) (drop 16 xs)) (max (included_of form xs) (original_of form xs))
-        (sym of.interface) time (ap (λ (n : ℕ). n + 1) reached.count ∙ sym of.number)
-        (ap (λ (n : ℕ). take n (drop 16 xs)) (sym captured) ∙ ap (λ (t : List ℕ). take (length frame.octets) (drop 16 t)) there ∙ sym of.octets)
-        (ap (λ (n : ℕ). max n (original_of form xs)) (sym captured) ∙ sym greatest) in
+    frame_is frame start.interface (moment_at start reach (time_of form xs)) (reach.count + 1) (take (included_of form xs) (drop 16 xs)) (max (included_of form xs) (original_of form xs))
+    (sym of.interface) time (ap (λ (n : ℕ). n + 1) reached.count ∙ sym of.number)
+    (ap (λ (n : ℕ). take n (drop 16 xs)) (sym captured) ∙ ap (λ (t : List ℕ). take (length frame.octets) (drop 16 t)) there ∙ sym of.octets)
+    (ap (λ (n : ℕ). max n (original_of form xs)) (sym captured) ∙ sym greatest) in
     there_is form start reach xs there_all ∙ rw soon (ap (λ (f : Frame). Whole f (reach_after form start reach xs)) same)
 
 -- what is left of a list at a place is its element there, and the rest

@@ -87,27 +87,27 @@ end_of_next form bytes frames = end_of frames + (16 + included_of form (left_beh
 abbrev pub moment_of_next : Form → Start → List ℕ → List Frame → ℕ
 moment_of_next form start bytes frames = latest form start bytes frames (length frames + 1)
 
--- it is none too many, and its header has lengths that may be
+-- it isn't one too many, and the lengths in its header are at most 262144
 pub record MayFollow (form : Form) (bytes : List ℕ) (frames : List Frame) : Type 0 where
   pub few : length frames < 100000000
   pub included : included_of form (left_behind bytes frames) ≤ 262144
   pub original : original_of form (left_behind bytes frames) ≤ 262144
 
--- The file cuts it short: within the header, or behind a header without a fault. The moment of a first record that is cut short counts nowhere.
+-- The file cuts it short: within its header, or behind a header without a fault. The moment of a first record isn't judged then.
 pub data IsCutShort (form : Form) (start : Start) (bytes : List ℕ) (frames : List Frame) : Type 0 where
   in_header : end_of frames < length bytes → length bytes < end_of frames + 16 → IsCutShort form start bytes frames
   in_octets : end_of frames + 16 ≤ length bytes → MayFollow form bytes frames → (0 < length frames → moment_of_next form start bytes frames < 2 ^ 32)
-    → length bytes < end_of_next form bytes frames → IsCutShort form start bytes frames
+      → length bytes < end_of_next form bytes frames → IsCutShort form start bytes frames
 
--- Its header stands there whole, and this is the first fault: that it is one too many, that a length is above 262144, that its moment has more than
--- 32 bits. The moment of a first record is a fault only where the record is whole.
+-- The first fault of its header: one record too many, a length above 262144, or a moment of more than 32 bits. The moment of a first record is
+-- judged only where the record is whole.
 pub data HasFault (form : Form) (start : Start) (bytes : List ℕ) (frames : List Frame) (fault : PcapFault) : Type 0 where
   too_many : fault ≡ TooMany → length frames ≡ 100000000 → HasFault form start bytes frames fault
   included : fault ≡ Included (end_of frames + 8) → length frames < 100000000 → 262144 < included_of form (left_behind bytes frames) → HasFault form start bytes frames fault
   original : fault ≡ Original (end_of frames + 12) → length frames < 100000000 → included_of form (left_behind bytes frames) ≤ 262144
-    → 262144 < original_of form (left_behind bytes frames) → HasFault form start bytes frames fault
+      → 262144 < original_of form (left_behind bytes frames) → HasFault form start bytes frames fault
   late : fault ≡ Late (end_of frames) → MayFollow form bytes frames → 2 ^ 32 ≤ moment_of_next form start bytes frames
-    → (length frames ≡ 0 → end_of_next form bytes frames ≤ length bytes) → HasFault form start bytes frames fault
+      → (length frames ≡ 0 → end_of_next form bytes frames ≤ length bytes) → HasFault form start bytes frames fault
 
 -- behind the records of all frames the file ends, or cuts a record short, or has the header of one with a fault
 abbrev pub StopsBehind : Form → Start → List ℕ → List Frame → Stop → Type 0
