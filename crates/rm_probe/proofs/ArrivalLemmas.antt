@@ -6,8 +6,8 @@ use Rattle.rm_edge.specs.Outside.{Adds}
 use Rattle.rm_edge.specs.Clock.{Tells}
 use Rattle.rm_edge.specs.Link.{Datagram, Receives}
 use Rattle.rm_edge.specs.declared.outside.link.Peer.{Peer}
-use Rattle.rm_probe.specs.Serving.{Arrival, HaveCome, TellsAll, received_of, rising}
-use Rattle.rm_probe.specs.Turns.{ReceivesOne, last_of, room}
+use Rattle.rm_probe.specs.Serving.{Arrival, HaveCome, TellsAll, last_of, received_of, rising}
+use Rattle.rm_probe.specs.Turns.{ReceivesOne, room}
 use Rattle.rm_probe.proofs.OutputLemmas.{adds_same, adds_then}
 
 tells_none : (told : Option (List ℕ)) → TellsAll told told []

@@ -32,14 +32,16 @@ use Rattle.rm_probe.specs.declared.status.Status.{Status}
 use Rattle.rm_probe.specs.declared.status.Status.TheVariants.{Done, Usage, BadCapture, BadRequests, ReadFault, WriteFault, NoMemory, LinkFault, TooLong}
 use Rattle.rm_probe.proofs.FaultLemmas.{OneReading, called_first, not_broken, same_fault}
 use Rattle.rm_probe.proofs.FileLemmas.{files_of, held_are, of_files, of_told, told, told_files}
+use Rattle.rm_probe.proofs.InOrderLemmas.{FramesRise, RequestsRise, run_in_order}
 use Rattle.rm_probe.proofs.PassingLemmas.{SomethingSaid}
 use Rattle.rm_probe.proofs.RunLemmas.{said_none}
 
 -- a run that has written nothing has written a front
-pub text_none : (settings : Settings) → SomethingSaid → IsOrderly [] → (old : Option (List ℕ)) (frames : List Frame) (stop : Stop) (requests : List TimedDatagram) → (text : List ℕ) × IsText settings frames stop requests text × AddsFront old old text
-text_none settings every orderly old frames stop requests =
-    let (said, is) = said_none settings every orderly frames stop requests in
-    (lines said, record { said = said; is_run = is; whole = refl }, (0, adds_none old))
+pub text_none : (settings : Settings) → SomethingSaid → IsOrderly [] → (old : Option (List ℕ)) (frames : List Frame) (stop : Stop) (requests : List TimedDatagram) → FramesRise frames → RequestsRise requests
+    → (text : List ℕ) × IsText settings frames stop requests text × AddsFront old old text
+text_none settings every orderly old frames stop requests frames_order requests_order =
+    let (said, run) = said_none settings every orderly frames stop requests in
+    (lines said, record { said = said; is_run = run_in_order settings frames stop requests said frames_order requests_order run; whole = refl }, (0, adds_none old))
 
 -- the fault of a failed read
 abbrev pub unread : ℕ → CaptureFault

@@ -3,7 +3,8 @@ use Rattle.std.proofs.Common.{◌≡◌, ℕ, ◌+◌, List, [], ◌∷◌, ◌+
 use Rattle.rm_model.specs.Journal.{Frame}
 use Rattle.rm_requests.specs.Lines.{TimedDatagram}
 use Rattle.rm_probe.proofs.PassingLemmas.{all_frames, more_comings}
-use Rattle.rm_probe.specs.Events.{Event, Asks, comings, events, events_by, frames_left}
+use Rattle.rm_probe.specs.Events.{Event, Asks, comings}
+use Rattle.rm_probe.proofs.Going.{events, events_by, frames_left}
 use Rattle.rm_captures.specs.Merge.{frames_after, is_by}
 
 -- the events up to a datagram behind others

@@ -1,12 +1,17 @@
 pub mod AnswerLemmas
 pub mod ArrivalLemmas
+pub mod CaptureOrder
 pub mod EndLemmas
 pub mod EventLemmas
 pub mod FaultLemmas
 pub mod FileLemmas
 pub mod FrameLemmas
+pub mod FramesByLast
+pub mod Going
+pub mod InOrderLemmas
 pub mod JudgeLemmas
 pub mod NameLemmas
+pub mod OneOrder
 pub mod OneText
 pub mod OrderLemmas
 pub mod OutputLemmas

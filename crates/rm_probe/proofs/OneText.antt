@@ -1,5 +1,5 @@
 -- One text of the same frames and datagrams.
-use Rattle.std.proofs.Common.{◌≡◌, ◌⊎◌, inl, inr, ℕ, ◌-◌, true, List, [], ◌∷◌, ◌++◌, length, map, drop, Option, Some, None, refl, sym, ap, subst, ◌∙◌}
+use Rattle.std.proofs.Common.{◌≡◌, ◌⊎◌, inl, inr, ℕ, true, List, [], ◌∷◌, ◌++◌, length, map, drop, Option, Some, None, refl, sym, ap, subst, ◌∙◌}
 use Rattle.std.specs.List.{slice_get}
 use Rattle.rm_model.specs.Journal.{Frame, Journal, passes}
 use Rattle.rm_pcap.specs.Records.{Stop}
@@ -12,11 +12,13 @@ use Rattle.rm_agent.specs.Answers.{reason_for, IsReplyAfter}
 use Rattle.rm_requests.specs.Lines.{TimedDatagram}
 use Rattle.rm_probe.specs.Advance.{note_of, IsAdvanced}
 use Rattle.rm_probe.specs.Notes.{Note}
-use Rattle.rm_probe.specs.Said.{Response, Replied, Dropped, Said, Notified, Responded, Last, is_cut_behind, lines}
+use Rattle.rm_probe.specs.Said.{Response, Replied, Dropped, Said, Notified, Responded, Last, lines}
 use Rattle.rm_probe.specs.Laws.{IsToldOnce, OneOfEach}
-use Rattle.rm_probe.specs.Events.{Event, Comes, Asks, events, events_by, frames_left}
-use Rattle.rm_probe.specs.Serving.{Arrival, IsServed, IsServedBy, requests_of}
+use Rattle.rm_probe.specs.Events.{Event, Comes, Asks}
+use Rattle.rm_probe.specs.InOrder.{AreInOrder}
+use Rattle.rm_probe.specs.Serving.{Arrival, IsServed, IsServedBy, frames_by_last, last_served, requests_of}
 use Rattle.rm_probe.specs.Text.{IsAnswered, dropped, replied, AreSaid, ReservesNothing, AreWithoutChoice, Choice, AreSaidBy, IsText, IsTextBy}
+use Rattle.rm_probe.proofs.OneOrder.{one_order}
 
 module _ (settings : Settings) (one : OneOfEach settings) where
   -- samples have one list of notes, and leave one journal
@@ -122,17 +124,21 @@ told_once {T} settings one es make IsTold IsToldBy parts parts_by whole_by = rec
     open_ended without told is =
         let (said, are, whole) = parts told is in whole_by [] told said (without_choice settings one [] es said without are) whole
 
-pub text_once : (settings : Settings) → OneOfEach settings → (frames : List Frame) (stop : Stop) (requests : List TimedDatagram)
-    → IsToldOnce settings (events 1 frames requests) (IsText settings frames stop requests) (IsTextBy settings frames stop requests)
-text_once settings one frames stop requests =
-    told_once settings one (events 1 frames requests) (λ (before : List Said). lines (before ++ Last (is_cut stop) (length frames) (length requests) ∷ [])) (IsText settings frames stop requests) (IsTextBy settings frames stop requests)
-    (λ text is. (is.is_run.before, is.is_run.are_said, is.whole ∙ ap lines is.is_run.whole)) (λ choices text is. (is.before, is.are_said, is.whole))
-    (λ choices text before are whole. record { before = before; are_said = are; whole = whole })
+pub text_once : (settings : Settings) → OneOfEach settings → (frames : List Frame) (stop : Stop) (requests : List TimedDatagram) (events : List Event) → AreInOrder 1 frames requests events
+    → IsToldOnce settings events (IsText settings frames stop requests) (IsTextBy settings frames stop requests)
+text_once settings one frames stop requests events order =
+    told_once settings one events (λ (before : List Said). lines (before ++ Last (is_cut stop) (length frames) (length requests) ∷ [])) (IsText settings frames stop requests) (IsTextBy settings frames stop requests)
+    (λ text is. (is.is_run.before, subst (λ (es : List Event). AreSaid settings [] es is.is_run.before) (one_order 1 frames requests is.is_run.events events is.is_run.in_order order) is.is_run.are_said, is.whole ∙ ap lines is.is_run.whole))
+    (λ choices text is. (is.before, subst (λ (es : List Event). AreSaidBy settings [] es choices is.before) (one_order 1 frames requests is.events events is.in_order order) is.are_said, is.whole))
+    (λ choices text before are whole. record { events = events; in_order = order; before = before; are_said = are; whole = whole })
 
-pub served_once : (settings : Settings) → OneOfEach settings → (frames : List Frame) (stop : Stop) (arrivals : List Arrival)
-    → IsToldOnce settings (events_by 1 frames (requests_of arrivals)) (IsServed settings frames stop arrivals) (IsServedBy settings frames stop arrivals)
-served_once settings one frames stop arrivals =
-    told_once settings one (events_by 1 frames (requests_of arrivals))
-    (λ (before : List Said). before ++ Last (is_cut_behind (frames_left (requests_of arrivals) frames) stop) (length frames - length (frames_left (requests_of arrivals) frames)) (length arrivals) ∷ [])
-    (IsServed settings frames stop arrivals) (IsServedBy settings frames stop arrivals) (λ said is. (is.before, is.are_said, is.whole)) (λ choices said is. (is.before, is.are_said, is.whole))
-    (λ choices said before are whole. record { before = before; are_said = are; whole = whole })
+pub served_once : (settings : Settings) → OneOfEach settings → (frames : List Frame) (stop : Stop) (arrivals : List Arrival) (events : List Event) → AreInOrder 1 (frames_by_last arrivals frames) (requests_of arrivals) events
+    → IsToldOnce settings events (IsServed settings frames stop arrivals) (IsServedBy settings frames stop arrivals)
+served_once settings one frames stop arrivals events order =
+    told_once settings one events (λ (before : List Said). before ++ last_served frames stop arrivals ∷ []) (IsServed settings frames stop arrivals) (IsServedBy settings frames stop arrivals)
+    (λ said is. (is.before, subst (λ (es : List Event). AreSaid settings [] es is.before) (same is.events is.in_order) is.are_said, is.whole))
+    (λ choices said is. (is.before, subst (λ (es : List Event). AreSaidBy settings [] es choices is.before) (same is.events is.in_order) is.are_said, is.whole))
+    (λ choices said before are whole. record { events = events; in_order = order; before = before; are_said = are; whole = whole })
+  where
+    same : (other : List Event) → AreInOrder 1 (frames_by_last arrivals frames) (requests_of arrivals) other → other ≡ events
+    same other is = one_order 1 (frames_by_last arrivals frames) (requests_of arrivals) other events is order

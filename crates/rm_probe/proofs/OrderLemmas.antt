@@ -7,7 +7,8 @@ use Rattle.std.proofs.Math.Numerals.{one-add}
 use Rattle.std.proofs.lemmas.Bool.{leb-true, leb-false}
 use Rattle.rm_model.specs.Journal.{Frame}
 use Rattle.rm_requests.specs.Lines.{TimedDatagram}
-use Rattle.rm_probe.specs.Events.{Event, Comes, Asks, comings, events, events_by, frames_left}
+use Rattle.rm_probe.specs.Events.{Event, Comes, Asks, comings}
+use Rattle.rm_probe.proofs.Going.{events, events_by, frames_left}
 use Rattle.rm_captures.specs.Merge.{is_by}
 use Rattle.rm_probe.specs.InOrder.{moment_of, coming_in, asking_in, AreInOrder}
 
@@ -78,7 +79,7 @@ all_askings _ _ _ _ (asks number request frames requests list late behind) =
     ap (λ (rs : List (ℕ × TimedDatagram)). (number, request) ∷ rs) (all_askings (number + 1) frames requests list behind)
 
 -- a number of each element isn't below that of the one before
-abbrev Rises : {X : Type 0} → (X → ℕ) → ℕ → List X → Type 0
+abbrev pub Rises : {X : Type 0} → (X → ℕ) → ℕ → List X → Type 0
 Rises rank low [] = Unit {0}
 Rises rank low (x ∷ xs) = (low ≤ rank x) × Rises rank (rank x) xs
 
@@ -88,14 +89,14 @@ module _ {X : Type 0} (rank : X → ℕ) where
   rises_above low (x ∷ xs) rises zero d within = rises.0
   rises_above low (x ∷ xs) rises (suc j) d within = omega (arith, rises.0, rises_above (rank x) xs rises.1 j d (omega (arith, within)))
 
-  rises_all : (low : ℕ) (xs : List X) → Rises rank low xs → IsNonDecreasingBy rank xs
+  pub rises_all : (low : ℕ) (xs : List X) → Rises rank low xs → IsNonDecreasingBy rank xs
   rises_all low [] rises i j d le within = absurd (omega (arith, within))
   rises_all low (x ∷ xs) rises zero zero d le within = omega arith
   rises_all low (x ∷ xs) rises zero (suc j) d le within = rises_above (rank x) xs rises.1 j d (omega (arith, within))
   rises_all low (x ∷ xs) rises (suc i) zero d le within = absurd (omega (arith, le))
   rises_all low (x ∷ xs) rises (suc i) (suc j) d le within = rises_all (rank x) xs rises.1 i j d (omega (arith, le)) (omega (arith, within))
 
-  rises_from : (low : ℕ) (xs : List X) → IsNonDecreasingBy rank xs → ((j : ℕ) (d : X) → j < length xs → low ≤ rank (get_or xs j d)) → Rises rank low xs
+  pub rises_from : (low : ℕ) (xs : List X) → IsNonDecreasingBy rank xs → ((j : ℕ) (d : X) → j < length xs → low ≤ rank (get_or xs j d)) → Rises rank low xs
   rises_from low [] order above = tt
   rises_from low (x ∷ xs) order above = (
     above 0 x (omega arith),
@@ -105,13 +106,13 @@ module _ {X : Type 0} (rank : X → ℕ) where
   )
 
 -- frames stand before datagrams of the same moment
-abbrev frame_rank : Frame → ℕ
+abbrev pub frame_rank : Frame → ℕ
 frame_rank frame = 2 * frame.moment
 
-abbrev request_rank : TimedDatagram → ℕ
+abbrev pub request_rank : TimedDatagram → ℕ
 request_rank request = 2 * request.moment + 1
 
-abbrev event_rank : Event → ℕ
+abbrev pub event_rank : Event → ℕ
 event_rank (Comes frame) = frame_rank frame
 event_rank (Asks number request) = request_rank request
 

@@ -17,13 +17,14 @@ use Rattle.rm_captures.specs.Merge.{frames_after, is_by}
 use Rattle.rm_captures.specs.Reading.{AreHeld}
 use Rattle.rm_probe.specs.declared.status.Status.{Status}
 use Rattle.rm_probe.specs.declared.status.Status.TheVariants.{Done, Usage, BadCapture, BadRequests, ReadFault, WriteFault, NoMemory, LinkFault, TooLong}
-use Rattle.rm_probe.specs.Events.{Event, Asks, events, events_by, frames_left, comings}
+use Rattle.rm_probe.specs.Events.{Event, Asks, comings}
+use Rattle.rm_probe.proofs.Going.{RunsThrough, SaysThrough, events, events_by, frames_left}
 use Rattle.rm_probe.specs.Said.{Said, Notified, Last}
-use Rattle.rm_probe.specs.Text.{AreSaid, IsRun}
+use Rattle.rm_probe.specs.Text.{AreSaid}
 use Rattle.rm_settings.specs.declared.settings.Settings.{Settings}
 use Rattle.rm_agent.specs.Orderly.{IsOrderly}
 use Rattle.rm_probe.specs.Probe.{settings_of, last_given, Stands}
-use Rattle.rm_probe.specs.Steps.{FailsBy, FindsAnother, HasBegun, IsForeign, IsLastSaid, IsNextSaid, AreNotLeft, IsNotRequests, IsQuiet, Keeps, SaysNext, SaysRun, ends_by}
+use Rattle.rm_probe.specs.Steps.{FailsBy, FindsAnother, HasBegun, IsForeign, IsLastSaid, IsNextSaid, AreNotLeft, IsNotRequests, IsQuiet, Keeps, SaysNext, ends_by}
 use Rattle.rm_probe.specs.declared.probe.Probe.{Probe}
 use Rattle.rm_probe.specs.Notes.{Note}
 use Rattle.rm_probe.proofs.EventLemmas.{events_more, events_split, left_more, split_at, split_last}
@@ -85,7 +86,7 @@ module _ (settings : Settings) where
 
   -- something that may be said of all that is left makes a run
   to_run : (files : List (List ℕ)) (frames : List Frame) (stop : Stop) (taken more : List TimedDatagram) (captures : List Capture) (probe : Probe) (said next rest : List Said) → (r : InRun files frames stop taken captures probe said)
-      → AreSaid settings r.journal (events (1 + length taken) r.left more) (next ++ rest) → (all : List Said) × IsRun settings frames stop (taken ++ more) ((said ++ next) ++ all)
+      → AreSaid settings r.journal (events (1 + length taken) r.left more) (next ++ rest) → (all : List Said) × RunsThrough settings frames stop (taken ++ more) ((said ++ next) ++ all)
   to_run files frames stop taken more captures probe said next rest r are =
       let last : List Said = Last (is_cut stop) (length frames) (length (taken ++ more)) ∷ [] in
       let es : events_by 1 frames taken ++ events (1 + length taken) r.left more ≡ events 1 frames (taken ++ more) =
@@ -100,29 +101,29 @@ module _ (settings : Settings) where
 
   -- a run that stops there has said the first of what may be said
   pub said_so_far : SomethingSaid → (files : List (List ℕ)) (frames : List Frame) (stop : Stop) (taken more : List TimedDatagram) (captures : List Capture) (probe : Probe) (said : List Said)
-      → InRun files frames stop taken captures probe said → (rest : List Said) × IsRun settings frames stop (taken ++ more) (said ++ rest)
+      → InRun files frames stop taken captures probe said → (rest : List Said) × RunsThrough settings frames stop (taken ++ more) (said ++ rest)
   said_so_far every files frames stop taken more captures probe said r =
       let m = every settings r.journal r.stands.orderly (events (1 + length taken) r.left more) in
       let (rest, is) = to_run files frames stop taken more captures probe said [] m.0 r m.1 in
-      (rest, subst (λ (s : List Said). IsRun settings frames stop (taken ++ more) (s ++ rest)) (append-nil said) is)
+      (rest, subst (λ (s : List Said). RunsThrough settings frames stop (taken ++ more) (s ++ rest)) (append-nil said) is)
 
   -- and so has one that stops after some notifications
   pub said_stopped : SomethingSaid → (files : List (List ℕ)) (frames : List Frame) (stop : Stop) (taken more : List TimedDatagram) (captures : List Capture) (probe : Probe) (said : List Said) (moment : ℕ) (es : List Event) (notes : List Note)
       → (r : InRun files frames stop taken captures probe said) → comings (take_while (is_by moment) r.left) ++ es ≡ events (1 + length taken) r.left more
-      → HasBegun settings moment r.left r.journal notes → (rest : List Said) × IsRun settings frames stop (taken ++ more) ((said ++ map Notified notes) ++ rest)
+      → HasBegun settings moment r.left r.journal notes → (rest : List Said) × RunsThrough settings frames stop (taken ++ more) ((said ++ map Notified notes) ++ rest)
   said_stopped every files frames stop taken more captures probe said moment es notes r left begun =
       let m = begun_said settings every moment r.left r.journal notes es begun in
       to_run files frames stop taken more captures probe said (map Notified notes) m.0 r (subst (λ (es : List Event). AreSaid settings r.journal es (map Notified notes ++ m.0)) left m.1)
 
   -- a run that has said nothing has said the first
-  pub said_none : SomethingSaid → IsOrderly [] → (frames : List Frame) (stop : Stop) (requests : List TimedDatagram) → (rest : List Said) × IsRun settings frames stop requests rest
+  pub said_none : SomethingSaid → IsOrderly [] → (frames : List Frame) (stop : Stop) (requests : List TimedDatagram) → (rest : List Said) × RunsThrough settings frames stop requests rest
   said_none every orderly frames stop requests =
       let m = every settings [] orderly (events 1 frames requests) in
       (m.0 ++ Last (is_cut stop) (length frames) (length requests) ∷ [], record { before = m.0; are_said = m.1; whole = refl })
 
   -- all is said with the last line
   said_all : (files : List (List ℕ)) (frames : List Frame) (stop : Stop) (taken : List TimedDatagram) (captures : List Capture) (probe : Probe) (said last : List Said)
-      → (r : InRun files frames stop taken captures probe said) → IsLastSaid settings (passed_of captures) (length taken) r.left stop r.journal last → IsRun settings frames stop taken (said ++ last)
+      → (r : InRun files frames stop taken captures probe said) → IsLastSaid settings (passed_of captures) (length taken) r.left stop r.journal last → RunsThrough settings frames stop taken (said ++ last)
   said_all files frames stop taken captures probe said last r (before, are, is) =
       record {
         before = said ++ before;
@@ -133,22 +134,22 @@ module _ (settings : Settings) where
   -- what was said with the answer to a datagram is the first of what may be said
   pub answer_first : SomethingSaid → (files : List (List ℕ)) (frames : List Frame) (stop : Stop) (taken more : List TimedDatagram) (captures captures' : List Capture) (probe probe' : Probe) (said next : List Said) (number : ℕ) (request : TimedDatagram)
       → (r : InRun files frames stop taken captures probe said) → number ≡ 1 + length taken → IsNextSaid files captures captures' settings probe' number request r.left stop r.journal next
-      → (rest : List Said) × IsRun settings frames stop (taken ++ request ∷ more) ((said ++ next) ++ rest)
+      → (rest : List Said) × RunsThrough settings frames stop (taken ++ request ∷ more) ((said ++ next) ++ rest)
   answer_first every files frames stop taken more captures captures' probe probe' said next number request r is_number is =
       let (rest, run) = said_so_far every files frames stop (taken ++ request ∷ []) more captures' probe' (said ++ next) (next_said files frames stop taken captures captures' probe probe' said next number request r is_number is) in
-      (rest, subst (λ (rs : List TimedDatagram). IsRun settings frames stop rs ((said ++ next) ++ rest)) (append_assoc taken (request ∷ []) more) run)
+      (rest, subst (λ (rs : List TimedDatagram). RunsThrough settings frames stop rs ((said ++ next) ++ rest)) (append_assoc taken (request ∷ []) more) run)
 
   -- the answer to a datagram isn't said whole
   pub answer_stops : SomethingSaid → (files : List (List ℕ)) (frames : List Frame) (stop : Stop) (taken more : List TimedDatagram) (captures captures' : List Capture) (probe probe' : Probe) (said next : List Said) (number : ℕ) (request : TimedDatagram)
       → (r : InRun files frames stop taken captures probe said) → number ≡ 1 + length taken → (status : Status)
       → SaysNext {T = Unit {0}} (IsNextSaid files captures captures' settings probe' number request r.left stop r.journal) (HasBegun settings request.moment r.left r.journal) next (Err status)
-      → SaysRun {T = Unit {0}} settings frames stop (taken ++ request ∷ more) (said ++ next) (Err status)
+      → SaysThrough {T = Unit {0}} settings frames stop (taken ++ request ∷ more) (said ++ next) (Err status)
   answer_stops every files frames stop taken more captures captures' probe probe' said next number request r is_number WriteFault is =
       answer_first every files frames stop taken more captures captures' probe probe' said next number request r is_number is
   answer_stops every files frames stop taken more captures captures' probe probe' said next number request r is_number LinkFault is =
       answer_first every files frames stop taken more captures captures' probe probe' said next number request r is_number is
   answer_stops every files frames stop taken more captures captures' probe probe' said next number request r is_number ReadFault (notes, begun, is) =
-      subst (λ (s : List Said). (rest : List Said) × IsRun settings frames stop (taken ++ request ∷ more) ((said ++ s) ++ rest)) (sym is)
+      subst (λ (s : List Said). (rest : List Said) × RunsThrough settings frames stop (taken ++ request ∷ more) ((said ++ s) ++ rest)) (sym is)
       (said_stopped every files frames stop taken (request ∷ more) captures probe said request.moment (Asks (1 + length taken) request ∷ events (1 + length taken + 1) (frames_after request.moment r.left) more) notes r
       (split_at (1 + length taken) r.left request more) begun)
   answer_stops every files frames stop taken more captures captures' probe probe' said next number request r is_number Done is = absurd is
@@ -161,15 +162,15 @@ module _ (settings : Settings) where
   -- what is said last, or the first of it
   pub last_said : {T : Type 0} → SomethingSaid → (files : List (List ℕ)) (frames : List Frame) (stop : Stop) (taken : List TimedDatagram) (captures : List Capture) (probe : Probe) (said last : List Said)
       → (r : InRun files frames stop taken captures probe said) → (result : Result T Status)
-      → SaysNext (IsLastSaid settings (passed_of captures) (length taken) r.left stop r.journal) (HasBegun settings 4294967295 r.left r.journal) last result → SaysRun settings frames stop taken (said ++ last) result
+      → SaysNext (IsLastSaid settings (passed_of captures) (length taken) r.left stop r.journal) (HasBegun settings 4294967295 r.left r.journal) last result → SaysThrough settings frames stop taken (said ++ last) result
   last_said every files frames stop taken captures probe said last r (Ok done) is = said_all files frames stop taken captures probe said last r is
   last_said every files frames stop taken captures probe said last r (Err WriteFault) is =
-      ([], subst (λ (s : List Said). IsRun settings frames stop taken s) (sym (append-nil (said ++ last))) (said_all files frames stop taken captures probe said last r is))
+      ([], subst (λ (s : List Said). RunsThrough settings frames stop taken s) (sym (append-nil (said ++ last))) (said_all files frames stop taken captures probe said last r is))
   last_said every files frames stop taken captures probe said last r (Err LinkFault) is =
-      ([], subst (λ (s : List Said). IsRun settings frames stop taken s) (sym (append-nil (said ++ last))) (said_all files frames stop taken captures probe said last r is))
+      ([], subst (λ (s : List Said). RunsThrough settings frames stop taken s) (sym (append-nil (said ++ last))) (said_all files frames stop taken captures probe said last r is))
   last_said every files frames stop taken captures probe said last r (Err ReadFault) (notes, begun, is) =
       let (rest, run) = said_stopped every files frames stop taken [] captures probe said 4294967295 (comings (frames_after 4294967295 r.left)) notes r (split_last (1 + length taken) 4294967295 r.left) begun in
-      (rest, subst (λ (s : List Said). IsRun settings frames stop taken ((said ++ s) ++ rest)) (sym is) (subst (λ (rs : List TimedDatagram). IsRun settings frames stop rs ((said ++ map Notified notes) ++ rest)) (append-nil taken) run))
+      (rest, subst (λ (s : List Said). RunsThrough settings frames stop taken ((said ++ s) ++ rest)) (sym is) (subst (λ (rs : List TimedDatagram). RunsThrough settings frames stop rs ((said ++ map Notified notes) ++ rest)) (append-nil taken) run))
   last_said every files frames stop taken captures probe said last r (Err Done) is = absurd is
   last_said every files frames stop taken captures probe said last r (Err Usage) is = absurd is
   last_said every files frames stop taken captures probe said last r (Err (BadCapture interface at)) is = absurd is
@@ -181,14 +182,14 @@ module _ (settings : Settings) where
   pub requests_stop : SomethingSaid → (files : List (List ℕ)) (frames : List Frame) (stop : Stop) (taken asked : List TimedDatagram) (captures : List Capture) (probe : Probe) (said : List Said)
       (held : Held) (reached reached' : Reached) (datagram file : List ℕ) (fault : RequestsFault)
       → InRun files frames stop taken captures probe said → held ≡ File file → HasTaken taken reached file → AreRequests file asked → Answers held reached reached' datagram (Err fault)
-      → SaysRun {T = Unit {0}} settings frames stop asked said (Err (status_by fault))
+      → SaysThrough {T = Unit {0}} settings frames stop asked said (Err (status_by fault))
   requests_stop every files frames stop taken asked captures probe said held reached reached' datagram file (Line line) r is has are (stays, number, few, wrong) =
       absurd (wrong_not_asked taken asked reached file has are (wrong file is has.agrees))
   requests_stop every files frames stop taken asked captures probe said held reached reached' datagram file TooManyLines r is has are (stays, last, some) =
       absurd (many_not_asked taken asked reached file has are last (some file is has.agrees))
   requests_stop every files frames stop taken asked captures probe said held reached reached' datagram file ReadFailed r is has are stays =
       let rest = remains taken asked reached file has are in
-      subst (λ (rs : List TimedDatagram). (later : List Said) × IsRun settings frames stop rs (said ++ later)) (sym rest.all) (said_so_far every files frames stop taken rest.more captures probe said r)
+      subst (λ (rs : List TimedDatagram). (later : List Said) × RunsThrough settings frames stop rs (said ++ later)) (sym rest.all) (said_so_far every files frames stop taken rest.more captures probe said r)
 
   -- how far a run is
   pub record Running {F : Type 0} (held : F → List ℕ → Held) (reads : F → List ℕ → ℕ) (shelf shelf' : F) (names : List (List ℕ)) (requests : List ℕ) (named : ℕ)

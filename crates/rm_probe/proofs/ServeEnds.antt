@@ -1,6 +1,6 @@
 -- How the parts of a run that serves make its end.
 use Rattle.std.specs.Prelude.{IfErr, OnOk}
-use Rattle.std.proofs.Common.{◌≡◌, ◌⊎◌, inl, inr, ℕ, ◌-◌, List, [], ◌∷◌, ◌++◌, length, map, Option, Some, None, Result, Ok, Err, refl, sym, subst, ◌∙◌, arith}
+use Rattle.std.proofs.Common.{◌≡◌, ◌⊎◌, inl, inr, ℕ, List, [], ◌∷◌, ◌++◌, length, map, Option, Some, None, Result, Ok, Err, refl, sym, subst, ◌∙◌, arith}
 use Rattle.rm_edge.specs.Outside.{Held, File, Adds}
 use Rattle.rm_edge.specs.Link.{Datagram, Grows}
 use Rattle.rm_edge.specs.Uses.{FileUse, SinkUse, LinkUse, HasPutFault, HasLinkFault}
@@ -14,10 +14,9 @@ use Rattle.rm_captures.specs.Told.{OfFiles}
 use Rattle.rm_captures.specs.declared.fault.CaptureFault.{CaptureFault}
 use Rattle.rm_settings.specs.declared.settings.Settings.{Settings}
 use Rattle.rm_probe.specs.Capture.{CallsFor, HasReadFaults, helds_of, status_by, status_of}
-use Rattle.rm_probe.specs.Events.{events_by, frames_left}
 use Rattle.rm_probe.specs.Output.{HasAdded, IsSaidFront, front_none}
-use Rattle.rm_probe.specs.Said.{Last, Said, is_cut_behind, lines}
-use Rattle.rm_probe.specs.Serving.{Arrival, AreAnswered, BindsNone, BindsPort, EndsServing, HasNotBegun, IsIdle, IsServed, ServesExactly, WritesServedFront, asking_of, served_messages}
+use Rattle.rm_probe.specs.Said.{Said, lines}
+use Rattle.rm_probe.specs.Serving.{Arrival, AreAnswered, BindsNone, BindsPort, EndsServing, HasNotBegun, IsIdle, IsServed, ServesExactly, WritesServedFront, asking_of, last_served, served_messages}
 use Rattle.rm_probe.specs.Steps.{FailsBy, FindsAnother, IsForeign, JudgesCaptures, ends_by}
 use Rattle.rm_probe.specs.Text.{AreSaid}
 use Rattle.rm_probe.specs.Turns.{SaysServed, shown_after, shown_before}
@@ -27,6 +26,7 @@ use Rattle.rm_probe.specs.declared.status.Status.TheVariants.{Done, Usage, BadCa
 use Rattle.rm_probe.proofs.EndLemmas.{AreOther, called_bad, other_calls, other_told}
 use Rattle.rm_probe.proofs.FaultLemmas.{OneReading, called_first, not_broken, same_fault}
 use Rattle.rm_probe.proofs.FileLemmas.{of_files, told_files}
+use Rattle.rm_probe.proofs.InOrderLemmas.{none_in_order}
 use Rattle.rm_probe.proofs.OutputLemmas.{front_longer}
 use Rattle.rm_probe.proofs.WritingLemmas.{put_rose, send_rose}
 
@@ -58,9 +58,9 @@ port_unbound port arrivals link LinkFault going none = inr none
 port_unbound port arrivals link TooLong going none = inr none
 
 -- what may be said where no datagram came
-served_none : (settings : Settings) (frames : List Frame) (stop : Stop) → IsServed settings frames stop [] (Last (is_cut_behind (frames_left [] frames) stop) (length frames - length (frames_left [] frames)) 0 ∷ [])
-unfolding AreSaid events_by
-served_none settings frames stop = record { before = []; are_said = refl; whole = refl }
+served_none : (settings : Settings) (frames : List Frame) (stop : Stop) → IsServed settings frames stop [] (last_served frames stop [] ∷ [])
+unfolding AreSaid
+served_none settings frames stop = record { events = []; in_order = none_in_order; before = []; are_said = refl; whole = refl }
 
 -- of whatever may be said, nothing is a front
 idle_front : (manager : Peer) (out : SinkUse) (link : LinkUse) → IsIdle out link → (said : List Said) → IsSaidFront (manager ∷ []) (asking_of []) out.content out.content_after link.sent link.sent_after said []

@@ -13,16 +13,17 @@ use Rattle.rm_captures.specs.Left.{AreLeft, passed_of}
 use Rattle.rm_captures.specs.Reading.{AreHeld}
 use Rattle.rm_settings.specs.declared.settings.Settings.{Settings}
 use Rattle.rm_requests.specs.Lines.{TimedDatagram}
-use Rattle.rm_probe.specs.Events.{Event, Asks, comings, events_by, frames_left}
+use Rattle.rm_probe.specs.Events.{Event, Asks, comings}
+use Rattle.rm_probe.proofs.Going.{SaysServedThrough, ServesThrough, events_by, frames_left}
 use Rattle.rm_captures.specs.Merge.{is_by}
 use Rattle.rm_probe.specs.Notes.{Note}
 use Rattle.rm_probe.specs.Output.{HasAdded, IsSaidFront, Shown, TellsBehind, adds_none, grown_none, nothing_added, shown}
 use Rattle.rm_probe.specs.Probe.{Stands, last_given, settings_of}
 use Rattle.rm_probe.specs.Said.{Dropped, Last, Notified, Replied, Responded, Response, Said, answers_in, is_cut_behind, lines, messages, messages_of, to_each}
-use Rattle.rm_probe.specs.Serving.{Arrival, HaveCome, IsServed, asking_of, peers_of, request_of, requests_of}
+use Rattle.rm_probe.specs.Serving.{Arrival, HaveCome, asking_of, last_of, peers_of, request_of, requests_of}
 use Rattle.rm_probe.specs.Steps.{FailsBy, FindsAnother, HasBegun, IsLastLine, IsNextSaid, IsOfOne, IsResponse, Keeps, SaysNext, TellsNoMessage}
 use Rattle.rm_probe.specs.Text.{AreSaid}
-use Rattle.rm_probe.specs.Turns.{HasServed, SaysServed, SaysTurn, last_of, shown_after, shown_before}
+use Rattle.rm_probe.specs.Turns.{HasServed, SaysTurn, shown_after, shown_before}
 use Rattle.rm_probe.specs.declared.output.OutputFault.{OutputFault}
 use Rattle.rm_probe.specs.declared.output.OutputFault.TheVariants.{Send}
 use Rattle.rm_probe.specs.declared.probe.Probe.{Probe}
@@ -198,7 +199,7 @@ module _ (settings : Settings) where
 
   -- what may be said of the datagrams that came, with the last line
   served : (frames : List Frame) (stop : Stop) (arrivals : List Arrival) (before : List Said) → AreSaid settings [] (events_by 1 frames (requests_of arrivals)) before
-      → IsServed settings frames stop arrivals (before ++ Last (is_cut_behind (frames_left (requests_of arrivals) frames) stop) (length frames - length (frames_left (requests_of arrivals) frames)) (length arrivals) ∷ [])
+      → ServesThrough settings frames stop arrivals (before ++ Last (is_cut_behind (frames_left (requests_of arrivals) frames) stop) (length frames - length (frames_left (requests_of arrivals) frames)) (length arrivals) ∷ [])
   served frames stop arrivals before are = record { before = before; are_said = are; whole = refl }
 
   -- what was said so far may be said of the datagrams that came
@@ -210,7 +211,7 @@ module _ (settings : Settings) where
 
   -- a run that stops there has said the first of what may be said
   pub served_so_far : (files : List (List ℕ)) (frames : List Frame) (stop : Stop) (arrivals : List Arrival) (captures : List Capture) (probe : Probe) (said : List Said)
-      → InRun settings files frames stop (requests_of arrivals) captures probe said → (rest : List Said) × IsServed settings frames stop arrivals (said ++ rest)
+      → InRun settings files frames stop (requests_of arrivals) captures probe said → (rest : List Said) × ServesThrough settings frames stop arrivals (said ++ rest)
   served_so_far files frames stop arrivals captures probe said r = (_, served frames stop arrivals said (said_of files frames stop arrivals captures probe said r))
 
   -- a datagram more
@@ -224,7 +225,7 @@ module _ (settings : Settings) where
   -- a run that stops after some notifications up to a datagram
   served_stopped : SomethingSaid → (files : List (List ℕ)) (frames : List Frame) (stop : Stop) (arrivals : List Arrival) (captures : List Capture) (probe : Probe) (said : List Said) (arrival : Arrival) (notes : List Note)
       → (r : InRun settings files frames stop (requests_of arrivals) captures probe said) → HasBegun settings arrival.moment r.left r.journal notes
-      → (rest : List Said) × IsServed settings frames stop (arrivals ++ arrival ∷ []) ((said ++ map Notified notes) ++ rest)
+      → (rest : List Said) × ServesThrough settings frames stop (arrivals ++ arrival ∷ []) ((said ++ map Notified notes) ++ rest)
   served_stopped every files frames stop arrivals captures probe said arrival notes r begun =
       let taken : List TimedDatagram = requests_of arrivals in
       let request : TimedDatagram = request_of arrival in
@@ -243,26 +244,26 @@ module _ (settings : Settings) where
   -- the answer to a datagram isn't said whole, or none came
   pub turn_stops : SomethingSaid → (files : List (List ℕ)) (frames : List Frame) (stop : Stop) (arrivals next : List Arrival) (captures captures' : List Capture) (probe probe' : Probe) (said more : List Said) (number : ℕ)
       → (r : InRun settings files frames stop (requests_of arrivals) captures probe said) → number ≡ 1 + length arrivals → (status : Status)
-      → SaysTurn {T = Unit {0}} files captures captures' settings probe' number r.left stop r.journal next more (Err status) → SaysServed {T = Unit {0}} settings frames stop (arrivals ++ next) (said ++ more) (Err status)
+      → SaysTurn {T = Unit {0}} files captures captures' settings probe' number r.left stop r.journal next more (Err status) → SaysServedThrough {T = Unit {0}} settings frames stop (arrivals ++ next) (said ++ more) (Err status)
   turn_stops every files frames stop arrivals [] captures captures' probe probe' said more number r is status (none, fails) =
       let same : status ≡ LinkFault = cc in
       let (rest, whole) = served_so_far files frames stop arrivals captures probe said r in
       let alone : arrivals ≡ arrivals ++ [] = sym (append-nil arrivals) in
       let says : said ≡ said ++ more = sym (append-nil said) ∙ ap (λ (s : List Said). said ++ s) (sym none) in
-      subst (λ (s : Status). SaysServed {T = Unit {0}} settings frames stop (arrivals ++ []) (said ++ more) (Err s)) (sym same)
-      (rest, subst (λ (s : List Said). IsServed settings frames stop (arrivals ++ []) (s ++ rest)) says (subst (λ (came : List Arrival). IsServed settings frames stop came (said ++ rest)) alone whole))
+      subst (λ (s : Status). SaysServedThrough {T = Unit {0}} settings frames stop (arrivals ++ []) (said ++ more) (Err s)) (sym same)
+      (rest, subst (λ (s : List Said). ServesThrough settings frames stop (arrivals ++ []) (s ++ rest)) says (subst (λ (came : List Arrival). ServesThrough settings frames stop came (said ++ rest)) alone whole))
   turn_stops every files frames stop arrivals (arrival ∷ others) captures captures' probe probe' said more number r is status (alone, says) =
-      subst (λ (came : List Arrival). SaysServed {T = Unit {0}} settings frames stop (arrivals ++ arrival ∷ came) (said ++ more) (Err status)) (sym alone) (by_status status says)
+      subst (λ (came : List Arrival). SaysServedThrough {T = Unit {0}} settings frames stop (arrivals ++ arrival ∷ came) (said ++ more) (Err status)) (sym alone) (by_status status says)
     where
-      answered : IsNextSaid files captures captures' settings probe' number (request_of arrival) r.left stop r.journal more → (rest : List Said) × IsServed settings frames stop (arrivals ++ arrival ∷ []) ((said ++ more) ++ rest)
+      answered : IsNextSaid files captures captures' settings probe' number (request_of arrival) r.left stop r.journal more → (rest : List Said) × ServesThrough settings frames stop (arrivals ++ arrival ∷ []) ((said ++ more) ++ rest)
       answered one = served_so_far files frames stop (arrivals ++ arrival ∷ []) captures' probe' (said ++ more) (next_served files frames stop arrivals captures captures' probe probe' said more number arrival r is one)
 
       by_status : (status : Status) → SaysNext {T = Unit {0}} (IsNextSaid files captures captures' settings probe' number (request_of arrival) r.left stop r.journal) (HasBegun settings arrival.moment r.left r.journal) more (Err status)
-          → SaysServed {T = Unit {0}} settings frames stop (arrivals ++ arrival ∷ []) (said ++ more) (Err status)
+          → SaysServedThrough {T = Unit {0}} settings frames stop (arrivals ++ arrival ∷ []) (said ++ more) (Err status)
       by_status WriteFault one = answered one
       by_status LinkFault one = answered one
       by_status ReadFault (notes, begun, same) =
-          subst (λ (s : List Said). (rest : List Said) × IsServed settings frames stop (arrivals ++ arrival ∷ []) ((said ++ s) ++ rest)) (sym same)
+          subst (λ (s : List Said). (rest : List Said) × ServesThrough settings frames stop (arrivals ++ arrival ∷ []) ((said ++ s) ++ rest)) (sym same)
           (served_stopped every files frames stop arrivals captures probe said arrival notes r begun)
       by_status Done is = absurd is
       by_status Usage is = absurd is
@@ -274,29 +275,29 @@ module _ (settings : Settings) where
   -- all is said with the last line, or the first of it
   pub served_last : {T : Type 0} → (files : List (List ℕ)) (frames : List Frame) (stop : Stop) (arrivals : List Arrival) (captures : List Capture) (probe : Probe) (said last : List Said) (count : ℕ)
       → (r : InRun settings files frames stop (requests_of arrivals) captures probe said) → count ≡ length arrivals → (result : Result T Status)
-      → SaysNext (IsLastLine (passed_of captures) count r.left stop) (λ (notes : List Note). notes ≡ []) last result → SaysServed settings frames stop arrivals (said ++ last) result
+      → SaysNext (IsLastLine (passed_of captures) count r.left stop) (λ (notes : List Note). notes ≡ []) last result → SaysServedThrough settings frames stop arrivals (said ++ last) result
   served_last files frames stop arrivals captures probe said last count r is result says = by_result result says
     where
-      all : IsLastLine (passed_of captures) count r.left stop last → IsServed settings frames stop arrivals (said ++ last)
+      all : IsLastLine (passed_of captures) count r.left stop last → ServesThrough settings frames stop arrivals (said ++ last)
       all one =
           let passed : (passed_of captures) ≡ length frames - length (frames_left (requests_of arrivals) frames) = omega (arith, r.frame_count, ap length r.left_is) in
           let line : last ≡ Last (is_cut_behind (frames_left (requests_of arrivals) frames) stop) (length frames - length (frames_left (requests_of arrivals) frames)) (length arrivals) ∷ [] =
           one ∙ ap (λ (left : List Frame). Last (is_cut_behind left stop) (passed_of captures) count ∷ []) r.left_is
           ∙ ap (λ (n : ℕ). Last (is_cut_behind (frames_left (requests_of arrivals) frames) stop) n count ∷ []) passed
           ∙ ap (λ (n : ℕ). Last (is_cut_behind (frames_left (requests_of arrivals) frames) stop) (length frames - length (frames_left (requests_of arrivals) frames)) n ∷ []) is in
-          subst (λ (l : List Said). IsServed settings frames stop arrivals (said ++ l)) (sym line) (served frames stop arrivals said (said_of files frames stop arrivals captures probe said r))
+          subst (λ (l : List Said). ServesThrough settings frames stop arrivals (said ++ l)) (sym line) (served frames stop arrivals said (said_of files frames stop arrivals captures probe said r))
 
-      first : IsLastLine (passed_of captures) count r.left stop last → (rest : List Said) × IsServed settings frames stop arrivals ((said ++ last) ++ rest)
-      first one = ([], subst (λ (s : List Said). IsServed settings frames stop arrivals s) (sym (append-nil (said ++ last))) (all one))
+      first : IsLastLine (passed_of captures) count r.left stop last → (rest : List Said) × ServesThrough settings frames stop arrivals ((said ++ last) ++ rest)
+      first one = ([], subst (λ (s : List Said). ServesThrough settings frames stop arrivals s) (sym (append-nil (said ++ last))) (all one))
 
-      by_result : {T : Type 0} → (result : Result T Status) → SaysNext (IsLastLine (passed_of captures) count r.left stop) (λ (notes : List Note). notes ≡ []) last result → SaysServed settings frames stop arrivals (said ++ last) result
+      by_result : {T : Type 0} → (result : Result T Status) → SaysNext (IsLastLine (passed_of captures) count r.left stop) (λ (notes : List Note). notes ≡ []) last result → SaysServedThrough settings frames stop arrivals (said ++ last) result
       by_result (Ok done) one = all one
       by_result (Err WriteFault) one = first one
       by_result (Err LinkFault) one = first one
       by_result (Err ReadFault) (notes, none, same) =
           let says : said ≡ said ++ last = sym (append-nil said) ∙ ap (λ (s : List Said). said ++ s) (sym (same ∙ ap (map Notified) none)) in
           let (rest, whole) = served_so_far files frames stop arrivals captures probe said r in
-          (rest, subst (λ (s : List Said). IsServed settings frames stop arrivals (s ++ rest)) says whole)
+          (rest, subst (λ (s : List Said). ServesThrough settings frames stop arrivals (s ++ rest)) says whole)
       by_result (Err Done) is = absurd is
       by_result (Err Usage) is = absurd is
       by_result (Err (BadCapture interface at)) is = absurd is

@@ -1,5 +1,5 @@
 -- What a run that serves says: to the datagrams that it receives, at the moments that the clock tells then.
-use Rattle.std.specs.Prelude.{◌≡◌, ◌⊎◌, ℕ, ◌+◌, ◌-◌, ◌≤◌, max, List, [], ◌∷◌, ◌++◌, length, map, take, drop, Option, Some, None, ⊤}
+use Rattle.std.specs.Prelude.{◌≡◌, ◌⊎◌, ℕ, ◌+◌, ◌-◌, ◌≤◌, max, List, [], ◌∷◌, ◌++◌, length, map, take, take_while, drop, Option, Some, None, ⊤}
 use Rattle.rm_edge.specs.Outside.{File, Adds}
 use Rattle.rm_edge.specs.Link.{Datagram}
 use Rattle.rm_edge.specs.Uses.{FileUse, SinkUse, LinkUse, ClockUse, HasPutFault, HasLinkFault, IsUntouched}
@@ -9,11 +9,13 @@ use Rattle.rm_pcap.specs.Records.{Stop}
 use Rattle.rm_settings.specs.declared.settings.Settings.{Settings}
 use Rattle.rm_requests.specs.Lines.{TimedDatagram}
 use Rattle.rm_captures.specs.Rounds.{AreCaptures, AreCaptureFiles, IsFirstFault}
+use Rattle.rm_captures.specs.Merge.{is_by}
 use Rattle.rm_captures.specs.Told.{OfFiles}
 use Rattle.rm_captures.specs.declared.fault.CaptureFault.{CaptureFault}
 use Rattle.rm_probe.specs.Capture.{AreTold, CallsFor, HasReadFaults, helds_of, status_of}
 use Rattle.rm_probe.specs.Ends.{Comes}
-use Rattle.rm_probe.specs.Events.{events_by, frames_left}
+use Rattle.rm_probe.specs.Events.{Event}
+use Rattle.rm_probe.specs.InOrder.{AreInOrder}
 use Rattle.rm_probe.specs.Output.{IsSaidFront}
 use Rattle.rm_probe.specs.Said.{Said, Last, answers_in, is_cut_behind, lines, messages}
 use Rattle.rm_probe.specs.Text.{AreSaid, AreSaidBy, Choice}
@@ -46,20 +48,39 @@ asking_of arrivals number = peers_of (take 1 (drop (number - 1) arrivals))
 abbrev pub local_port : ℕ → Peer
 local_port port = record { ip = 127 ∷ 0 ∷ 0 ∷ 1 ∷ []; port = port }
 
--- All that is said in a run that serves: of the frames up to the last datagram, and of the datagrams. The last line says `cut` where no frame
--- is left and a capture is cut short, and how many frames were taken.
+-- the moment of the last datagram that came, or, where none did, the one that is given
+unfoldable pub last_of : ℕ → List Arrival → ℕ
+last_of last [] = last
+last_of last (arrival ∷ more) = last_of arrival.moment more
+
+-- the frames up to the moment of the last datagram that came; none, where none came
+abbrev pub frames_by_last : List Arrival → List Frame → List Frame
+frames_by_last [] frames = []
+frames_by_last (arrival ∷ more) frames = take_while (is_by (last_of arrival.moment more)) frames
+
+-- the frames behind them, which are left
+abbrev pub frames_behind : List Arrival → List Frame → List Frame
+frames_behind arrivals frames = drop (length (frames_by_last arrivals frames)) frames
+
+-- the last thing said: `cut` where no frame is left and a capture is cut short, how many frames were taken, and how many datagrams came
+abbrev pub last_served : List Frame → Stop → List Arrival → Said
+last_served frames stop arrivals = Last (is_cut_behind (frames_behind arrivals frames) stop) (length (frames_by_last arrivals frames)) (length arrivals)
+
+-- All that is said in a run that serves: of the frames up to the last datagram and of the datagrams, in order, and last.
 pub record IsServed (settings : Settings) (frames : List Frame) (stop : Stop) (arrivals : List Arrival) (said : List Said) : Type 0 where
+  pub events : List Event
+  pub in_order : AreInOrder 1 (frames_by_last arrivals frames) (requests_of arrivals) events
   pub before : List Said
-  pub are_said : AreSaid settings [] (events_by 1 frames (requests_of arrivals)) before
-  pub whole : said ≡ before ++ Last (is_cut_behind (frames_left (requests_of arrivals) frames) stop)
-      (length frames - length (frames_left (requests_of arrivals) frames)) (length arrivals) ∷ []
+  pub are_said : AreSaid settings [] events before
+  pub whole : said ≡ before ++ last_served frames stop arrivals ∷ []
 
 -- the same, said with these answers
 pub record IsServedBy (settings : Settings) (frames : List Frame) (stop : Stop) (arrivals : List Arrival) (choices : List Choice) (said : List Said) : Type 0 where
+  pub events : List Event
+  pub in_order : AreInOrder 1 (frames_by_last arrivals frames) (requests_of arrivals) events
   pub before : List Said
-  pub are_said : AreSaidBy settings [] (events_by 1 frames (requests_of arrivals)) choices before
-  pub whole : said ≡ before ++ Last (is_cut_behind (frames_left (requests_of arrivals) frames) stop)
-      (length frames - length (frames_left (requests_of arrivals) frames)) (length arrivals) ∷ []
+  pub are_said : AreSaidBy settings [] events choices before
+  pub whole : said ≡ before ++ last_served frames stop arrivals ∷ []
 
 -- of the moments that a clock told, one earlier than the last is taken as the last
 unfoldable pub rising : ℕ → List ℕ → List ℕ

@@ -14,7 +14,8 @@ use Rattle.rm_agent.specs.Groups.{Reserves}
 use Rattle.rm_requests.specs.Lines.{TimedDatagram}
 use Rattle.rm_probe.specs.Notes.{Note}
 use Rattle.rm_probe.specs.Advance.{IsAdvanced}
-use Rattle.rm_probe.specs.Events.{Event, Comes, Asks, events}
+use Rattle.rm_probe.specs.Events.{Event, Comes, Asks}
+use Rattle.rm_probe.specs.InOrder.{AreInOrder}
 use Rattle.rm_probe.specs.Said.{Response, Replied, Dropped, Said, Notified, Responded, Last, lines}
 
 -- What may be answered to a datagram that comes after a journal, at a moment in milliseconds: that it is dropped, and why, or
@@ -72,10 +73,12 @@ AreSaidBy settings journal (Asks number request ∷ events) choices said =
     × (ReservesNothing ready request.datagram ⊎ (slice_get choices 0 ≡ Some (record { response = response; after = after })))
     × (said ≡ map Notified notes ++ Responded number request.moment response ∷ rest) × AreSaidBy settings after events (drop 1 choices) rest
 
--- All that is said in a run of these frames and datagrams, of which nothing is left, where the captures' records stop so.
+-- All that is said in a run of these frames and datagrams in order, of which nothing is left, where the captures' records stop so.
 pub record IsRun (settings : Settings) (frames : List Frame) (stop : Stop) (requests : List TimedDatagram) (said : List Said) : Type 0 where
+  pub events : List Event
+  pub in_order : AreInOrder 1 frames requests events
   pub before : List Said
-  pub are_said : AreSaid settings [] (events 1 frames requests) before
+  pub are_said : AreSaid settings [] events before
   pub whole : said ≡ before ++ Last (is_cut stop) (length frames) (length requests) ∷ []
 
 -- the text may be written for these frames and datagrams
@@ -86,6 +89,8 @@ pub record IsText (settings : Settings) (frames : List Frame) (stop : Stop) (req
 
 -- the text may be written with these answers
 pub record IsTextBy (settings : Settings) (frames : List Frame) (stop : Stop) (requests : List TimedDatagram) (choices : List Choice) (text : List ℕ) : Type 0 where
+  pub events : List Event
+  pub in_order : AreInOrder 1 frames requests events
   pub before : List Said
-  pub are_said : AreSaidBy settings [] (events 1 frames requests) choices before
+  pub are_said : AreSaidBy settings [] events choices before
   pub whole : text ≡ lines (before ++ Last (is_cut stop) (length frames) (length requests) ∷ [])

@@ -16,11 +16,6 @@ use Rattle.rm_probe.specs.declared.probe.Probe.{Probe}
 use Rattle.rm_probe.specs.declared.status.Status.{Status}
 use Rattle.rm_probe.specs.declared.status.Status.TheVariants.{LinkFault}
 
--- the moment of the last datagram that came
-unfoldable pub last_of : ℕ → List Arrival → ℕ
-last_of last [] = last
-last_of last (arrival ∷ more) = last_of arrival.moment more
-
 -- how many octets of a datagram are taken in at most: one more than are read
 abbrev pub room : ℕ
 room = 8193

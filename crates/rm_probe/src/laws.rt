@@ -1,14 +1,13 @@
 // Laws of what a run writes. The bodies cite the laws of datagrams, replies and samples, and do nothing else.
 ghost use Rattle.std.specs.Prelude.{ℕ, List};
-ghost use Rattle.std.specs.List.Sorted.{IsNonDecreasingBy};
 ghost use Rattle.rm_model.specs.Journal.{Frame, Journal};
 ghost use Rattle.rm_pcap.specs.Records.{Stop};
 ghost use Rattle.rm_settings.specs.declared.settings.Settings.{Settings};
 ghost use Rattle.rm_agent.specs.Orderly.{IsOrderly};
 ghost use Rattle.rm_requests.specs.Lines.{TimedDatagram};
-ghost use Rattle.rm_probe.specs.Events.{Event, events, events_by};
+ghost use Rattle.rm_probe.specs.Events.{Event};
 ghost use Rattle.rm_probe.specs.InOrder.{AreInOrder};
-ghost use Rattle.rm_probe.specs.Serving.{Arrival, IsServed, IsServedBy, requests_of};
+ghost use Rattle.rm_probe.specs.Serving.{Arrival, IsServed, IsServedBy, frames_by_last, requests_of};
 ghost use Rattle.rm_probe.specs.Said.{Said};
 ghost use Rattle.rm_probe.specs.Laws.{IsToldOnce, OneOfEach};
 ghost use Rattle.rm_probe.specs.Text.{AreSaid, IsText, IsTextBy};
@@ -22,8 +21,8 @@ use rm_pdu::{every_parse, one_parse};
 /// A law: of the same frames and datagrams there is one text with the same answers to the SetRequests that reserve storage, and one in all
 /// where none of them does. Each text is written with some answers.
 pub fn one_text()
-    ensures { (settings : Settings) (frames : List Frame) (stop : Stop) (requests : List TimedDatagram)
-        → IsToldOnce settings (events 1 frames requests) (IsText settings frames stop requests) (IsTextBy settings frames stop requests) }
+    ensures { (settings : Settings) (frames : List Frame) (stop : Stop) (requests : List TimedDatagram) (events : List Event) → AreInOrder 1 frames requests events
+        → IsToldOnce settings events (IsText settings frames stop requests) (IsTextBy settings frames stop requests) }
 {
     one_of_each();
 }
@@ -31,18 +30,12 @@ pub fn one_text()
 /// A law: of the same frames and the same datagrams that came one thing is said by a run that serves with the same answers to the SetRequests
 /// that reserve storage, and one in all where none of them does. All that may be said is said with some answers.
 pub fn one_served()
-    ensures { (settings : Settings) (frames : List Frame) (stop : Stop) (arrivals : List Arrival)
-        → IsToldOnce settings (events_by 1 frames (requests_of arrivals)) (IsServed settings frames stop arrivals) (IsServedBy settings frames stop arrivals) }
+    ensures { (settings : Settings) (frames : List Frame) (stop : Stop) (arrivals : List Arrival) (events : List Event)
+        → AreInOrder 1 (frames_by_last arrivals frames) (requests_of arrivals) events
+        → IsToldOnce settings events (IsServed settings frames stop arrivals) (IsServedBy settings frames stop arrivals) }
 {
     one_of_each();
 }
-
-/// A law: frames and datagrams whose moments don't fall happen in the order of their moments, each kind in its own order, and at one
-/// moment the frames first.
-pub fn events_in_order()
-    ensures { (number : ℕ) (frames : List Frame) (requests : List TimedDatagram) → IsNonDecreasingBy (λ (frame : Frame). frame.moment) frames
-        → IsNonDecreasingBy (λ (request : TimedDatagram). request.moment) requests → AreInOrder number frames requests (events number frames requests) }
-{}
 
 // A law: there is one of each thing of which a run is made.
 fn one_of_each()

@@ -17,7 +17,7 @@ mod serving;
 mod status;
 
 pub use entry::replay;
-pub use laws::{events_in_order, one_served, one_text};
+pub use laws::{one_served, one_text};
 pub use notes::Notes;
 pub use output::{Output, OutputFault};
 pub use post::{Addressee, Post, Posted, Unsent};

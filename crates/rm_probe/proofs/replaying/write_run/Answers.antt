@@ -6,6 +6,7 @@ use Rattle.rm_captures.proofs.RoundLemmas.{held_still}
 use Rattle.rm_probe.specs.Capture.{status_of}
 use Rattle.rm_probe.specs.Probe.{settings_of}
 use Rattle.rm_probe.specs.Steps.{IsNotRequests, Writes, ends_by}
+use Rattle.rm_probe.proofs.CaptureOrder.{captures_rise}
 use Rattle.rm_probe.proofs.EndLemmas.{another_begun, another_left, begun_left, left_still, not_written, read_by, silent_by, text_none, unread, writes_none}
 use Rattle.rm_probe.proofs.FrameLemmas.{keeps_first, unseen_passed}
 use Rattle.rm_probe.proofs.WritingLemmas.{ends_read, not_silent, write_rose, writes_by}
@@ -61,7 +62,7 @@ returns-in-Ok-clause-later g c =
 pub returns-in-Err-clause-text : goal.returns-in-Err-clause-text
 returns-in-Err-clause-text g c = λ files lines frames stop asked are isr captures requests.
     rw c.from.ensures (writes_none c.args.lead (settings_of c.args.probe) files frames stop asked (g.K.Sink.content c.args.out.now) c.in-Err.found (c.in-Err.ensures.faults files are) captures
-    (text_none (settings_of c.args.probe) c.something_said.ensures c.requires.first.stands.orderly (g.K.Sink.content c.args.out.now) frames stop asked))
+    (text_none (settings_of c.args.probe) c.something_said.ensures c.requires.first.stands.orderly (g.K.Sink.content c.args.out.now) frames stop asked (captures_rise c.args.lead files frames stop captures) requests.are.order))
 
 pub returns-in-Err-clause-finds : goal.returns-in-Err-clause-finds
 returns-in-Err-clause-finds g c =

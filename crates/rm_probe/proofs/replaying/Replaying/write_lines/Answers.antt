@@ -8,9 +8,11 @@ use Rattle.rm_requests.specs.Lines.{TimedDatagram}
 use Rattle.rm_requests.specs.Reading.{Answers, Reached, Passes, reached_of, datagram_in}
 use Rattle.rm_settings.specs.declared.settings.Settings.{Settings}
 use Rattle.rm_probe.specs.Probe.{settings_of}
-use Rattle.rm_probe.specs.Steps.{HasBegun, IsLastSaid, IsNextSaid, IsNotRequests, SaysNext, SaysRun}
+use Rattle.rm_probe.specs.Steps.{HasBegun, IsLastSaid, IsNextSaid, IsNotRequests, SaysNext}
 use Rattle.rm_probe.proofs.SayingLemmas.{says_both, says_nothing}
 use Rattle.rm_probe.proofs.FrameLemmas.{keeps_begun}
+use Rattle.rm_probe.proofs.Going.{SaysThrough}
+use Rattle.rm_probe.proofs.InOrderLemmas.{run_says}
 use Rattle.rm_probe.proofs.JudgeLemmas.{HasTaken, remains, taken_all, taken_more, taken_none}
 use Rattle.rm_probe.proofs.RunLemmas.{run_begin, next_said, answer_stops, capture_finds, last_loud, last_said, quiet_foreign, read_failed, requests_find, requests_loud, requests_open, requests_stop, says_faultless, last_finds}
 use Rattle.rm_edge.proofs.Keeping.{quiet_then}
@@ -93,11 +95,12 @@ returns-in-Err-handle_to-clause-says g c =
           (subst (λ (d : List ℕ). let r : TimedDatagram = record { moment = c.in-Ok-Some.asked.moment; datagram = d } in Passes old new r lines) (sym c.datagram.ensures) (takes.passes lines (i.same c.args.requests.now ∙ isr) has.agrees)) takes.next takes.order takes.moment in
           let rest = remains (i.taken ++ request ∷ []) asked new lines later requests in
           let step = goes files r.left stop r.journal (held_still _ _ _ files c.in-Ok-Some.ensures.shelf.constant (held_still _ _ _ files i.same are)) r.records_left r.stands in
-          subst (λ (rs : List TimedDatagram). SaysRun {T = Unit {0}} settings frames stop rs (said ++ next) (Err c.in-Err-handle_to.status)) (sym (rest.all ∙ append_assoc i.taken (request ∷ []) rest.more))
+          run_says {T = Unit {0}} settings c.args.self.now.captures.items files frames stop lines asked (said ++ next) (Err c.in-Err-handle_to.status) left requests
+          (subst (λ (rs : List TimedDatagram). SaysThrough {T = Unit {0}} settings frames stop rs (said ++ next) (Err c.in-Err-handle_to.status)) (sym (rest.all ∙ append_assoc i.taken (request ∷ []) rest.more))
           (answer_stops settings c.something_said.ensures files frames stop i.taken rest.more c.loop-asked.self.captures.items c.handle_to.new.self.captures.items c.loop-asked.self.probe c.handle_to.new.self.probe
           said next c.in-Ok-Some.asked.number request r (takes.number ∙ i.number) c.in-Err-handle_to.status
           (subst (λ (s : Settings). SaysNext {T = Unit {0}} (IsNextSaid files c.loop-asked.self.captures.items c.handle_to.new.self.captures.items s c.handle_to.new.self.probe c.in-Ok-Some.asked.number request r.left stop r.journal) (HasBegun s request.moment r.left r.journal)
-          next (Err c.in-Err-handle_to.status)) i.settings_same step)),
+          next (Err c.in-Err-handle_to.status)) i.settings_same step))),
     )
 
 pub returns-in-Err-handle_to-clause-finds : goal.returns-in-Err-handle_to-clause-finds
@@ -129,10 +132,11 @@ returns-in-Ok-None-clause-says g c =
           let all : asked ≡ i.taken = one_list lines asked i.taken requests.are taken.are in
           let count : (reached_of c.next.new.self).number - 1 ≡ length i.taken = omega (arith, stays.number, i.number) in
           let step = goes files r.left stop r.journal (held_still _ _ _ files c.in-Ok-None.ensures.shelf.constant (held_still _ _ _ files i.same are)) r.records_left r.stands in
-          subst (λ (rs : List TimedDatagram). SaysRun settings frames stop rs (said ++ last) c.write_last.result) (sym all)
+          run_says settings c.args.self.now.captures.items files frames stop lines asked (said ++ last) c.write_last.result left requests
+          (subst (λ (rs : List TimedDatagram). SaysThrough settings frames stop rs (said ++ last) c.write_last.result) (sym all)
           (last_said settings c.something_said.ensures files frames stop i.taken c.loop-asked.self.captures.items c.loop-asked.self.probe said last r c.write_last.result
           (subst (λ (n : ℕ). SaysNext (IsLastSaid settings (passed_of c.loop-asked.self.captures.items) n r.left stop r.journal) (HasBegun settings 4294967295 r.left r.journal) last c.write_last.result) count
-          (subst (λ (s : Settings). SaysNext (IsLastSaid s (passed_of c.loop-asked.self.captures.items) ((reached_of c.next.new.self).number - 1) r.left stop r.journal) (HasBegun s 4294967295 r.left r.journal) last c.write_last.result) i.settings_same step))),
+          (subst (λ (s : Settings). SaysNext (IsLastSaid s (passed_of c.loop-asked.self.captures.items) ((reached_of c.next.new.self).number - 1) r.left stop r.journal) (HasBegun s 4294967295 r.left r.journal) last c.write_last.result) i.settings_same step)))),
     )
 
 pub returns-in-Ok-None-clause-finds : goal.returns-in-Ok-None-clause-finds
@@ -158,8 +162,9 @@ returns-in-Err-clause-says g c =
       says c.args.out.now [] (g.met.O.Notes.none c.args.out.now),
       λ files lines frames stop asked are isr left requests.
           let r = i.run files frames stop are left in
-          rw c.of_requests.ensures (requests_stop (settings_of c.args.self.now.probe) c.something_said.ensures files frames stop i.taken asked c.loop-asked.self.captures.items c.loop-asked.self.probe said
-          (g.F.Shelf.held c.loop-asked.shelf c.args.requests.now) (reached_of c.loop-asked.reader) (reached_of c.next.new.self) (datagram_in c.next.new.self) lines c.in-Err.fault r (i.same c.args.requests.now ∙ isr) (i.file lines isr) requests c.in-Err.ensures.answers),
+          rw c.of_requests.ensures (run_says {T = Unit {0}} (settings_of c.args.self.now.probe) c.args.self.now.captures.items files frames stop lines asked said (Err (status_by c.in-Err.fault)) left requests
+          (requests_stop (settings_of c.args.self.now.probe) c.something_said.ensures files frames stop i.taken asked c.loop-asked.self.captures.items c.loop-asked.self.probe said
+          (g.F.Shelf.held c.loop-asked.shelf c.args.requests.now) (reached_of c.loop-asked.reader) (reached_of c.next.new.self) (datagram_in c.next.new.self) lines c.in-Err.fault r (i.same c.args.requests.now ∙ isr) (i.file lines isr) requests c.in-Err.ensures.answers)),
     )
 
 pub returns-in-Err-clause-finds : goal.returns-in-Err-clause-finds

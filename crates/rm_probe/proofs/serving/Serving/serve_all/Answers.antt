@@ -12,6 +12,7 @@ use Rattle.rm_probe.specs.Serving.{asking_of}
 use Rattle.rm_probe.specs.Steps.{IsLastLine}
 use Rattle.rm_probe.specs.Turns.{HasServed}
 use Rattle.rm_probe.proofs.FrameLemmas.{keeps_begun}
+use Rattle.rm_probe.proofs.InOrderLemmas.{served_says}
 use Rattle.rm_probe.proofs.OutputLemmas.{says_none}
 use Rattle.rm_probe.proofs.RunLemmas.{capture_finds, last_finds, says_faultless}
 use Rattle.rm_probe.proofs.ServingLemmas.{end_served, front_beside, put_beside, run_begins, run_more, served_last, stop_served, turn_finds, turn_stops}
@@ -51,21 +52,23 @@ loop-number-preserved g c =
 pub returns-in-Err-clause-served : goal.returns-in-Err-clause-served
 returns-in-Err-clause-served g c =
     let (arrivals, said, i, whole, manager, within) = c.loop-number.invariant in
-    let (came, next, turn, one, done, few, says) = c.in-Err.ensures.served in (
-      arrivals ++ came,
-      said ++ next,
-      stop_served g.F.Shelf.held g.F.Shelf.faults g.K.Sink.content g.K.Sink.faults g.L.Link.bound g.L.Link.received g.L.Link.sent g.L.Link.faults g.T.Clock.told
+    let (came, next, turn, one, done, few, says) = c.in-Err.ensures.served in
+    let ended = stop_served g.F.Shelf.held g.F.Shelf.faults g.K.Sink.content g.K.Sink.faults g.L.Link.bound g.L.Link.received g.L.Link.sent g.L.Link.faults g.T.Clock.told
           (settings_of c.args.self.now.replaying.probe) c.args.self.now.manager (texts c.args.names.now) (length c.args.names.now) c.args.self.now.replaying.captures.items c.args.shelf.now c.loop-number.shelf c.serve_one.new.shelf
           c.args.out.now c.loop-number.out c.serve_one.new.out c.args.link.now c.loop-number.link c.serve_one.new.link c.args.clock.now c.loop-number.clock c.serve_one.new.clock
           c.loop-number.self.replaying.captures.items c.serve_one.new.self.replaying.captures.items c.loop-number.self.replaying.probe c.serve_one.new.self.replaying.probe c.loop-number.number c.loop-number.self.last arrivals said i
-          came next _ few (rw c.from.ensures at one) (rw manager at turn),
+          came next (Err c.in-Err.status) few (rw c.from.ensures at one) (rw manager at turn) in (
+      arrivals ++ came,
+      said ++ next,
+      ended,
       omega (arith, c.loop-number-test.true, i.number_is, few, length-append arrivals came),
       tt,
       λ files frames stop are left.
           let r = i.run files frames stop are left in
           let turned = says files r.left stop r.journal (held_still _ _ _ files i.same are) r.records_left r.stands in
-          turn_stops (settings_of c.args.self.now.replaying.probe) c.something_said.ensures files frames stop arrivals came c.loop-number.self.replaying.captures.items c.serve_one.new.self.replaying.captures.items
-          c.loop-number.self.replaying.probe c.serve_one.new.self.replaying.probe said next (c.loop-number.number + 1) r (omega (arith, i.number_is)) c.in-Err.status (rw (c.from.ensures, i.settings_same) at turned),
+          served_says {T = Unit {0}} (settings_of c.args.self.now.replaying.probe) c.args.self.now.replaying.captures.items files frames stop (arrivals ++ came) ended.come.moments (said ++ next) (Err c.in-Err.status) left ended.come.rises
+          (turn_stops (settings_of c.args.self.now.replaying.probe) c.something_said.ensures files frames stop arrivals came c.loop-number.self.replaying.captures.items c.serve_one.new.self.replaying.captures.items
+          c.loop-number.self.replaying.probe c.serve_one.new.self.replaying.probe said next (c.loop-number.number + 1) r (omega (arith, i.number_is)) c.in-Err.status (rw (c.from.ensures, i.settings_same) at turned)),
     )
 
 pub returns-in-Err-clause-finds : goal.returns-in-Err-clause-finds
@@ -102,8 +105,9 @@ returns-clause-served g c =
       on_done _ c.put_last.result (omega (arith, all, i.number_is)),
       λ files frames stop are left.
           let r = i.run files frames stop are left in
-          served_last (settings_of c.args.self.now.replaying.probe) files frames stop arrivals c.loop-number.self.replaying.captures.items c.loop-number.self.replaying.probe said last _ r (omega (arith, c.from-2.ensures, all, i.number_is)) c.put_last.result
-          (line files r.left stop (held_still _ _ _ files i.same are) r.records_left),
+          served_says (settings_of c.args.self.now.replaying.probe) c.args.self.now.replaying.captures.items files frames stop arrivals i.come.moments (said ++ last) c.put_last.result left i.come.rises
+          (served_last (settings_of c.args.self.now.replaying.probe) files frames stop arrivals c.loop-number.self.replaying.captures.items c.loop-number.self.replaying.probe said last _ r (omega (arith, c.from-2.ensures, all, i.number_is)) c.put_last.result
+          (line files r.left stop (held_still _ _ _ files i.same are) r.records_left)),
     )
 
 pub returns-in-Err-clause-shelf : goal.returns-in-Err-clause-shelf
