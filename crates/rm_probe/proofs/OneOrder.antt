@@ -32,30 +32,34 @@ first_coming low (Comes first ∷ list) rises frame more is =
     let same : first ≡ frame = cc in omega (arith, rises.0, ap frame_rank same)
 first_coming low (Asks number request ∷ list) rises frame more is = omega (arith, rises.0, first_coming (request_rank request) list rises.1 frame more is)
 
-first_asking : (low : ℕ) (list : List Event) → Rises event_rank low list → (number : ℕ) (request : TimedDatagram) (more : List (ℕ × TimedDatagram)) → filter_map asking_in list ≡ (number, request) ∷ more
+-- a datagram with its number
+abbrev numbered : ℕ → TimedDatagram → ℕ × TimedDatagram
+numbered number request = (number, request)
+
+first_asking : (low : ℕ) (list : List Event) → Rises event_rank low list → (number : ℕ) (request : TimedDatagram) (more : List (ℕ × TimedDatagram)) → filter_map asking_in list ≡ numbered number request ∷ more
     → low ≤ request_rank request
 first_asking low [] rises number request more is = absurd cc
 first_asking low (Comes frame ∷ list) rises number request more is = omega (arith, rises.0, first_asking (frame_rank frame) list rises.1 number request more is)
 first_asking low (Asks n first ∷ list) rises number request more is =
-    let e : (n, first) ∷ filter_map asking_in list ≡ (number, request) ∷ more = is in
-    let same : (n, first) ≡ (number, request) = cc in omega (arith, rises.0, ap (λ (p : ℕ × TimedDatagram). request_rank p.1) same)
+    let e : numbered n first ∷ filter_map asking_in list ≡ numbered number request ∷ more = is in
+    let same : numbered n first ≡ numbered number request = cc in omega (arith, rises.0, ap (λ (p : ℕ × TimedDatagram). request_rank p.1) same)
 
 -- events with the same frames and the same datagrams, by their ranks
 one_list : (low high : ℕ) (list other : List Event) → Rises event_rank low list → Rises event_rank high other → filter_map coming_in list ≡ filter_map coming_in other
     → filter_map asking_in list ≡ filter_map asking_in other → list ≡ other
 one_list low high [] [] rises rises' frames requests = refl
 one_list low high [] (Comes frame ∷ other) rises rises' frames requests = absurd (let e : [] ≡ frame ∷ filter_map coming_in other = frames in cc)
-one_list low high [] (Asks number request ∷ other) rises rises' frames requests = absurd (let e : [] ≡ (number, request) ∷ filter_map asking_in other = requests in cc)
+one_list low high [] (Asks number request ∷ other) rises rises' frames requests = absurd (let e : [] ≡ numbered number request ∷ filter_map asking_in other = requests in cc)
 one_list low high (Comes frame ∷ list) [] rises rises' frames requests = absurd (let e : frame ∷ filter_map coming_in list ≡ [] = frames in cc)
-one_list low high (Asks number request ∷ list) [] rises rises' frames requests = absurd (let e : (number, request) ∷ filter_map asking_in list ≡ [] = requests in cc)
+one_list low high (Asks number request ∷ list) [] rises rises' frames requests = absurd (let e : numbered number request ∷ filter_map asking_in list ≡ [] = requests in cc)
 one_list low high (Comes frame ∷ list) (Comes first ∷ other) rises rises' frames requests =
     let e : frame ∷ filter_map coming_in list ≡ first ∷ filter_map coming_in other = frames in
     let same : frame ≡ first = cc in
     let rest : filter_map coming_in list ≡ filter_map coming_in other = cc in
     ap (λ (f : Frame). Comes f ∷ list) same ∙ ap (λ (es : List Event). Comes first ∷ es) (one_list (frame_rank frame) (frame_rank first) list other rises.1 rises'.1 rest requests)
 one_list low high (Asks number request ∷ list) (Asks n first ∷ other) rises rises' frames requests =
-    let e : (number, request) ∷ filter_map asking_in list ≡ (n, first) ∷ filter_map asking_in other = requests in
-    let same : (number, request) ≡ (n, first) = cc in
+    let e : numbered number request ∷ filter_map asking_in list ≡ numbered n first ∷ filter_map asking_in other = requests in
+    let same : numbered number request ≡ numbered n first = cc in
     let rest : filter_map asking_in list ≡ filter_map asking_in other = cc in
     ap (λ (p : ℕ × TimedDatagram). Asks p.0 p.1 ∷ list) same ∙ ap (λ (es : List Event). Asks n first ∷ es) (one_list (request_rank request) (request_rank first) list other rises.1 rises'.1 frames rest)
 one_list low high (Comes frame ∷ list) (Asks number request ∷ other) rises rises' frames requests =
