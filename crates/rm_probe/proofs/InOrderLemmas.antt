@@ -1,5 +1,5 @@
 -- What is said as the code goes is said of events in order.
-use Rattle.std.proofs.Common.{◌≡◌, ℕ, zero, suc, ◌+◌, ◌-◌, ◌≤◌, max, List, [], ◌∷◌, ◌++◌, length, map, take, drop, Result, Ok, Err, refl, sym, ap, subst, ◌∙◌, arith}
+use Rattle.std.proofs.Common.{◌≡◌, ℕ, zero, suc, ◌+◌, ◌-◌, max, List, [], ◌∷◌, ◌++◌, length, map, take, drop, Result, Ok, Err, refl, sym, ap, subst, ◌∙◌, arith}
 use Rattle.std.specs.List.Sorted.{IsNonDecreasingBy}
 use Rattle.std.specs.List.{prefix_len}
 use Rattle.std.proofs.lemmas.List.{append-nil, drop_at, length-append}
@@ -10,7 +10,7 @@ use Rattle.rm_captures.specs.Left.{AreLeft}
 use Rattle.rm_captures.specs.Merge.{is_by}
 use Rattle.rm_requests.specs.Lines.{AreRequests, TimedDatagram}
 use Rattle.rm_settings.specs.declared.settings.Settings.{Settings}
-use Rattle.rm_probe.specs.Events.{Event, comings}
+use Rattle.rm_probe.specs.Events.{comings}
 use Rattle.rm_probe.specs.InOrder.{AreInOrder}
 use Rattle.rm_probe.specs.Said.{Said, Last, is_cut_behind}
 use Rattle.rm_probe.specs.Serving.{Arrival, IsServed, frames_behind, frames_by_last, last_of, requests_of, rising}

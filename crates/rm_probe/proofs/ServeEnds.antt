@@ -1,6 +1,6 @@
 -- How the parts of a run that serves make its end.
 use Rattle.std.specs.Prelude.{IfErr, OnOk}
-use Rattle.std.proofs.Common.{◌≡◌, ◌⊎◌, inl, inr, ℕ, List, [], ◌∷◌, ◌++◌, length, map, Option, Some, None, Result, Ok, Err, refl, sym, subst, ◌∙◌, arith}
+use Rattle.std.proofs.Common.{◌≡◌, ◌⊎◌, inl, inr, ℕ, List, [], ◌∷◌, ◌++◌, map, Option, Some, None, Result, Ok, Err, refl, sym, subst, ◌∙◌, arith}
 use Rattle.rm_edge.specs.Outside.{Held, File, Adds}
 use Rattle.rm_edge.specs.Link.{Datagram, Grows}
 use Rattle.rm_edge.specs.Uses.{FileUse, SinkUse, LinkUse, HasPutFault, HasLinkFault}

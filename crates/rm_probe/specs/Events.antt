@@ -8,6 +8,6 @@ pub data Event : Type 0 where
   Comes : Frame → Event
   Asks : ℕ → TimedDatagram → Event
 
--- these frames come, one after the other
+-- these frames come, one after the other: what the steps of a run say of frames
 abbrev pub comings : List Frame → List Event
 comings frames = map Comes frames

@@ -66,7 +66,7 @@ frames_behind arrivals frames = drop (length (frames_by_last arrivals frames)) f
 abbrev pub last_served : List Frame → Stop → List Arrival → Said
 last_served frames stop arrivals = Last (is_cut_behind (frames_behind arrivals frames) stop) (length (frames_by_last arrivals frames)) (length arrivals)
 
--- All that is said in a run that serves: of the frames up to the last datagram and of the datagrams, in order, and last.
+-- All that is said in a run that serves: what is said of the frames up to the last datagram and of the datagrams, in order, and the last line.
 pub record IsServed (settings : Settings) (frames : List Frame) (stop : Stop) (arrivals : List Arrival) (said : List Said) : Type 0 where
   pub events : List Event
   pub in_order : AreInOrder 1 (frames_by_last arrivals frames) (requests_of arrivals) events
