@@ -1,4 +1,4 @@
-use Rattle.std.proofs.Common.{◌≡◌, ◌∙◌, ◌∷◌, ◌++◌, [], ◌+◌, List, arith, length, length-append, refl, rules, subst}
+use Rattle.std.proofs.Common.{◌≡◌, ◌∙◌, ◌∷◌, ◌++◌, [], ◌+◌, List, Err, arith, length, length-append, refl, rules, subst}
 use Rattle.rm_edge.proofs.Keeping.{quiet_then}
 use Rattle.rm_edge.specs.Uses.{clock_use, link_use, sink_use}
 use Rattle.rm_captures.specs.Left.{passed_of}
