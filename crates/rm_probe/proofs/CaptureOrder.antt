@@ -1,6 +1,6 @@
 -- The moments of the frames of captures don't fall.
 use Rattle.std.proofs.Common.{◌≡◌, ℕ, ◌+◌, ◌<◌, ◌≤◌, Bool, true, false, List, [], ◌∷◌, Option, Result, Ok, Err, refl, sym, ap, subst, ◌∙◌, arith}
-use Rattle.std.specs.Prelude.{MatchResult, nat_lt}
+use Rattle.std.specs.Prelude.{nat_lt}
 use Rattle.std.specs.List.Sorted.{IsNonDecreasingBy}
 use Rattle.std.proofs.lemmas.Bool.Decides.{nat_tests}
 use Rattle.rm_model.specs.Journal.{Frame}
@@ -10,8 +10,10 @@ use Rattle.rm_pcap.specs.declared.form.Form.{Form}
 use Rattle.rm_pcap.specs.declared.reach.Reach.{Reach}
 use Rattle.rm_pcap.specs.declared.start.Start.{Start}
 use Rattle.rm_pcap.specs.Header.{header_of}
-use Rattle.rm_pcap.specs.Records.{Stop, Broken, AreRecords, ReadsAs, beginning}
+use Rattle.rm_pcap.specs.Records.{Stop, Broken, ReadsAs}
+use Rattle.rm_pcap.specs.Steps.{AreRecords, beginning}
 use Rattle.rm_pcap.specs.View.{progress_of}
+use Rattle.rm_pcap.proofs.ReadingLemmas.{readings_are_records}
 use Rattle.rm_pcap.proofs.RecordLaws.{taken}
 use Rattle.rm_captures.specs.Left.{AreLeft}
 use Rattle.rm_captures.specs.Merge.{merge}
@@ -58,14 +60,19 @@ of_records form start reach bytes (frame ∷ frames) stop are =
     let last : are.0.last ≡ frame.moment = ap (λ (r : Reach). r.last) (sym t.is_next) ∙ moment in
     (omega (arith, moment), subst (λ (low : ℕ). Come low frames) last (of_records form start are.0 bytes frames stop are.2))
 
-of_header : (header : Result Form PcapFault) (start : Start) (bytes : List ℕ) (frames : List Frame) (stop : Stop)
-    → MatchResult header (λ form. AreRecords form start (beginning start) bytes frames stop) (λ fault. (frames ≡ []) × (stop ≡ Broken fault)) → Come 0 frames
-of_header (Ok form) start bytes frames stop are = sooner 0 start.lead frames (omega arith) (of_records form start (beginning start) bytes frames stop are)
-of_header (Err fault) start bytes frames stop are = subst (Come 0) (sym are.0) tt
+-- those of a file whose header has a fault
+none_read : (start : Start) (bytes : List ℕ) (frames : List Frame) (stop : Stop) (fault : PcapFault) → header_of bytes ≡ Err fault → ReadsAs start bytes frames stop
+    → (frames ≡ []) × (stop ≡ Broken fault)
+unfolding ReadsAs
+none_read start bytes frames stop fault header reads = rw header at reads
 
 of_file : (start : Start) (bytes : List ℕ) (frames : List Frame) (stop : Stop) → ReadsAs start bytes frames stop → Come 0 frames
-unfolding ReadsAs
-of_file start bytes frames stop reads = of_header (header_of bytes) start bytes frames stop reads
+of_file start bytes frames stop reads = by_header (header_of bytes) refl
+  where
+    by_header : (header : Result Form PcapFault) → header_of bytes ≡ header → Come 0 frames
+    by_header (Ok form) is =
+        sooner 0 start.lead frames (omega arith) (of_records form start (beginning start) bytes frames stop ((readings_are_records form start bytes frames stop is).0 reads))
+    by_header (Err fault) is = let none = none_read start bytes frames stop fault is reads in subst (Come 0) (sym none.0) tt
 
 of_files : (base : Option ℕ) (lead interface : ℕ) (files : List (List ℕ)) (frames : List Frame) (stop : Stop) → AreRead base lead interface files frames stop → Come 0 frames
 unfolding AreRead
