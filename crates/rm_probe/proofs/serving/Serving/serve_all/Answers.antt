@@ -54,10 +54,10 @@ returns-in-Err-clause-served g c =
     let (arrivals, said, i, whole, manager, within) = c.loop-number.invariant in
     let (came, next, turn, one, done, few, says) = c.in-Err.ensures.served in
     let ended = stop_served g.F.Shelf.held g.F.Shelf.faults g.K.Sink.content g.K.Sink.faults g.L.Link.bound g.L.Link.received g.L.Link.sent g.L.Link.faults g.T.Clock.told
-          (settings_of c.args.self.now.replaying.probe) c.args.self.now.manager (texts c.args.names.now) (length c.args.names.now) c.args.self.now.replaying.captures.items c.args.shelf.now c.loop-number.shelf c.serve_one.new.shelf
-          c.args.out.now c.loop-number.out c.serve_one.new.out c.args.link.now c.loop-number.link c.serve_one.new.link c.args.clock.now c.loop-number.clock c.serve_one.new.clock
-          c.loop-number.self.replaying.captures.items c.serve_one.new.self.replaying.captures.items c.loop-number.self.replaying.probe c.serve_one.new.self.replaying.probe c.loop-number.number c.loop-number.self.last arrivals said i
-          came next (Err c.in-Err.status) few (rw c.from.ensures at one) (rw manager at turn) in (
+    (settings_of c.args.self.now.replaying.probe) c.args.self.now.manager (texts c.args.names.now) (length c.args.names.now) c.args.self.now.replaying.captures.items c.args.shelf.now c.loop-number.shelf c.serve_one.new.shelf
+    c.args.out.now c.loop-number.out c.serve_one.new.out c.args.link.now c.loop-number.link c.serve_one.new.link c.args.clock.now c.loop-number.clock c.serve_one.new.clock
+    c.loop-number.self.replaying.captures.items c.serve_one.new.self.replaying.captures.items c.loop-number.self.replaying.probe c.serve_one.new.self.replaying.probe c.loop-number.number c.loop-number.self.last arrivals said i
+    came next (Err c.in-Err.status) few (rw c.from.ensures at one) (rw manager at turn) in (
       arrivals ++ came,
       said ++ next,
       ended,
