@@ -11,7 +11,7 @@ use crate::sampling::take;
 use rm_group::{Due, MOST_FRAMES, Passing, SAMPLES};
 use rm_pcap::Frame;
 use rm_pdu::{Places, read_message};
-use rm_proto::{Facts, facts};
+use rm_proto::facts;
 use rm_reply::{MOST_REPLY, Request, granted_or_denied, respond};
 use rm_settings::Settings;
 use rm_val::{NoMemory, Oid, Value};
@@ -85,15 +85,13 @@ impl Agent {
         ensures last { last_given self.new ≡ frame.now.moment }
         ensures frames { frames_given self.new ≡ frames_given self.old + 1 }
     {
-        let passing = Passing {
-            facts: Facts {
-                interface: frame.interface,
-                ..facts(frame.bytes, frame.original, self.settings.keep_short)
-            },
+        let mut passing = Passing {
+            facts: facts(frame.bytes, frame.original, self.settings.keep_short),
             octets: frame.bytes,
             number: frame.number,
             moment: frame.moment,
         };
+        passing.facts.interface = frame.interface;
         pass(&mut self.groups, &passing);
         self.last = frame.moment;
         self.frames += 1;

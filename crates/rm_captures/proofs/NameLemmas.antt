@@ -1,13 +1,19 @@
 -- Files by their names.
 use Rattle.std.proofs.Common.{◌≡◌, ℕ, ◌<◌, zero, suc, List, [], ◌∷◌, length, get_or, inl, inr, refl, sym, subst, arith}
+use Rattle.std.proofs.lemmas.Bool.Decides.{nat_tests}
 use Rattle.std.specs.Borrow.{Bor}
-use Rattle.std.specs.Prelude.{Result, Ok, Err, IfErr}
+use Rattle.std.specs.Prelude.{◌==◌, true, Result, Ok, Err, IfErr}
 use Rattle.rm_edge.specs.Outside.{Held, Rose}
 use Rattle.rm_captures.specs.Reading.{texts, AreHeld, IsOneOf, OneRose}
 
 pub no_texts : (names : List (Bor (List ℕ))) → length names ≡ 0 → texts names ≡ []
 no_texts [] none = refl
 no_texts (name ∷ names) none = absurd (omega (arith, none))
+
+-- none is left behind the last one
+pub last_name : (names : List (Bor (List ℕ))) → (length names == 0) ≡ true → texts names ≡ []
+last_name [] none = refl
+last_name (name ∷ names) none = absurd (grind (arith, nat_tests, none))
 
 pub one_of_first : (all : List (List ℕ)) (name : List ℕ) (names : List (List ℕ)) (each : List ℕ) → all ≡ name ∷ names → each ≡ name → IsOneOf all each
 unfolding IsOneOf

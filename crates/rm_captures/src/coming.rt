@@ -47,6 +47,9 @@ pub fn next_of<F: Shelf>(
         Ok(moment) => moment,
         Err(fault) => return Err(CaptureFault { interface, fault }),
     };
+    if names.is_empty() {
+        return Ok(sooner(interface, own, None));
+    }
     match next_of(captures, shelf, names, interface + 1) {
         Ok(others) => Ok(sooner(interface, own, others)),
         Err(found) => Err(found),

@@ -12,7 +12,7 @@ use Rattle.rm_pcap.specs.declared.fault.PcapFault.TheVariants.{Magic, Version, L
 use Rattle.rm_pcap.specs.declared.reach.Reach.{Reach}
 use Rattle.rm_pcap.specs.declared.position.Position.{Position}
 use Rattle.rm_pcap.specs.declared.capture.Capture.{Capture}
-use Rattle.rm_pcap.specs.declared.record.Lengths.{Lengths}
+use Rattle.rm_pcap.specs.declared.record.Heading.{Heading}
 use Rattle.rm_pcap.specs.declared.record.Seen.{Seen}
 use Rattle.rm_pcap.specs.declared.record.Seen.TheVariants.{Whole as SeenWhole, End as SeenEnd, Cut as SeenCut}
 use Rattle.rm_pcap.specs.Records.{Stop, Ended, CutAt, Broken, included_of, time_of}
@@ -144,9 +144,9 @@ broken_in form start (x ∷ xs) why late is = by_test (nat_lt (length (x ∷ xs)
     by_test true e = absurd cc
     by_test false e = broken_with form start (x ∷ xs) (fault_at form start (beginning start) (x ∷ xs)) why late e
 
-whole_in : (form : Form) (start : Start) (xs : List ℕ) (lengths : Lengths) → IsWholePart form start (beginning start) xs lengths → first_in form start xs ≡ Ok (Some (time_of form xs))
-whole_in form start xs lengths part =
-    let included : lengths.included ≡ included_of form xs = ap (λ (l : Lengths). l.included) part.numbers in
+whole_in : (form : Form) (start : Start) (xs : List ℕ) (heading : Heading) → IsWholePart form start (beginning start) xs heading → first_in form start xs ≡ Ok (Some (time_of form xs))
+whole_in form start xs heading part =
+    let included : heading.included ≡ included_of form xs = ap (λ (t : Heading). t.included) part.numbers in
     let many : nat_lt (length xs) 16 ≡ false = grind (arith, nat_tests) in
     let long : nat_lt (length xs) (16 + included_of form xs) ≡ false = grind (arith, nat_tests) in
     rw (many, part.faultless, long) refl
@@ -163,14 +163,14 @@ unfolding first_of found_at
 first_broken form start reach bytes why first late is =
     broken_in form start (drop 24 bytes) why late (sym (ap (λ (r : Reach). found_in form start r (drop r.at bytes)) first) ∙ is)
 
-pub first_whole : (form : Form) (start : Start) (reach : Reach) (bytes octets : List ℕ) (lengths : Lengths) → reach ≡ beginning start → IsWholePart form start reach (drop reach.at bytes) lengths
+pub first_whole : (form : Form) (start : Start) (reach : Reach) (bytes octets : List ℕ) (heading : Heading) → reach ≡ beginning start → IsWholePart form start reach (drop reach.at bytes) heading
     → IsFront octets (drop reach.at bytes) → 16 ≤ length octets → first_of form start bytes ≡ Ok (Some (time_of form octets))
 unfolding first_of
-first_whole form start reach bytes octets lengths first part front enough =
+first_whole form start reach bytes octets heading first part front enough =
     let same : take 16 octets ≡ take 16 (drop reach.at bytes) = front_of 16 octets (drop reach.at bytes) front enough in
     let time : time_of form (drop reach.at bytes) ≡ time_of form octets = sym (time_front form (drop reach.at bytes)) ∙ ap (time_of form) (sym same) ∙ time_front form octets in
-    let there : IsWholePart form start (beginning start) (drop 24 bytes) lengths = subst (λ (r : Reach). IsWholePart form start r (drop r.at bytes) lengths) first part in
-    whole_in form start (drop 24 bytes) lengths there ∙ ap (λ (r : Reach). Ok (Some (time_of form (drop r.at bytes)))) (sym first) ∙ ap (λ (t : ℕ). Ok (Some t)) time
+    let there : IsWholePart form start (beginning start) (drop 24 bytes) heading = subst (λ (r : Reach). IsWholePart form start r (drop r.at bytes) heading) first part in
+    whole_in form start (drop 24 bytes) heading there ∙ ap (λ (r : Reach). Ok (Some (time_of form (drop r.at bytes)))) (sym first) ∙ ap (λ (t : ℕ). Ok (Some t)) time
 
 -- what a capture that was looked at before has first
 pub first_seen : (capture : Capture) (bytes : List ℕ) (seen : Seen) → capture.seen ≡ Some seen → IsUnseen (progress_of capture) → Agrees (progress_of capture) bytes

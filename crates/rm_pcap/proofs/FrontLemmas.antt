@@ -13,7 +13,7 @@ use Rattle.rm_pcap.specs.declared.reach.Reach.{Reach}
 use Rattle.rm_pcap.specs.Header.{number_at, form_of, has_version, has_link_type, header_with, header_of}
 use Rattle.rm_pcap.specs.Records.{included_of, original_of, time_of}
 use Rattle.rm_pcap.specs.Steps.{is_late, fault_at}
-use Rattle.rm_pcap.specs.Seen.{lengths_of, record_of}
+use Rattle.rm_pcap.specs.Seen.{heading_of, record_of}
 
 index_front : (k i : ℕ) (xs : List ℕ) → i < k → slice_index (take k xs) i ≡ slice_index xs i
 index_front k i xs below = get_or-take k xs i 0 below
@@ -48,9 +48,10 @@ pub time_front : (form : Form) (xs : List ℕ) → time_of form (take 16 xs) ≡
 unfolding time_of
 time_front form xs = rw (number_front form.order 4 0 16 xs (omega arith), number_front form.order 4 4 16 xs (omega arith)) refl
 
-pub lengths_front : (form : Form) (xs : List ℕ) → lengths_of form (take 16 xs) ≡ lengths_of form xs
-unfolding included_of original_of
-lengths_front form xs = rw (number_front form.order 4 8 16 xs (omega arith), number_front form.order 4 12 16 xs (omega arith)) refl
+pub heading_front : (form : Form) (start : Start) (reach : Reach) (xs : List ℕ) → heading_of form start reach (take 16 xs) ≡ heading_of form start reach xs
+unfolding is_late included_of original_of time_of
+heading_front form start reach xs =
+    rw (number_front form.order 4 0 16 xs (omega arith), number_front form.order 4 4 16 xs (omega arith), number_front form.order 4 8 16 xs (omega arith), number_front form.order 4 12 16 xs (omega arith)) refl
 
 pub late_front : (form : Form) (start : Start) (reach : Reach) (xs : List ℕ) → is_late form start reach (take 16 xs) ≡ is_late form start reach xs
 unfolding is_late time_of

@@ -6,32 +6,32 @@ use Rattle.rm_pcap.specs.declared.start.Start.{Start}
 use Rattle.rm_pcap.specs.declared.fault.PcapFault.{PcapFault}
 use Rattle.rm_pcap.specs.declared.fault.PcapFault.TheVariants.{Late}
 use Rattle.rm_pcap.specs.declared.reach.Reach.{Reach}
-use Rattle.rm_pcap.specs.declared.record.Lengths.{Lengths}
+use Rattle.rm_pcap.specs.declared.record.Heading.{Heading}
 use Rattle.rm_pcap.specs.declared.record.Record.{Record}
 use Rattle.rm_pcap.specs.Records.{Broken, included_of}
 use Rattle.rm_pcap.specs.Steps.{Whole, Stops, IsThere, found_in, found_with, fault_at, is_late, frame_at, reach_after}
-use Rattle.rm_pcap.specs.Seen.{lengths_of, record_of, frame_seen, IsWholeIn}
+use Rattle.rm_pcap.specs.Seen.{heading_of, record_of, frame_seen, IsWholeIn}
 use Rattle.rm_pcap.proofs.FoundLemmas.{header_left, not_late, so_late}
 
 -- what stands whole in the window is there
-pub there_in : (form : Form) (start : Start) (reach : Reach) (octets : List ℕ) (lengths : Lengths) → IsWholeIn form start reach octets lengths → IsThere form start reach octets
-there_in form start reach octets lengths whole = record {
-  long = omega (arith, whole.long, ap (λ (l : Lengths). l.included) whole.numbers);
+pub there_in : (form : Form) (start : Start) (reach : Reach) (octets : List ℕ) (heading : Heading) → IsWholeIn form start reach octets heading → IsThere form start reach octets
+there_in form start reach octets heading whole = record {
+  long = omega (arith, whole.long, ap (λ (t : Heading). t.included) whole.numbers);
   faultless = whole.faultless;
 }
 
--- the header of a record that is there has no fault, and its lengths are those that were read
+-- the header of a record that is there has no fault, and says what was read
 pub fault_there : (form : Form) (start : Start) (reach : Reach) (octets old : List ℕ) (fault : PcapFault) → octets ≡ old → IsThere form start reach old
     → fault_at form start reach octets ≡ Some fault → ⊥
 fault_there form start reach octets old fault same there is =
     let e : None ≡ Some fault = sym there.faultless ∙ ap (fault_at form start reach) (sym same) ∙ is in
     cc
 
-pub lengths_there : (form : Form) (octets old : List ℕ) (lengths : Lengths) → octets ≡ old → lengths ≡ lengths_of form octets → lengths ≡ lengths_of form old
-lengths_there form octets old lengths same is = is ∙ ap (lengths_of form) same
+pub heading_there : (form : Form) (start : Start) (reach : Reach) (octets old : List ℕ) (heading : Heading) → octets ≡ old → heading ≡ heading_of form start reach octets → heading ≡ heading_of form start reach old
+heading_there form start reach octets old heading same is = is ∙ ap (heading_of form start reach) same
 
-pub included_there : (form : Form) (octets old : List ℕ) (lengths : Lengths) → octets ≡ old → lengths ≡ lengths_of form octets → lengths.included ≡ included_of form old
-included_there form octets old lengths same is = ap (λ (l : Lengths). l.included) (lengths_there form octets old lengths same is)
+pub included_there : (form : Form) (start : Start) (reach : Reach) (octets old : List ℕ) (heading : Heading) → octets ≡ old → heading ≡ heading_of form start reach octets → heading.included ≡ included_of form old
+included_there form start reach octets old heading same is = ap (λ (t : Heading). t.included) (heading_there form start reach octets old heading same is)
 
 -- what such a record is, by whether it is late
 pub there_is : (form : Form) (start : Start) (reach : Reach) (xs : List ℕ) → IsThere form start reach xs

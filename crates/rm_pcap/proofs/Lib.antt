@@ -1,5 +1,6 @@
 pub mod FrontLemmas
 pub mod FoundLemmas
+mod HeadingLemmas
 mod KeptLemmas
 mod BaseLemmas
 pub mod CaptureLemmas

@@ -1,53 +1,58 @@
 -- What stands next in a capture, as its reader keeps it: the numbers of a record, whose octets are in the window.
-use Rattle.std.specs.Prelude.{◌≡◌, ◌≤◌, ◌<◌, ℕ, ◌+◌, ◌*◌, max, List, length, take, drop, Option, Some, None}
+use Rattle.std.specs.Prelude.{◌≡◌, ◌≤◌, ◌<◌, ℕ, ◌+◌, ◌*◌, max, List, length, take, drop, Option, Some, None, unwrap_or, if◌then◌else◌}
 use Rattle.rm_model.specs.Journal.{Frame as Passed}
 use Rattle.rm_pcap.specs.declared.form.Form.{Form}
 use Rattle.rm_pcap.specs.declared.start.Start.{Start}
 use Rattle.rm_pcap.specs.declared.reach.Reach.{Reach}
-use Rattle.rm_pcap.specs.declared.record.Lengths.{Lengths}
+use Rattle.rm_pcap.specs.declared.record.Heading.{Heading}
 use Rattle.rm_pcap.specs.declared.record.Part.{Part}
 use Rattle.rm_pcap.specs.declared.record.Part.TheVariants.{Whole as WholePart, End as EndPart, Cut as CutPart}
 use Rattle.rm_pcap.specs.declared.record.Record.{Record}
 use Rattle.rm_pcap.specs.declared.record.Seen.{Seen}
 use Rattle.rm_pcap.specs.declared.record.Seen.TheVariants.{Whole as SeenWhole, End as SeenEnd, Cut as SeenCut}
-use Rattle.rm_pcap.specs.Records.{Ended, CutAt, included_of, original_of}
-use Rattle.rm_pcap.specs.Steps.{Found, Whole, Stops, fault_at, reach_after}
+use Rattle.rm_pcap.specs.Records.{Ended, CutAt, time_of, included_of, original_of}
+use Rattle.rm_pcap.specs.Steps.{Found, Whole, Stops, fault_at, is_late, moment_at, reach_after}
 
 -- the numbers of the record whose header comes first
 abbrev pub record_of : Form → Start → Reach → List ℕ → Record
 record_of form start reach octets =
     record { included = included_of form octets; original = max (included_of form octets) (original_of form octets); after = reach_after form start reach octets }
 
--- the lengths in the header that comes first
-abbrev pub lengths_of : Form → List ℕ → Lengths
-lengths_of form octets = record { included = included_of form octets; original = max (included_of form octets) (original_of form octets) }
+-- what the header that comes first says
+abbrev pub heading_of : Form → Start → Reach → List ℕ → Heading
+heading_of form start reach octets = record {
+  included = included_of form octets;
+  original = max (included_of form octets) (original_of form octets);
+  base = unwrap_or reach.base (time_of form octets);
+  moment = if is_late form start reach octets then None else Some (moment_at start reach (time_of form octets));
+}
 
 -- what holds of the lengths of each record behind a reach
-pub record AreSound (reach : Reach) (lengths : Lengths) : Type 0 where
-  pub captured : lengths.included ≤ lengths.original
-  pub most : lengths.original ≤ 262144
+pub record AreSound (reach : Reach) (heading : Heading) : Type 0 where
+  pub captured : heading.included ≤ heading.original
+  pub most : heading.original ≤ 262144
   pub few : reach.count < 100000000
 
--- all of a record stands in the octets of the window, with these lengths
-pub record IsWholeIn (form : Form) (start : Start) (reach : Reach) (octets : List ℕ) (lengths : Lengths) : Type 0 where
-  pub long : 16 + lengths.included ≤ length octets
-  pub numbers : lengths ≡ lengths_of form octets
+-- all of a record stands in the octets of the window, whose header says this
+pub record IsWholeIn (form : Form) (start : Start) (reach : Reach) (octets : List ℕ) (heading : Heading) : Type 0 where
+  pub long : 16 + heading.included ≤ length octets
+  pub numbers : heading ≡ heading_of form start reach octets
   pub faultless : fault_at form start reach octets ≡ None
-  pub sound : AreSound reach lengths
+  pub sound : AreSound reach heading
 
 abbrev pub IsPartIn : Form → Start → Reach → List ℕ → Part → Type 0
-IsPartIn form start reach octets (WholePart lengths) = IsWholeIn form start reach octets lengths
+IsPartIn form start reach octets (WholePart heading) = IsWholeIn form start reach octets heading
 IsPartIn form start reach octets EndPart = Unit {0}
 IsPartIn form start reach octets CutPart = Unit {0}
 
 -- all of the record that stands first in octets
-abbrev pub IsAllOf : Form → List ℕ → Part → Type 0
-IsAllOf form octets part = part ≡ WholePart (lengths_of form octets)
+abbrev pub IsAllOf : Form → Start → Reach → List ℕ → Part → Type 0
+IsAllOf form start reach octets part = part ≡ WholePart (heading_of form start reach octets)
 
--- all of a record stands first in the octets that are left of a file, with these lengths
-pub record IsWholePart (form : Form) (start : Start) (reach : Reach) (left : List ℕ) (lengths : Lengths) : Type 0 where
-  pub long : 16 + lengths.included ≤ length left
-  pub numbers : lengths ≡ lengths_of form left
+-- all of a record stands first in the octets that are left of a file, whose header says this
+pub record IsWholePart (form : Form) (start : Start) (reach : Reach) (left : List ℕ) (heading : Heading) : Type 0 where
+  pub long : 16 + heading.included ≤ length left
+  pub numbers : heading ≡ heading_of form start reach left
   pub faultless : fault_at form start reach left ≡ None
 
 -- a record is cut short there, within its header or behind it
@@ -57,7 +62,7 @@ pub data IsCutPart (form : Form) (start : Start) (reach : Reach) (left : List �
 
 -- what of a record stands first there
 abbrev pub IsPart : Form → Start → Reach → List ℕ → Part → Type 0
-IsPart form start reach left (WholePart lengths) = IsWholePart form start reach left lengths
+IsPart form start reach left (WholePart heading) = IsWholePart form start reach left heading
 IsPart form start reach left EndPart = length left ≡ 0
 IsPart form start reach left CutPart = IsCutPart form start reach left
 

@@ -1,18 +1,18 @@
-ghost use Rattle.std.specs.Prelude.{◌≡◌, ◌≤◌, ◌<◌, ◌+◌, ℕ, List, length, drop, None, Some, IfOk, IfErr, IfSome, MatchResult, if◌then◌else◌};
+ghost use Rattle.std.specs.Prelude.{◌≡◌, ◌≤◌, ◌<◌, ◌+◌, ℕ, List, length, drop, None, Some, IfOk, IfErr, IfSome, MatchResult, if◌then◌else◌, unwrap_or};
 ghost use Rattle.rm_edge.specs.Outside.{File, Rose};
 ghost use Rattle.rm_edge.specs.Shelves.{KeepsShelf};
 ghost use Rattle.rm_pcap.specs.Records.{Broken, time_of};
 ghost use Rattle.rm_pcap.specs.Steps.{IsThere, Stops, fault_at, is_late, moment_at, found_at, found_in};
 ghost use Rattle.rm_window.specs.Filling.{IsFront};
 ghost use Rattle.rm_pcap.specs.Calls.{IsFaultAt, IsBroken};
-ghost use Rattle.rm_pcap.specs.Seen.{lengths_of, record_of, found_of, Follows, FollowsSeen, IsAllOf, IsNear, IsLong, IsPart, IsPartIn, AreSound};
+ghost use Rattle.rm_pcap.specs.Seen.{heading_of, record_of, found_of, Follows, FollowsSeen, IsAllOf, IsNear, IsLong, IsPart, IsPartIn, AreSound};
 ghost use Rattle.rm_pcap.specs.declared.fault.PcapFault.TheVariants.{Late};
 
 use crate::fault::PcapFault;
 use crate::fields::long_at;
 use crate::form::{Form, TimeUnit};
 use crate::reach::Reach;
-use crate::record::{Lengths, MOST_LENGTH, MOST_RECORDS, Part, RECORD_HEADER, Record, Seen};
+use crate::record::{Heading, MOST_LENGTH, MOST_RECORDS, Part, RECORD_HEADER, Record, Seen};
 use crate::start::Start;
 use rm_edge::Shelf;
 use rm_window::Window;
@@ -43,28 +43,33 @@ pub fn time_of(form: Form, octets: &[u8]) -> u64
 impl Position {
     ghost use Rattle.rm_window.specs.Window.{octets_of, room_of};
 
-    // The moment of the record whose header comes first. None where it has more than 32 bits.
+    // The time in nanoseconds that stands at the lead, and the moment of the record whose header comes first. The moment is None where it has
+    // more than 32 bits.
     #[tactic(auto, unfolding(crate::specs::Steps::is_late))]
-    fn moment(self, octets: &[u8]) -> Option<u32>
+    fn timing(self, octets: &[u8]) -> (u64, Option<u32>)
         requires { 16 ≤ length octets.now }
-        ensures { result ≡ (if is_late self.form self.start self.reach octets.now then None
+        ensures base { result.0 ≡ unwrap_or self.reach.base (time_of self.form octets.now) }
+        ensures moment { result.1 ≡ (if is_late self.form self.start self.reach octets.now then None
             else Some (moment_at self.start self.reach (time_of self.form octets.now))) }
     {
         let time = time_of(self.form, octets);
         let base = self.reach.base.unwrap_or(time);
         let since = u64::from(self.start.lead) + time.saturating_sub(base) / 1_000_000;
-        u32::try_from(since.max(u64::from(self.reach.last))).ok()
+        let moment = u32::try_from(since.max(u64::from(self.reach.last))).ok();
+        (base, moment)
     }
 
-    // The lengths in the header that comes first, or the header's first fault. The moment of the first record isn't judged here.
+    // What the header that comes first says, or its first fault. The moment of the first record isn't judged here. It is inlined into each of
+    // the two copies of `part`.
+    #[inline(always)]
     #[tactic(auto, unfolding(crate::specs::Steps::fault_at, crate::specs::Records::included_of, crate::specs::Records::original_of))]
-    fn judge(self, octets: &[u8]) -> Result<Lengths, PcapFault>
+    fn judge(self, octets: &[u8]) -> Result<Heading, PcapFault>
         requires long { 16 ≤ length octets.now }
         requires near { IsNear self.reach }
         ensures judged { MatchResult result
-            (λ lengths. (fault_at self.form self.start self.reach octets.now ≡ None) × (lengths ≡ lengths_of self.form octets.now))
+            (λ heading. (fault_at self.form self.start self.reach octets.now ≡ None) × (heading ≡ heading_of self.form self.start self.reach octets.now))
             (λ fault. fault_at self.form self.start self.reach octets.now ≡ Some fault) }
-        ensures sound { IfOk result (λ lengths. AreSound self.reach lengths) }
+        ensures sound { IfOk result (λ heading. AreSound self.reach heading) }
         ensures place { IfErr result (λ fault. IsFaultAt self.reach fault) }
         ensures late { IfErr result (λ fault. (at : ℕ) → fault ≡ Late at → 0 < self.reach.count) }
     {
@@ -80,42 +85,46 @@ impl Position {
         if original > MOST_LENGTH {
             return Err(PcapFault::Original(reach.at + 12));
         }
-        if reach.count > 0 && self.moment(octets).is_none() {
+        let (base, moment) = self.timing(octets);
+        if reach.count > 0 && moment.is_none() {
             return Err(PcapFault::Late(reach.at));
         }
-        Ok(Lengths {
+        Ok(Heading {
             included,
             original: included.max(original),
+            base,
+            moment,
         })
     }
 
-    // The numbers of the record whose header comes first, which has these lengths. None where its moment has more than 32 bits.
-    fn record(self, octets: &[u8], lengths: Lengths) -> Option<Record>
-        requires long { 16 ≤ length octets.now }
+    // The numbers of the record whose header says this. None where its moment has more than 32 bits.
+    fn record(self, heading: Heading) -> Option<Record>
         requires near { IsNear self.reach }
-        requires lengths { lengths ≡ lengths_of self.form octets.now }
-        requires sound { AreSound self.reach lengths }
-        ensures numbers { result ≡ (if is_late self.form self.start self.reach octets.now then None
-            else Some (record_of self.form self.start self.reach octets.now)) }
-        ensures follows { IfSome result (λ seen. Follows self.reach seen) }
+        requires sound { AreSound self.reach heading }
+        ensures numbers { (octets : List ℕ) → heading ≡ heading_of self.form self.start self.reach octets
+            → result ≡ (if is_late self.form self.start self.reach octets then None else Some (record_of self.form self.start self.reach octets)) }
+        ensures follows { (octets : List ℕ) → heading ≡ heading_of self.form self.start self.reach octets
+            → IfSome result (λ seen. Follows self.reach seen) }
     {
-        let moment = self.moment(octets)?;
-        let reach = self.reach;
-        let after = Reach {
-            base: Some(reach.base.unwrap_or(time_of(self.form, octets))),
-            last: moment,
-            count: reach.count + 1,
-            at: reach.at + (RECORD_HEADER as u64 + u64::from(lengths.included)),
-        };
-        Some(Record {
-            included: lengths.included,
-            original: lengths.original,
-            after,
-        })
+        match heading.moment {
+            Some(last) => Some(Record {
+                included: heading.included,
+                original: heading.original,
+                after: Reach {
+                    base: Some(heading.base),
+                    last,
+                    count: self.reach.count + 1,
+                    at: self.reach.at + (RECORD_HEADER as u64 + u64::from(heading.included)),
+                },
+            }),
+            None => None,
+        }
     }
 
     /// Sees what of a record stands next in the file, through a window whose octets stand there. Where all of it is in the window already, it
     /// is seen whatever the shelf gives.
+    // It is inlined, since each frame that is read passes through here, and what is seen of it is large.
+    #[inline(always)]
     pub fn part<S: Shelf>(
         self,
         shelf: &mut S,
@@ -131,7 +140,7 @@ impl Position {
         ensures room { room_of window.new ≡ room_of window.old }
         ensures keeps { IsFront (octets_of window.old) (octets_of window.new) }
         ensures part { IfOk result (IsPartIn self.form self.start self.reach (octets_of window.new)) }
-        ensures whole { IfOk result (λ part. IsThere self.form self.start self.reach (octets_of window.old) → IsAllOf self.form (octets_of window.old) part) }
+        ensures whole { IfOk result (λ part. IsThere self.form self.start self.reach (octets_of window.old) → IsAllOf self.form self.start self.reach (octets_of window.old) part) }
         ensures faultless { IfErr result (λ fault. IsThere self.form self.start self.reach (octets_of window.old) → ⊥) }
         ensures same { IsThere self.form self.start self.reach (octets_of window.old) → octets_of window.new ≡ octets_of window.old }
         ensures stands { (bytes : List ℕ) → S.held shelf.old name.now ≡ File bytes → IsFront (octets_of window.old) (drop self.reach.at bytes)
@@ -150,15 +159,15 @@ impl Position {
         if count < RECORD_HEADER {
             return Ok(Part::Cut);
         }
-        let lengths = self.judge(window.octets())?;
-        let whole = RECORD_HEADER + lengths.included as usize;
+        let heading = self.judge(window.octets())?;
+        let whole = RECORD_HEADER + heading.included as usize;
         let Ok(count) = window.hold(shelf, name, at, whole) else {
             return Err(PcapFault::Read);
         };
         if count < whole {
             return Ok(Part::Cut);
         }
-        Ok(Part::Whole(lengths))
+        Ok(Part::Whole(heading))
     }
 
     /// Sees what stands next in the file, through a window whose octets stand there.
@@ -188,7 +197,7 @@ impl Position {
             → Stops (Broken fault) ≡ found_in self.form self.start self.reach (octets_of window.old)) }
     {
         match self.part(shelf, name, window) {
-            Ok(Part::Whole(lengths)) => match self.record(window.octets(), lengths) {
+            Ok(Part::Whole(heading)) => match self.record(heading) {
                 Some(record) => Ok(Seen::Whole(record)),
                 None => Err(PcapFault::Late(self.reach.at)),
             },

@@ -1,11 +1,11 @@
-use Rattle.std.proofs.Common.{◌≡◌, List, Err, ap, subst}
+use Rattle.std.proofs.Common.{◌≡◌, ◌+◌, List, None, Err, ap, sym, subst, ◌∙◌}
 use Rattle.rm_edge.proofs.Keeping.{keeps_more, keeps_then}
 use Rattle.rm_pcap.specs.declared.fault.PcapFault.{PcapFault}
 use Rattle.rm_pcap.specs.declared.fault.PcapFault.TheVariants.{Read}
 use Rattle.rm_pcap.specs.declared.capture.Capture.{Capture}
 use Rattle.rm_captures.specs.Left.{AreLeft}
 use Rattle.rm_captures.specs.Reading.{texts}
-use Rattle.rm_captures.proofs.NameLemmas.{no_texts, one_of_first, one_of_rest, rose_first, rose_rest, held_split}
+use Rattle.rm_captures.proofs.NameLemmas.{no_texts, last_name, one_of_first, one_of_rest, rose_first, rose_rest, held_split}
 use Rattle.rm_captures.proofs.NextLemmas.{next_none, no_capture, next_more, next_fails, next_fails_behind, of_records}
 use Rattle.rm_captures.proofs.ComingLemmas.{looks_none, looks_nowhere, looks_more}
 use Rattle.rm_captures.proofs.RoundLemmas.{held_still}
@@ -36,6 +36,26 @@ returns-in-Err-clause-next g t c = λ files frames stop are left.
     next_fails _ c.in-Some.name.now.now (texts c.in-Some.names.now) c.args.interface c.in-Some-split_first_mut.capture.now c.peek.new.self c.in-Some-split_first_mut.captures.now files frames stop c.in-Err.fault
     (held_split _ _ files _ _ all are) c.in-Err.ensures.faults c.in-Err.ensures.same
     (subst (λ (cs : List Capture). AreLeft c.args.interface cs files frames stop) c.in-Some-split_first_mut.ensures.cases.0 left)
+
+-- no name is left behind this one
+pub returns-then-is_empty-clause-next : goal.returns-then-is_empty-clause-next
+returns-then-is_empty-clause-next g t c = λ files frames stop are left.
+    let all = ap texts c.in-Some.ensures.cases.0 in
+    let none = last_name c.in-Some.names.now (sym c.is_empty.ensures ∙ c.if-is_empty.true) in
+    let behind = c.in-Some-split_first_mut.captures.now in
+    let n = next_more _ c.in-Some.name.now.now (texts c.in-Some.names.now) c.args.interface c.in-Some-split_first_mut.capture.now c.peek.new.self behind behind files frames stop c.in-Ok.moment None
+    (held_split _ _ files _ _ all are) c.in-Ok.ensures.looks
+    (λ more fs st held rest. (next_none _ (texts c.in-Some.names.now) (c.args.interface + 1) behind more fs st none held rest, rest))
+    (subst (λ (cs : List Capture). AreLeft c.args.interface cs files frames stop) c.in-Some-split_first_mut.ensures.cases.0 left) in
+    (rw c.sooner.ensures n.0, n.1)
+
+pub returns-then-is_empty-clause-looks : goal.returns-then-is_empty-clause-looks
+returns-then-is_empty-clause-looks g t c =
+    let none = last_name c.in-Some.names.now (sym c.is_empty.ensures ∙ c.if-is_empty.true) in
+    let behind = c.in-Some-split_first_mut.captures.now in
+    looks_more _ (g.F.Shelf.held c.peek.new.shelf) c.args.interface (texts c.args.names.now) c.args.captures.now c.in-Some.name.now.now (texts c.in-Some.names.now) c.in-Some-split_first_mut.capture.now c.peek.new.self
+    behind behind c.in-Ok.moment None _ (ap texts c.in-Some.ensures.cases.0) c.in-Some-split_first_mut.ensures.cases.0 c.peek.ensures.shelf.constant
+    c.in-Ok.ensures.looks (looks_none _ (c.args.interface + 1) (texts c.in-Some.names.now) behind none) c.sooner.ensures
 
 pub returns-in-Ok-next_of-clause-next : goal.returns-in-Ok-next_of-clause-next
 returns-in-Ok-next_of-clause-next g t c = λ files frames stop are left.
