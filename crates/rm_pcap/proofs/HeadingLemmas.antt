@@ -1,6 +1,5 @@
 -- A record by what its header says.
-use Rattle.std.proofs.Common.{◌≡◌, ℕ, ◌+◌, ◌≤◌, Bool, true, false, if◌then◌else◌, List, Option, Some, None, refl, sym, ap, ◌∙◌, arith}
-use Rattle.std.specs.Prelude.{max}
+use Rattle.std.proofs.Common.{◌≡◌, ℕ, ◌+◌, Bool, true, false, if◌then◌else◌, List, Some, None, refl, sym, ap, ◌∙◌, arith}
 use Rattle.rm_pcap.specs.declared.form.Form.{Form}
 use Rattle.rm_pcap.specs.declared.start.Start.{Start}
 use Rattle.rm_pcap.specs.declared.reach.Reach.{Reach}
@@ -12,9 +11,11 @@ use Rattle.rm_pcap.specs.Seen.{heading_of, record_of, AreSound, Follows}
 
 -- the record behind a reach whose header says this, at a moment
 abbrev pub record_by : Reach → Heading → ℕ → Record
-record_by reach heading last =
-    let after : Reach = record { base = Some heading.base; last = last; count = reach.count + 1; at = reach.at + (16 + heading.included) } in
-    record { included = heading.included; original = heading.original; after = after }
+record_by reach heading last = record {
+  included = heading.included;
+  original = heading.original;
+  after = record { base = Some heading.base; last = last; count = reach.count + 1; at = reach.at + (16 + heading.included) };
+}
 
 -- the moment is the one that the header says
 same_moment : (late : Bool) (moment last : ℕ) → (if late then None else Some moment) ≡ Some last → (late ≡ false) × (moment ≡ last)
