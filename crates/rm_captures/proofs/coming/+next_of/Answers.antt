@@ -64,7 +64,7 @@ returns-in-Ok-next_of-clause-next g t c = λ files frames stop are left.
     (held_split _ _ files _ _ all are) c.in-Ok.ensures.looks
     (λ more fs st held behind. c.in-Ok-next_of.ensures.next more fs st (held_still _ _ _ more c.peek.ensures.shelf.constant held) behind)
     (subst (λ (cs : List Capture). AreLeft c.args.interface cs files frames stop) c.in-Some-split_first_mut.ensures.cases.0 left) in
-    (rw c.sooner.ensures n.0, n.1)
+    (rw c.sooner-in-Ok-next_of.ensures n.0, n.1)
 
 pub returns-in-Err-next_of-clause-shelf : goal.returns-in-Err-next_of-clause-shelf
 returns-in-Err-next_of-clause-shelf g t c =
@@ -95,7 +95,7 @@ pub returns-in-Ok-next_of-clause-looks : goal.returns-in-Ok-next_of-clause-looks
 returns-in-Ok-next_of-clause-looks g t c =
     looks_more _ (g.F.Shelf.held c.peek.new.shelf) c.args.interface (texts c.args.names.now) c.args.captures.now c.in-Some.name.now.now (texts c.in-Some.names.now) c.in-Some-split_first_mut.capture.now c.peek.new.self
     c.in-Some-split_first_mut.captures.now c.next_of.new.captures c.in-Ok.moment c.in-Ok-next_of.others _ (ap texts c.in-Some.ensures.cases.0) c.in-Some-split_first_mut.ensures.cases.0 c.peek.ensures.shelf.constant
-    c.in-Ok.ensures.looks c.in-Ok-next_of.ensures.looks c.sooner.ensures
+    c.in-Ok.ensures.looks c.in-Ok-next_of.ensures.looks c.sooner-in-Ok-next_of.ensures
 
 pub returns-in-Err-clause-kinds : goal.returns-in-Err-clause-kinds
 returns-in-Err-clause-kinds g t c = of_records _ _ c.in-Err.fault c.in-Err.ensures.faults
