@@ -4,7 +4,8 @@ use Rattle.std.specs.Borrow.{Bor}
 use Rattle.std.proofs.Common.{◌≡◌, ◌≤◌, ℕ, List, [], ◌∷◌, take, length, refl, ap, ◌∙◌, arith}
 use Rattle.std.proofs.lemmas.List.{length-take}
 use Rattle.rm_captures.specs.Reading.{texts}
-use Rattle.rm_probe.specs.Capture.{IsLadder, capture_count, names_of}
+use Rattle.rm_settings.specs.Interfaces.{IsLadder}
+use Rattle.rm_probe.specs.Capture.{capture_count, names_of}
 
 -- The first of four names, as many as there are, are those of the captures.
 pub names_are : (capture : Bor (List ℕ)) (if2 if3 if4 : Option (Bor (List ℕ))) (second third fourth a b c : Bor (List ℕ)) (count : ℕ) → IsLadder if2 if3 if4 → second ≡ unwrap_or if2 a → third ≡ unwrap_or if3 b

@@ -1,5 +1,5 @@
 -- The captures of a run, in order of interface: which files they are, and why they are none.
-use Rattle.std.specs.Prelude.{◌≡◌, ◌⊎◌, ℕ, List, [], ◌∷◌, ◌++◌, map, Option, Some, None, IsSome, ⊤}
+use Rattle.std.specs.Prelude.{◌≡◌, ◌⊎◌, ℕ, List, [], ◌∷◌, ◌++◌, map, Option, Some, None, ⊤}
 use Rattle.std.specs.Borrow.{Bor}
 use Rattle.rm_edge.specs.Outside.{Held, Untold, Absent, File}
 use Rattle.rm_edge.specs.Uses.{FileUse, HasReadFault}
@@ -61,7 +61,3 @@ capture_count None if3 if4 = 1
 capture_count (Some second) None if4 = 2
 capture_count (Some second) (Some third) None = 3
 capture_count (Some second) (Some third) (Some fourth) = 4
-
--- no interface has a capture where one with a lower number has none
-abbrev pub IsLadder : Option (Bor (List ℕ)) → Option (Bor (List ℕ)) → Option (Bor (List ℕ)) → Type 0
-IsLadder if2 if3 if4 = (IsSome if3 → IsSome if2) × (IsSome if4 → IsSome if3)

@@ -3,7 +3,8 @@ ghost use Rattle.std.specs.Prelude.{◌≡◌, ◌⊎◌, ◌≤◌, length, map
 ghost use Rattle.rm_edge.specs.Shelves.{KeepsShelf};
 ghost use Rattle.rm_edge.specs.Uses.{file_use, sink_use};
 ghost use Rattle.rm_captures.specs.Reading.{IsOneOf, texts};
-ghost use Rattle.rm_probe.specs.Capture.{IsLadder, names_of};
+ghost use Rattle.rm_settings.specs.Interfaces.{IsLadder};
+ghost use Rattle.rm_probe.specs.Capture.{names_of};
 ghost use Rattle.rm_probe.specs.Ends.{Ends, IsComplete, IsExact, IsSilent};
 ghost use Rattle.rm_probe.specs.declared.status.Status.TheVariants.{ReadFault};
 

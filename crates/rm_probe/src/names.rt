@@ -1,7 +1,8 @@
 // The names of the captures of a run.
 ghost use Rattle.std.specs.Prelude.{◌≡◌, ◌≤◌, take};
 ghost use Rattle.rm_captures.specs.Reading.{texts};
-ghost use Rattle.rm_probe.specs.Capture.{IsLadder, capture_count, names_of};
+ghost use Rattle.rm_settings.specs.Interfaces.{IsLadder};
+ghost use Rattle.rm_probe.specs.Capture.{capture_count, names_of};
 
 /// The names of the captures of a run, in order of interface.
 #[derive(Clone, Copy)]

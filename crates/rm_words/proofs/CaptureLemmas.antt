@@ -2,7 +2,8 @@
 use Rattle.std.proofs.Common.{◌≡◌, ◌≢◌, ℕ, List, [], ◌∷◌, ◌++◌, Option, Some, None, is_some, IsSome, false, refl, sym, ap, subst, ◌∙◌}
 use Rattle.std.specs.Borrow.{Bor}
 use Rattle.rm_words.specs.Grammar.{Piece, Options, AreOptions, AreCaptures, AreOfReplay, AreOfServe, Command, replay, serve, summary, decode, load, operands, setting, named, values_of}
-use Rattle.rm_words.specs.Scan.{so_far, IsLadder}
+use Rattle.rm_settings.specs.Interfaces.{IsLadder}
+use Rattle.rm_words.specs.Scan.{so_far}
 use Rattle.rm_words.specs.Told.{AreOf}
 use Rattle.rm_words.specs.declared.names.CommandName.TheVariants.{Replay, Serve}
 use Rattle.rm_words.specs.declared.names.OptionName.TheVariants.{If2, If3, If4}

@@ -1,5 +1,5 @@
 -- What an option is given.
-use Rattle.std.specs.Prelude.{◌≡◌, ◌≤◌, ℕ, List, [], ◌∷◌, length, Option, Some, None, IsSome}
+use Rattle.std.specs.Prelude.{◌≡◌, ◌≤◌, ℕ, List, [], ◌∷◌, length, Option, Some, None}
 use Rattle.std.specs.Borrow.{Bor}
 use Rattle.rm_words.specs.declared.scan.Given.{Given}
 use Rattle.rm_words.specs.declared.scan.Given.TheVariants.{Nothing, Once, Again}
@@ -14,7 +14,3 @@ IsGiven values Again = 2 ≤ length values
 abbrev pub so_far : Option (Bor (List ℕ)) → List (List ℕ)
 so_far None = []
 so_far (Some value) = value.now ∷ []
-
--- no interface has a capture where the interface below it has none
-abbrev pub IsLadder : Option (Bor (List ℕ)) → Option (Bor (List ℕ)) → Option (Bor (List ℕ)) → Type 0
-IsLadder second third fourth = (IsSome third → IsSome second) × (IsSome fourth → IsSome third)

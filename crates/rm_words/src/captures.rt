@@ -2,7 +2,8 @@
 ghost use Rattle.std.specs.Prelude.{◌≡◌, ◌≢◌, ◌≤◌, ℕ, List, [], Some, IsSome, MatchOption, length, drop};
 ghost use Rattle.rm_words.specs.Grammar.{AreCaptures, named, setting, values_of};
 ghost use Rattle.rm_words.specs.Parts.{pieces_from};
-ghost use Rattle.rm_words.specs.Scan.{IsLadder, so_far};
+ghost use Rattle.rm_settings.specs.Interfaces.{IsLadder};
+ghost use Rattle.rm_words.specs.Scan.{so_far};
 ghost use Rattle.rm_words.specs.declared.parts.Expected.TheVariants.{Any};
 
 use crate::names::OptionName;
