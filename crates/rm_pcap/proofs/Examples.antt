@@ -1,14 +1,13 @@
 -- Captures worked out by hand.
-use Rattle.std.proofs.Common.{◌≡◌, ℕ, List, [], ◌∷◌, ◌++◌, Option, Some, None, Ok, Err, refl}
+use Rattle.std.proofs.Common.{◌≡◌, ℕ, List, [], ◌∷◌, ◌++◌, Some, Ok, refl}
 use Rattle.rm_model.specs.Journal.{Frame}
 use Rattle.rm_pcap.specs.declared.form.Order.TheVariants.{LowestFirst}
 use Rattle.rm_pcap.specs.declared.form.TimeUnit.TheVariants.{Microseconds}
 use Rattle.rm_pcap.specs.declared.form.Form.{Form}
 use Rattle.rm_pcap.specs.declared.start.Start.{Start}
-use Rattle.rm_pcap.specs.declared.fault.PcapFault.{PcapFault}
 use Rattle.rm_pcap.specs.declared.fault.PcapFault.TheVariants.{Magic, Included, Original, Late}
 use Rattle.rm_pcap.specs.Header.{number_at, form_of, has_version, has_link_type, header_of}
-use Rattle.rm_pcap.specs.Records.{Stop, Ended, CutAt, Broken, time_of, included_of, original_of, alone, ReadsAs}
+use Rattle.rm_pcap.specs.Records.{Ended, CutAt, Broken, time_of, included_of, original_of, alone, ReadsAs}
 use Rattle.rm_pcap.specs.Steps.{fault_at, is_late, found_at, beginning, AreRecords}
 use Rattle.rm_pcap.proofs.ReadingLemmas.{readings_are_records}
 

@@ -16,7 +16,7 @@ use Rattle.rm_pcap.specs.declared.fault.PcapFault.TheVariants.{Magic, Version, L
 use Rattle.rm_pcap.specs.declared.reach.Reach.{Reach}
 use Rattle.rm_pcap.specs.Header.{number_at, form_of, has_version, has_link_type, header_with, header_of}
 use Rattle.rm_pcap.specs.Records.{Stop, Ended, CutAt, Broken, time_of, included_of, original_of, end_of, from_record, base_of, own_moment, latest, IsOfRecord, left_behind, MayFollow, IsCutShort, in_header, in_octets, HasFault, too_many, included, original, late, StopsBehind, AreOfRecords, ReadsAs}
-use Rattle.rm_pcap.specs.Steps.{Whole, Stops, beginning, moment_at, frame_at, reach_after, fault_at, is_late, IsThere, found_at, AreRecords}
+use Rattle.rm_pcap.specs.Steps.{Whole, Stops, beginning, moment_at, frame_at, reach_after, is_late, IsThere, found_at, AreRecords}
 use Rattle.rm_pcap.specs.Seen.{IsCutPart, within, behind}
 use Rattle.rm_pcap.proofs.RecordLaws.{IsTaken, taken, one_list, some_records}
 use Rattle.rm_pcap.proofs.FaultLemmas.{AreFine, Tells, tells, not_late, is_soon, is_after, after_is, too_many_told, included_told, original_told, late_told, none_told}

@@ -1,6 +1,5 @@
 -- A file has its records in one way.
-use Rattle.std.proofs.Common.{◌≡◌, ℕ, zero, suc, ◌+◌, ◌-◌, ◌≤◌, ◌<◌, nat_lt, Bool, true, false, if◌then◌else◌, List, [], ◌∷◌, length, drop, Option, Some, None, Result, Ok, Err, refl, sym, ap, ap, subst, ◌∙◌, arith}
-use Rattle.std.specs.Prelude.{MatchResult}
+use Rattle.std.proofs.Common.{◌≡◌, ℕ, zero, suc, ◌+◌, ◌-◌, ◌≤◌, ◌<◌, nat_lt, Bool, true, false, if◌then◌else◌, List, [], ◌∷◌, length, drop, Option, Some, None, refl, sym, ap, ap, subst, ◌∙◌, arith}
 use Rattle.std.proofs.lemmas.List.{length-drop}
 use Rattle.std.proofs.lemmas.Bool.Decides.{nat_tests}
 use Rattle.rm_model.specs.Journal.{Frame}
@@ -9,8 +8,7 @@ use Rattle.rm_pcap.specs.declared.start.Start.{Start}
 use Rattle.rm_pcap.specs.declared.fault.PcapFault.{PcapFault}
 use Rattle.rm_pcap.specs.declared.fault.PcapFault.TheVariants.{Late}
 use Rattle.rm_pcap.specs.declared.reach.Reach.{Reach}
-use Rattle.rm_pcap.specs.Header.{header_of}
-use Rattle.rm_pcap.specs.Records.{Stop, CutAt, Broken, included_of, ReadsAs}
+use Rattle.rm_pcap.specs.Records.{Stop, CutAt, Broken, included_of}
 use Rattle.rm_pcap.specs.Steps.{Found, Whole, Stops, found_at, found_in, found_with, fault_at, is_late, frame_at, reach_after, beginning, AreRecords}
 
 pub one_list : (form : Form) (start : Start) (reach : Reach) (bytes : List ℕ) (frames others : List Frame) (stop last : Stop)

@@ -1,5 +1,5 @@
 -- How the records of a capture stop, by the octets that are left.
-use Rattle.std.proofs.Common.{◌≡◌, ℕ, ◌+◌, ◌<◌, ◌≤◌, nat_lt, Bool, true, false, if◌then◌else◌, List, [], ◌∷◌, length, drop, Option, Some, None, refl, sym, ap, subst, ◌∙◌, arith}
+use Rattle.std.proofs.Common.{◌≡◌, ℕ, ◌+◌, ◌≤◌, nat_lt, Bool, true, false, if◌then◌else◌, List, [], ◌∷◌, length, drop, Option, Some, None, refl, sym, ap, subst, ◌∙◌, arith}
 use Rattle.std.proofs.lemmas.Bool.Decides.{nat_tests}
 use Rattle.rm_pcap.specs.declared.form.Form.{Form}
 use Rattle.rm_pcap.specs.declared.start.Start.{Start}
@@ -7,7 +7,7 @@ use Rattle.rm_pcap.specs.declared.fault.PcapFault.{PcapFault}
 use Rattle.rm_pcap.specs.declared.fault.PcapFault.TheVariants.{Late}
 use Rattle.rm_pcap.specs.declared.reach.Reach.{Reach}
 use Rattle.rm_pcap.specs.Records.{Stop, Ended, CutAt, Broken, included_of}
-use Rattle.rm_pcap.specs.Steps.{Found, Whole, Stops, found_at, found_in, found_with, fault_at, is_late, frame_at, reach_after}
+use Rattle.rm_pcap.specs.Steps.{Whole, Stops, found_at, found_in, found_with, fault_at, is_late, frame_at, reach_after}
 use Rattle.rm_pcap.specs.Seen.{IsCutPart, within, behind}
 use Rattle.rm_pcap.proofs.FoundLemmas.{header_left}
 
