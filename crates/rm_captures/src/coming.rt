@@ -23,6 +23,9 @@ pub struct Coming {
 /// lowest interface. None where no frame is left.
 ///
 /// The faults are those of the captures, in order of their interfaces. It takes no memory.
+// It is inlined, since each frame that is read passes through here.
+#[inline(always)]
+#[cycle(coming)]
 pub fn next_of<F: Shelf>(
     captures: &mut [Capture],
     shelf: &mut F,
@@ -50,7 +53,7 @@ pub fn next_of<F: Shelf>(
     if names.is_empty() {
         return Ok(sooner(interface, own, None));
     }
-    match next_of(captures, shelf, names, interface + 1) {
+    match next_behind(captures, shelf, names, interface + 1) {
         Ok(others) => Ok(sooner(interface, own, others)),
         Err(found) => Err(found),
     }
@@ -65,4 +68,23 @@ fn sooner(interface: u32, own: Option<u32>, other: Option<Coming>) -> Option<Com
         (Some(moment), Some(coming)) if coming.moment < moment => Some(coming),
         (Some(moment), _) => Some(Coming { interface, moment }),
     }
+}
+
+// The same, as a call of its own.
+#[cycle(coming)]
+fn next_behind<F: Shelf>(
+    captures: &mut [Capture],
+    shelf: &mut F,
+    names: &[&str],
+    interface: u32,
+) -> Result<Option<Coming>, CaptureFault>
+    requires low { interface + length names.now < 2 ^ 32 }
+    ensures shelf { KeepsShelf F.held F.faults shelf.old shelf.new (IsOneOf (texts names.now)) ((at : ℕ) × (result ≡ Err (record { interface = at; fault = PcapFault.Read }))) }
+    ensures cause { IfErr result (λ found. found.fault ≡ PcapFault.Read → OneRose (F.faults shelf.old) (F.faults shelf.new) (texts names.now)) }
+    ensures kinds { IfErr result (λ found. IsOfRecords found.fault) }
+    ensures looks { IfOk result (LooksAll (F.held shelf.old) interface (texts names.now) captures.old captures.new) }
+    ensures next { (files : List (List ℕ)) (frames : List Frame) (stop : Stop) → AreHeld (F.held shelf.old) (texts names.now) files
+        → AreLeft interface captures.old files frames stop → FindsNext frames result × AreLeft interface captures.new files frames stop }
+{
+    next_of(captures, shelf, names, interface)
 }

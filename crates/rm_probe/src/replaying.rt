@@ -46,7 +46,9 @@ pub(crate) struct Replaying {
 }
 
 impl Replaying {
-    // Which frame comes next. It is looked at, and stays the next one. None where no frame is left.
+    // Which frame comes next. It is looked at, and stays the next one. None where no frame is left. It is inlined, since each frame that is read
+    // passes through here.
+    #[inline(always)]
     fn next<F: Shelf>(&mut self, shelf: &mut F, names: &[&str]) -> Result<Option<Coming>, Status>
         requires few { length names.now ≤ 4 }
         ensures shelf { KeepsShelf F.held F.faults shelf.old shelf.new (IsOneOf (texts names.now)) (result ≡ Err ReadFault) }
